@@ -2,7 +2,7 @@
 ghost use Rattle.std.specs.Prelude.{◌≡◌, ◌<◌, ◌≤◌};
 ghost use Rattle.lq_table.specs.Rule.{times};
 ghost use Rattle.lq_table.specs.Sees.{view};
-ghost use Rattle.lq_table.specs.Told.{keeping};
+ghost use Rattle.lq_table.specs.Seats.{split_view};
 ghost use Rattle.lq_bench.specs.Senders.{IsBenchSeatAtRest, IsFirstSender, IsBenchSender};
 
 use crate::senders::{Losses, Work, send_own};
@@ -32,7 +32,7 @@ fn split_sender<'a, D: TxDevice>(
     requires owner { (2 ≤ (view first.old).share.shares) × (0 < times owner (view first.old).share.owners)
         × (0 < owner) × (owner < 4) }
     ensures first { IsBenchSeatAtRest shared.now first.new }
-    ensures left { view first.new ≡ keeping owner (view first.old) }
+    ensures left { view first.new ≡ split_view owner (view first.old) }
     ensures sender { IsBenchSender shared.now result.owner result.cpu }
 {
     let cpu = shared.split(first, owner);

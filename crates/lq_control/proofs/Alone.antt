@@ -14,8 +14,10 @@ use Rattle.lq_model.specs.declared.fate.Info.{Info}
 use Rattle.lq_model.specs.declared.plan.EventKind.TheVariants as kind
 use Rattle.lq_run.specs.Runs.{ended}
 use Rattle.lq_table.specs.Views.{View, Setup, SharePart, first_account, no_packets}
-use Rattle.lq_table.specs.Solo.{Solo, IsSole, account_of, device_to, heard, locked_to, sched_cleared, solo}
-use Rattle.lq_table.specs.Told.{entering, is_set}
+use Rattle.lq_table.specs.Solo.{Solo, IsSole, account_of, device_to, heard, locked_to, solo}
+use Rattle.lq_table.specs.States.{clear_sched_alone}
+use Rattle.lq_table.specs.Inside.{enter_view}
+use Rattle.lq_table.specs.Moves.{is_set}
 use Rattle.lq_qdisc.proofs.ViewRelations.{Interrupts}
 use Rattle.lq_qdisc.specs.Alone.{HasAll, IsAlone, account_in, running, telling_of}
 use Rattle.lq_qdisc.proofs.AloneCalls.{entering_solo}
@@ -78,12 +80,12 @@ down_alone infos start event plan v h = (
 )
 
 -- a soft interrupt of a deactivated station changes nothing but the raised mark and SCHED
-pub off_served : (infos : List Info) (old before new : View) → IsSole old → IsSome (account_of old).down → old.packets ≡ no_packets → Interrupts infos (entering old) before → solo new ≡ solo before → unmarked (solo new) ≡ unmarked (solo old)
+pub off_served : (infos : List Info) (old before new : View) → IsSole old → IsSome (account_of old).down → old.packets ≡ no_packets → Interrupts infos (enter_view old) before → solo new ≡ solo before → unmarked (solo new) ≡ unmarked (solo old)
 off_served infos old before new sole down packets i same =
     let seen : is_set 2 i.begins.first ≡ true = (i.begins.sees sole).down ∙ down in
     let d = i.begins.deactivated seen in
     let left : before ≡ i.cleared = i.leaves (d.1 ∙ ap not (d.4 sole ∙ down)) in
-    ap unmarked (same ∙ (ap solo left ∙ (d.3 ∙ ap sched_cleared (entering_solo old packets))))
+    ap unmarked (same ∙ (ap solo left ∙ (d.3 ∙ ap clear_sched_alone (entering_solo old packets))))
 
 -- so it stays deactivated
 pub down_kept : (k : Setup) (v w : View) → v.share.about ≡ k → w.share.about ≡ k → unmarked (solo w) ≡ unmarked (solo v) → IsSome (account_of v).down → IsSome (account_of w).down

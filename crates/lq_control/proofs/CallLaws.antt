@@ -15,11 +15,14 @@ use Rattle.lq_band_laws.specs.Three.{Three, at}
 use Rattle.lq_run.specs.Tries.{EndsRun, TriedAs, scheduled_where}
 use Rattle.lq_ring.specs.Fates.{fates_onto}
 use Rattle.lq_ring.specs.Resized.{all_lost}
-use Rattle.lq_table.specs.Controls.{opening_next, resetting_missed}
-use Rattle.lq_table.specs.Purges.{first_purge}
+use Rattle.lq_table.specs.Controls.{open_xoff_view}
+use Rattle.lq_table.specs.Purges.{reset_missed_view, first_purge}
 use Rattle.lq_table.specs.Rule.{HasServed, account, latest_unit, units_of}
 use Rattle.lq_table.specs.Solo.{IsAccounts, IsSole, account_of}
-use Rattle.lq_table.specs.Told.{and_settled, got_in_call, got_in_control, is_set, looking, paying, unlocking, unlocking_call, unlocking_control}
+use Rattle.lq_table.specs.Moves.{and_settled, is_set}
+use Rattle.lq_table.specs.Locks.{try_lock_view_in_call, try_lock_view_in_control, unlock_view, unlock_view_in_call, unlock_view_in_control}
+use Rattle.lq_table.specs.States.{load_state_view}
+use Rattle.lq_table.specs.Fates.{settle_view_owed}
 use Rattle.lq_table.specs.Views.{FirstPart, HolderPart, Left, PacketPart, Setup, SharePart, View, no_packets}
 use Rattle.lq_table.specs.Made.{Known}
 use Rattle.lq_qdisc.specs.Calls.{KeepsFates}
@@ -77,7 +80,7 @@ waits_calm : (old new : Known) → WaitsForCalls old new → IsCalmly old.view n
 waits_calm old new w = calm_by old.view _ new.view (calm_then old.view w.0.view _ (calls_calm old w.0 w.1) (record { share = refl; packets = refl; turns = refl; first = refl; origin = refl; gone = refl; told = refl; state = refl; settled = refl; trail = refl })) (ap (λ (x : Known). x.view) w.2)
 
 got_calm : (v w : View) → TriedAs true v w → IsCalmly v w
-got_calm v w t = calm_by v _ w (calm_if (is_control v.place.position) v (got_in_control t.0 v) (got_in_call t.0 v)
+got_calm v w t = calm_by v _ w (calm_if (is_control v.place.position) v (try_lock_view_in_control t.0 v) (try_lock_view_in_call t.0 v)
     (record { share = refl; packets = refl; turns = refl; first = refl; origin = refl; gone = refl; told = refl; state = refl; settled = refl; trail = refl })
     (record { share = refl; packets = refl; turns = refl; first = refl; origin = refl; gone = refl; told = refl; state = refl; settled = refl; trail = refl })) t.1
 
@@ -91,8 +94,8 @@ tries_calm old new (tried last next h once) = calm_then old.view last.view next.
 pub takes_calm : (old new : Known) → TakesLock old new → IsCalmly old.view new.view
 takes_calm old new t = calm_then old.view t.last.view new.view (tries_calm old t.last t.tries) (got_calm t.last.view new.view t.gets.0)
 
-released_calm : (v w : View) → w ≡ (if is_control v.place.position then unlocking_control v else unlocking_call v) → IsCalmly v w
-released_calm v w e = calm_by v _ w (calm_if (is_control v.place.position) v (unlocking_control v) (unlocking_call v)
+released_calm : (v w : View) → w ≡ (if is_control v.place.position then unlock_view_in_control v else unlock_view_in_call v) → IsCalmly v w
+released_calm v w e = calm_by v _ w (calm_if (is_control v.place.position) v (unlock_view_in_control v) (unlock_view_in_call v)
     (record { share = refl; packets = refl; turns = refl; first = refl; origin = refl; gone = refl; told = refl; state = refl; settled = refl; trail = refl })
     (record { share = refl; packets = refl; turns = refl; first = refl; origin = refl; gone = refl; told = refl; state = refl; settled = refl; trail = refl })) e
 
@@ -114,7 +117,7 @@ waits_served k old new w = served_then old.view w.0.view new.view (rounds_served
 paid : (k : Setup) (by : Cause) (s : Option ℕ) (old new : Known) → old.view.packets.owed ≡ option_map (λ n. (n, fate.Purged by)) s → PurgesSlot k (fate.Purged by) s old new
     → new.view ≡ record old.view { packets = record old.view.packets { owed = None }; settled = fates_onto (fate.Purged by) (option_to_list s) old.view.settled }
 paid k by None old new owed e = ap (λ (x : Known). x.view) e ∙ (λ j. record old.view { packets = record old.view.packets { owed = owed j } })
-paid k by (Some n) old new owed e = ap (λ (x : Known). x.view) e ∙ (λ j. record (paying old.view) { settled = and_settled (owed j) old.view.settled })
+paid k by (Some n) old new owed e = ap (λ (x : Known). x.view) e ∙ (λ j. record (settle_view_owed old.view) { settled = and_settled (owed j) old.view.settled })
 
 purges_done : (k : Setup) (by : Cause) (bands : Three Band) (s : Option ℕ) (count : ℕ) (old new : Known) → old.view.packets.owed ≡ option_map (λ n. (n, fate.Purged by)) s → old.view.control.purge ≡ Some first_purge
     → old.view.holder.left ≡ Some (record { cause = by; bands = bands }) → PurgesHeld k by s count old new → IsPurgeDone by (all_purged s bands) old.view new.view × (count ≡ length (all_purged s bands))
@@ -124,7 +127,7 @@ purges_done k by bands s count old new owed purge left h =
     let mid = h.second.purged purge1 (left1 l) (ap (λ (x : View). x.control.purge) low.0.is) (ap (λ (x : View). x.holder.left) low.0.is) in
     let high = h.third.purged purge2 (left2 l) (ap (λ (x : View). x.control.purge) mid.0.is) (ap (λ (x : View). x.holder.left) mid.0.is) in
     let n = count_all s l in let n0 = h.counted in let n1 = low.1 in let n2 = mid.1 in let n3 = high.1 in (
-      emptied by s l old.view h.emptied.view h.one.view h.two.view h.three.view (resetting_missed h.three.view) new.view refl e low.0 mid.0 high.0 refl (ap (λ (x : Known). x.view) h.cleared),
+      emptied by s l old.view h.emptied.view h.one.view h.two.view h.three.view (reset_missed_view h.three.view) new.view refl e low.0 mid.0 high.0 refl (ap (λ (x : Known). x.view) h.cleared),
       omega arith,
     )
 
@@ -237,7 +240,7 @@ sched_calm false was v = calm_same v
 
 ends_calm : (old new : Known) → EndsRun old new → IsCalmly old.view new.view
 ends_calm old new (state, was, view, steps) =
-    let u : View = unlocking old.view in let l : View = looking state u in
+    let u : View = unlock_view old.view in let l : View = load_state_view state u in
     let look : IsCalmly u l = record { share = refl; packets = refl; turns = refl; first = refl; origin = refl; gone = refl; told = refl; state = refl; settled = refl; trail = refl } in
     calm_by old.view _ new.view (calm_then old.view u _ (released_calm old.view u refl) (calm_then u l _ look (sched_calm (is_set 4 state) was l))) view
 
@@ -288,7 +291,7 @@ changes_leaves k event len count old new bare (clear, changed, whole, (taken_at,
 
 -- the device is swapped
 
-opened_part : {X : Type 0} (part : View → X) → ((n : ℕ) (v : View) → part (opening_next n v) ≡ part v) → (k : Setup) (more : ℕ) (old : Known) → part (with_queues_opened k more old).view ≡ part old.view
+opened_part : {X : Type 0} (part : View → X) → ((n : ℕ) (v : View) → part (open_xoff_view n v) ≡ part v) → (k : Setup) (more : ℕ) (old : Known) → part (with_queues_opened k more old).view ≡ part old.view
 opened_part part kept k zero old = refl
 opened_part part kept k (suc more) old = kept (suc more) (with_queues_opened k more old).view ∙ opened_part part kept k more old
 

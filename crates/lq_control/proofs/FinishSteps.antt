@@ -15,11 +15,13 @@ use Rattle.lq_model.specs.declared.fate.Info.{Info}
 use Rattle.lq_model.specs.declared.machine.Phase.TheVariants.{Active, Purged}
 use Rattle.lq_model.specs.Control.{after_purge}
 use Rattle.lq_table.specs.Views.{View, Setup, HolderPart, FirstPart, SharePart, State, first_account}
-use Rattle.lq_table.specs.Controls.{returning, beginning_control}
+use Rattle.lq_table.specs.Controls.{end_control_view, begin_control_view}
 use Rattle.lq_table.specs.Rule.{times}
 use Rattle.lq_table.specs.AtRest.{KnowsRest}
-use Rattle.lq_table.specs.Solo.{Solo, SeesState, IsSole, IsAccounts, solo, account_of, heard, locked_to, missed_to, draining_to, sched_set}
-use Rattle.lq_table.specs.Told.{is_set, got_in_control, looking}
+use Rattle.lq_table.specs.Solo.{Solo, IsSole, IsAccounts, solo, account_of, heard, locked_to, missed_to, draining_to}
+use Rattle.lq_table.specs.States.{SeesState, set_sched_alone, load_state_view}
+use Rattle.lq_table.specs.Moves.{is_set}
+use Rattle.lq_table.specs.Locks.{try_lock_view_in_control}
 use Rattle.lq_table.specs.Sees.{view, IsElseSame}
 use Rattle.lq_table.specs.declared.shared.Cpu.{Cpu}
 use Rattle.lq_qdisc.specs.Alone.{account_in}
@@ -119,7 +121,7 @@ module _ (k : Setup) (v : View) (made : AreFor k v) (done : AreAllDone k v.turns
 -- THE PURGE
 
 calm_raised : (s : Solo) → s.whole.missed ≡ false → (ended s).raised ≡ s.raised
-calm_raised s calm = ap (λ (b : Bool). (if b then sched_set s.whole.scheduled (locked_to false s) else locked_to false s).raised) calm
+calm_raised s calm = ap (λ (b : Bool). (if b then set_sched_alone s.whole.scheduled (locked_to false s) else locked_to false s).raised) calm
 
 -- What the purge of a hung station comes to, from the last look before the lock was taken to the end of the run: its event was
 -- heard, and what was taken is what the account held.
@@ -131,7 +133,7 @@ pub record IsRunPurged (c : Cause) (v0 v2 v5 : View) : Type 0 where
   pub raised : v5.place.raised ≡ v0.place.raised
 
 -- from the last look before the lock was taken to the end of the run
-module _ (c : Cause) (lost : List ℕ) (d : HolderPart) (v0 v1 v2 v4 v5 : View) (look : IsLook v0 v1) (got : v2 ≡ got_in_control d v1) (locks : solo v2 ≡ locked_to true (solo v1)) (known : IsAccounts v2) (purged : IsPurged c lost v2 v4)
+module _ (c : Cause) (lost : List ℕ) (d : HolderPart) (v0 v1 v2 v4 v5 : View) (look : IsLook v0 v1) (got : v2 ≡ try_lock_view_in_control d v1) (locks : solo v2 ≡ locked_to true (solo v1)) (known : IsAccounts v2) (purged : IsPurged c lost v2 v4)
     (state : v5.whole.state ≡ v4.whole.state) (share : v5.share ≡ v4.share) (ends : IsSole v4 → solo v5 ≡ ended (solo v4)) (sole : IsSole v0) where
   solo_four : solo v4 ≡ missed_to false (draining_to false (heard (Purge c) (solo v2)))
   solo_four = ap solo purged.is ∙ purged.alone
@@ -179,22 +181,22 @@ pub control_kept : (b c : FirstPart) → b.phase ≡ Active → b.purge ≡ None
 control_kept b c active none e = let q : after_purge b.phase ≡ b.phase = ap after_purge active ∙ sym active in e ∙ (λ j. record b { phase = q j; purge = sym none j })
 
 -- the holder's device is the station's
-pub station_known : (d : HolderPart) (v0 v1 v2 : View) → IsLook v0 v1 → v2 ≡ got_in_control d v1 → IsAccounts v2 → v2.holder.station ≡ v0.whole.state.station
+pub station_known : (d : HolderPart) (v0 v1 v2 : View) → IsLook v0 v1 → v2 ≡ try_lock_view_in_control d v1 → IsAccounts v2 → v2.holder.station ≡ v0.whole.state.station
 station_known d v0 v1 v2 look got known = ap (λ (h : HolderPart). h.station) known ∙ (ap (λ (x : View). x.whole.state.station) got ∙ ap (λ (x : View). x.whole.state.station) look.1)
 
 -- STEPS OF CONTROL
 
 -- a look in a call of control changes nothing of what the seat knows alone
-pub solo_looked : (v w x : View) → w ≡ beginning_control v → IsLook w x → solo x ≡ solo v
+pub solo_looked : (v w x : View) → w ≡ begin_control_view v → IsLook w x → solo x ≡ solo v
 solo_looked v w x e (p, f) = ap solo f ∙ ap solo e
 
 pub control_at : (h : Bool) (v : View) → v.place.position ≡ Control h → (f : View → View) → f (record v { place = record v.place { position = Control h } }) ≡ record v { place = record v.place { position = Control h } } → f v ≡ v
 control_at h v e f same = (λ j. f (record v { place = record v.place { position = e j } })) ∙ (same ∙ (λ j. record v { place = record v.place { position = sym e j } }))
 
-pub control_looked : (n : ℕ) (h : Bool) (v : View) → v.place.position ≡ Control h → looking n v ≡ v
-control_looked n h v e = control_at h v e (looking n) refl
+pub control_looked : (n : ℕ) (h : Bool) (v : View) → v.place.position ≡ Control h → load_state_view n v ≡ v
+control_looked n h v e = control_at h v e (load_state_view n) refl
 
-pub served_begun : (v w : View) → w ≡ beginning_control v → IsServed v w
+pub served_begun : (v w : View) → w ≡ begin_control_view v → IsServed v w
 served_begun v w e = record {
   kept = record { share = ap (λ (x : View). x.share) e; turns = ap (λ (x : View). x.turns) e; first = ap (λ (x : View). x.control.first) e; told = ap (λ (x : View). x.whole.told) e };
   control = ap (λ (x : View). x.control) e;
@@ -202,7 +204,7 @@ served_begun v w e = record {
   fates = ([], ap (λ (x : View). x.settled) e);
 }
 
-pub served_returned : (v w : View) → w ≡ returning v → IsServed v w
+pub served_returned : (v w : View) → w ≡ end_control_view v → IsServed v w
 served_returned v w e = record {
   kept = record { share = ap (λ (x : View). x.share) e; turns = ap (λ (x : View). x.turns) e; first = ap (λ (x : View). x.control.first) e; told = ap (λ (x : View). x.whole.told) e };
   control = ap (λ (x : View). x.control) e;

@@ -4,11 +4,13 @@ use Rattle.std.specs.Prelude.{not, ◌&&◌, ◌==◌}
 use Rattle.lq_model.specs.declared.machine.Position.TheVariants.{Control}
 use Rattle.lq_model.specs.Control.{found_inside}
 use Rattle.lq_table.specs.AtRest.{IsSoleAtRest, KnowsRest}
-use Rattle.lq_table.specs.Controls.{finding}
-use Rattle.lq_table.specs.Made.{◌⊳◌, did_load_lock, did_load_state}
+use Rattle.lq_table.specs.Inside.{load_inside_view}
+use Rattle.lq_table.specs.Made.{◌⊳◌}
+use Rattle.lq_table.specs.Locks.{load_lock_log}
+use Rattle.lq_table.specs.States.{load_state_log, SeesState, load_state_view}
 use Rattle.lq_table.specs.Sees.{view, known, position, IsElseSame}
-use Rattle.lq_table.specs.Solo.{IsSole, SeesState, account_of}
-use Rattle.lq_table.specs.Told.{at_rest, is_set, looking}
+use Rattle.lq_table.specs.Solo.{IsSole, account_of}
+use Rattle.lq_table.specs.Moves.{at_rest, is_set}
 use Rattle.lq_table.specs.Views.{View, Setup}
 use Rattle.lq_table.specs.declared.shared.Cpu.{Cpu}
 use Rattle.lq_control.specs.Finish.{AreKept, AreStopsBelow, Hangs, IsActiveOrPurged, IsLook, IsOver}
@@ -25,9 +27,9 @@ found_same : (n : ℕ) (v : View) → IsActiveOrPurged v → found_inside n v.co
 found_same n v (inl active) = ap (found_inside n) active.0 ∙ sym active.0
 found_same n v (inr purged) = ap (found_inside n) purged.0 ∙ sym purged.0
 
-look_found : (n : ℕ) (v w : View) → IsActiveOrPurged v → w ≡ finding n v → IsLook v w
+look_found : (n : ℕ) (v w : View) → IsActiveOrPurged v → w ≡ load_inside_view n v → IsLook v w
 look_found n v w settled e = let same = found_same n v settled in
-    (found_inside v.whole.qdisc.inside v.whole.qdisc.phase, e ∙ (λ j. record (finding n v) { control = record v.control { phase = same j } }))
+    (found_inside v.whole.qdisc.inside v.whole.qdisc.phase, e ∙ (λ j. record (load_inside_view n v) { control = record v.control { phase = same j } }))
 
 look_then : (v w x : View) → IsLook v w → IsLook w x → IsLook v x
 look_then v w x a b = (b.0, b.1 ∙ ap (λ (y : View). record y { whole = record y.whole { qdisc = record y.whole.qdisc { phase = b.0 } } }) a.1)
@@ -43,10 +45,10 @@ module _ {D : Type 0} where
   pub looked_still : (b a : Cpu D) → IsElseSame b a × (view a ≡ view b) → IsLooked b a
   looked_still b a s = (s.0, look_none (view b) (view a) s.1)
 
-  pub looked_state : (n : ℕ) (h : Bool) (b a : Cpu D) → position b ≡ Control h → IsElseSame b a → view a ≡ looking n (view b) → IsLooked b a
+  pub looked_state : (n : ℕ) (h : Bool) (b a : Cpu D) → position b ≡ Control h → IsElseSame b a → view a ≡ load_state_view n (view b) → IsLooked b a
   looked_state n h b a at same e = looked_still b a (same, e ∙ control_looked n h (view b) at)
 
-  pub looked_inside : (n : ℕ) (b a : Cpu D) → IsActiveOrPurged (view b) → IsElseSame b a → view a ≡ finding n (view b) → IsLooked b a
+  pub looked_inside : (n : ℕ) (b a : Cpu D) → IsActiveOrPurged (view b) → IsElseSame b a → view a ≡ load_inside_view n (view b) → IsLooked b a
   looked_inside n b a settled same e = (same, look_found n (view b) (view a) settled e)
 
 -- what is told of a view stays so after a look
@@ -78,8 +80,8 @@ module _ {D : Type 0} where
     pub kept : AreKept k (view a)
 
   pub looks_at : (k : Setup) (lock state : ℕ) (b l a : Cpu D) → (view b).share.about ≡ k → IsFirstReadyAt (Control false) b → IsSole (view b) × IsActiveOrPurged (view b)
-      → IsElseSame b l → view l ≡ view b → (IsSoleAtRest (view b) → KnowsRest (view b)) → (known l).steps ≡ (known b).steps ⊳ did_load_lock lock
-      → IsElseSame l a → view a ≡ looking state (view l) → (IsSole (view l) → SeesState (view l) state) → (known a).steps ≡ (known l).steps ⊳ did_load_state state
+      → IsElseSame b l → view l ≡ view b → (IsSoleAtRest (view b) → KnowsRest (view b)) → (known l).steps ≡ (known b).steps ⊳ load_lock_log lock
+      → IsElseSame l a → view a ≡ load_state_view state (view l) → (IsSole (view l) → SeesState (view l) state) → (known a).steps ≡ (known l).steps ⊳ load_state_log state
       → LooksAt k lock state b a
   looks_at k lock state b l a about at sole same lock_view alone lock_made same2 state_view sees made =
       let still : view a ≡ view b = state_view ∙ (control_looked state false (view l) (ap (λ (x : View). x.place.position) lock_view ∙ at.0) ∙ lock_view) in

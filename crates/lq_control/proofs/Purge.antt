@@ -14,10 +14,9 @@ use Rattle.lq_table.specs.Views.{View, Setup, Left}
 use Rattle.lq_table.specs.Sees.{view, IsSameSeat}
 use Rattle.lq_table.specs.declared.shared.Cpu.{Cpu}
 use Rattle.lq_table.specs.Rule.{IsResting}
-use Rattle.lq_table.specs.Told.{IsKnownSlot}
+use Rattle.lq_table.specs.Moves.{IsKnownSlot}
 use Rattle.std.specs.Prelude.{IfSome}
-use Rattle.lq_table.specs.Purges.{first_purge, next_band, purging}
-use Rattle.lq_table.specs.Controls.{purge_going, purge_ending, no_missed, no_draining, resetting_missed, resetting_missed_in, resetting_draining, resetting_draining_in}
+use Rattle.lq_table.specs.Purges.{first_purge, next_band, begin_purge_view, purge_going, purge_ending, no_missed, no_draining, reset_missed_view, reset_missed_view_in, reset_draining_view, reset_draining_view_in}
 use Rattle.lq_table.specs.Solo.{Whole, solo, missed_to, draining_to}
 use Rattle.lq_ring.specs.Fates.{fates_onto}
 use Rattle.lq_ring.specs.Purged.{purged_by, purged_to, IsBandPurged, going_on}
@@ -139,12 +138,12 @@ abbrev paid_slot : Cause → Option ℕ → View → View
 paid_slot cause s v = record v { packets = record v.packets { owed = None }; settled = fates_onto (fate.Purged cause) (option_to_list s) v.settled }
 
 module _ (cause : Cause) (s : Option ℕ) (l : Left) (v v1 v2 v3 v4 v5 v6 : View) (cause_is : l.cause ≡ cause) (e1 : v1 ≡ paid_slot cause s v) (p0 : IsBandPurged 0 first_purge l v1 v2) (p1 : IsBandPurged 1 purge1 (left1 l) v2 v3) (p2 : IsBandPurged 2 purge2 (left2 l) v3 v4)
-    (e5 : v5 ≡ resetting_missed v4) (e6 : v6 ≡ resetting_draining v5) where
+    (e5 : v5 ≡ reset_missed_view v4) (e6 : v6 ≡ reset_draining_view v5) where
   -- the bits are cleared
   cleared : v6 ≡ purge_ending no_draining (purge_going no_missed purge4 v4)
   cleared =
-      let five : v5 ≡ purge_going no_missed purge4 v4 = e5 ∙ ap (λ (o : Option Purge). resetting_missed_in o v4) (ap (λ (x : View). x.control.purge) p2.is) in
-      e6 ∙ (ap (λ (o : Option Purge). resetting_draining_in o v5) (ap (λ (x : View). x.control.purge) five) ∙ ap (purge_ending no_draining) five)
+      let five : v5 ≡ purge_going no_missed purge4 v4 = e5 ∙ ap (λ (o : Option Purge). reset_missed_view_in o v4) (ap (λ (x : View). x.control.purge) p2.is) in
+      e6 ∙ (ap (λ (o : Option Purge). reset_draining_view_in o v5) (ap (λ (x : View). x.control.purge) five) ∙ ap (purge_ending no_draining) five)
 
   abbrev ended : View → View
   ended x = purge_ending no_draining (purge_going no_missed purge4 x)
@@ -195,7 +194,7 @@ slot_few None = omega arith
 slot_few (Some n) = omega arith
 
 -- with its event
-pub purged_of : (cause : Cause) (bands : Three Band) (lost : List ℕ) (v u w : View) → v.packets.owed ≡ None → u ≡ purging cause bands v → IsPurgeDone cause lost u w → IsPurged cause lost v w
+pub purged_of : (cause : Cause) (bands : Three Band) (lost : List ℕ) (v u w : View) → v.packets.owed ≡ None → u ≡ begin_purge_view cause bands v → IsPurgeDone cause lost u w → IsPurged cause lost v w
 purged_of cause bands lost v u w none_owed e p =
     let after = λ (x : View). record x {
       packets = record x.packets { owed = None };
@@ -206,7 +205,7 @@ purged_of cause bands lost v u w none_owed e p =
     } in record {
       ends = p.ends;
       whole = p.whole;
-      is = p.is ∙ (ap after e ∙ (λ j. record (after (purging cause bands v)) { packets = record v.packets { owed = sym none_owed j } }));
+      is = p.is ∙ (ap after e ∙ (λ j. record (after (begin_purge_view cause bands v)) { packets = record v.packets { owed = sym none_owed j } }));
       rests = subst (λ (n : ℕ). IsResting n p.ends) (ap (λ (x : View). x.holder.size) e) p.rests;
       told = p.told ∙ ap (λ (x : View). x.whole.told) e;
       alone = ap (λ (x : View). solo (record x { whole = p.whole })) (sym e) ∙ (p.alone ∙ ap (λ (x : View). missed_to false (draining_to false (solo x))) e);

@@ -5,12 +5,12 @@ use Rattle.lq_model.specs.declared.fate.Cause.TheVariants as cause
 use Rattle.lq_model.specs.declared.machine.Phase.{Phase}
 use Rattle.lq_model.specs.declared.machine.Phase.TheVariants.{Quiet}
 use Rattle.lq_table.specs.Views.{View}
-use Rattle.lq_table.specs.Controls.{closing}
+use Rattle.lq_table.specs.Controls.{set_deactivated_view}
 use Rattle.lq_table.specs.Solo.{Solo, solo, locked_to, missed_to, draining_to, heard}
 use Rattle.lq_control.specs.Control.{IsPurged, phased, with_lock_free, deactivated_solo}
 
 -- what is left after a deactivation
-pub deactivated_is : (event n : ℕ) (p : Phase) (lost : List ℕ) (v v2 v3 v4 v5 : View) → n ≡ event → v2 ≡ phased Quiet p (closing event v) → solo v3 ≡ locked_to true (solo v2) → IsPurged (cause.Event n) lost v3 v4 → v5 ≡ with_lock_free v4 → solo v5 ≡ deactivated_solo event (solo v)
+pub deactivated_is : (event n : ℕ) (p : Phase) (lost : List ℕ) (v v2 v3 v4 v5 : View) → n ≡ event → v2 ≡ phased Quiet p (set_deactivated_view event v) → solo v3 ≡ locked_to true (solo v2) → IsPurged (cause.Event n) lost v3 v4 → v5 ≡ with_lock_free v4 → solo v5 ≡ deactivated_solo event (solo v)
 deactivated_is event n p lost v v2 v3 v4 v5 same e2 s3 purged e5 =
     let s2 : solo v2 ≡ heard (Down event) (solo v) = ap solo e2 in
     let s4 = ap solo purged.is ∙ purged.alone in

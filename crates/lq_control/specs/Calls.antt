@@ -15,12 +15,12 @@ use Rattle.lq_run.specs.Runs.{HasNone, HasStation, Rests, ended}
 use Rattle.lq_ring.specs.Put.{no_locks}
 use Rattle.lq_ring.specs.Take.{CarriesStation}
 use Rattle.lq_qdisc.specs.Sends.{IsCallKept, IsReadyToSend}
-use Rattle.lq_table.specs.Controls.{opening, shut_after}
+use Rattle.lq_table.specs.Controls.{clear_deactivated_view, shut_after}
 use Rattle.lq_table.specs.Made.{Known}
 use Rattle.lq_table.specs.Rule.{units_of}
 use Rattle.lq_table.specs.Sees.{view, known, setup, position, slot, IsSameSeat, IsElseSame}
 use Rattle.lq_table.specs.Solo.{IsSole, IsAccounts, account_of, heard, locked_to, solo}
-use Rattle.lq_table.specs.Told.{IsKnownSlot}
+use Rattle.lq_table.specs.Moves.{IsKnownSlot}
 use Rattle.lq_table.specs.Views.{View, Setup, WholePart, no_packets}
 use Rattle.lq_table.specs.declared.shared.Cpu.{Cpu}
 use Rattle.lq_table.specs.declared.shared.Shared.{Shared}
@@ -55,7 +55,7 @@ module _ {D : Type 0} where
   -- A deactivated station was activated.
   pub record ActivatesStation (k : Setup) (b a : Cpu D) : Type 0 where
     pub same : IsElseSame b a
-    pub opened : view a ≡ opening (view b)
+    pub opened : view a ≡ clear_deactivated_view (view b)
     pub ups : Ups (known b) (known a)
     pub alone : (event : ℕ) → DoesEventAlone k event kind.Up (view b) (view a)
 

@@ -18,7 +18,8 @@ use Rattle.lq_band_laws.specs.Ring.{Ends}
 use Rattle.lq_table.specs.Views.{View, HolderPart, Left, WholePart}
 use Rattle.lq_table.specs.Purges.{AreKnown}
 use Rattle.lq_table.specs.Rule.{IsResting, station_count, units_of}
-use Rattle.lq_table.specs.Told.{IsKnownSlot, got_in_control}
+use Rattle.lq_table.specs.Moves.{IsKnownSlot}
+use Rattle.lq_table.specs.Locks.{try_lock_view_in_control}
 use Rattle.lq_table.specs.Solo.{Solo, IsSole, solo, heard, locked_to, missed_to, draining_to, device_to}
 use Rattle.lq_qdisc.specs.Calls.{KeepsFates}
 use Rattle.lq_ring.specs.Fates.{fates_onto}
@@ -86,7 +87,7 @@ swapped_solo unit device s = locked_to false (device_to device (heard (Swap unit
 
 -- the run lock is got, with the station: no take, no resize and no swap is half done
 abbrev pub GetsStation : View → View → Type 0
-GetsStation v w = (d : HolderPart) × (w ≡ got_in_control d v) × IsResting d.size d.ends × (0 < d.size) × (d.hand ≡ None) × (d.resizing ≡ None) × (d.shut ≡ None) × IsKnownSlot v.share.about d.slot
+GetsStation v w = (d : HolderPart) × (w ≡ try_lock_view_in_control d v) × IsResting d.size d.ends × (0 < d.size) × (d.hand ≡ None) × (d.resizing ≡ None) × (d.shut ≡ None) × IsKnownSlot v.share.about d.slot
 
 -- SWAPS
 

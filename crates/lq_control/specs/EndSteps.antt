@@ -7,8 +7,10 @@ use Rattle.lq_qdisc.specs.Sends.{WakesBelow}
 use Rattle.lq_qdisc.specs.Steps.{ReleasesBy, TransmitsBy, with_state_loaded}
 use Rattle.lq_qdisc.specs.declared.answers.Sending.{Sending}
 use Rattle.lq_table.specs.Views.{Setup}
-use Rattle.lq_table.specs.Told.{is_set, loading}
-use Rattle.lq_table.specs.Made.{Known, ◌⊳◌, did_load_stop, did_load_turn}
+use Rattle.lq_table.specs.Moves.{is_set}
+use Rattle.lq_table.specs.Stops.{load_xoff_view, load_xoff_log}
+use Rattle.lq_table.specs.Made.{Known, ◌⊳◌}
+use Rattle.lq_table.specs.Turns.{load_turn_log}
 use Rattle.lq_control.specs.Control.{IsServed}
 use Rattle.lq_control.specs.Finish.{AreAllDone, IsSent, PurgesHung}
 use Rattle.lq_control.specs.Steps.{DrainsBy, PurgesBy, TakesLock, with_control_begun, with_control_ended, with_inside_loaded, with_words_loaded}
@@ -18,7 +20,7 @@ use Rattle.lq_control.specs.declared.finishes.Seen.TheVariants as seen
 -- WHAT IS LEFT
 
 abbrev pub with_turn_loaded : ℕ → ℕ → Known → Known
-with_turn_loaded owner found k = record { view = k.view; steps = k.steps ⊳ did_load_turn owner found }
+with_turn_loaded owner found k = record { view = k.view; steps = k.steps ⊳ load_turn_log owner found }
 
 -- where its owner's turn word is at most twice the packet's rank it was left: it is transmitted, and soft interrupts are done
 abbrev pub SendsLeft : Setup → ℕ → ℕ → Known → Known → Type 0
@@ -47,7 +49,7 @@ pub record SendsAllLeft (k : Setup) (old new : Known) : Type 0 where
 -- A LOOK AT THE WORDS
 
 abbrev pub with_stop_loaded : Setup → ℕ → ℕ → Known → Known
-with_stop_loaded k queue found old = record { view = loading found old.view; steps = old.steps ⊳ did_load_stop k queue found }
+with_stop_loaded k queue found old = record { view = load_xoff_view found old.view; steps = old.steps ⊳ load_xoff_log k queue found }
 
 -- the stop words of the first so many queues are loaded, in ascending order, and each is this one
 abbrev pub stops_loaded : Setup → ℕ → ℕ → Known → Known

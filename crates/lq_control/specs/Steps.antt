@@ -16,43 +16,48 @@ use Rattle.lq_ring.specs.Changes.{PurgesBand, ResizesAll}
 use Rattle.lq_qdisc.specs.Steps.{InterruptsBy, ReleasesBy}
 use Rattle.lq_table.specs.Views.{Setup}
 use Rattle.lq_table.specs.Rule.{shown, units_of}
-use Rattle.lq_table.specs.Told.{is_set, paying, unlocking}
-use Rattle.lq_table.specs.Controls.{GoesAway, beginning_control, closing, finding, opening, opening_next, resetting_draining, resetting_missed, returning, swapping}
-use Rattle.lq_table.specs.Purges.{AreKnown, purging}
-use Rattle.lq_table.specs.Solo.{IsAccounts, IsSole, SeesState}
-use Rattle.lq_table.specs.Made.{Known, ◌⊳◌, did_load_lock, did_load_state, did_load_base, did_load_inside, did_unlock, did_store_fate, did_store_stop, did_clear_missed, did_clear_draining, did_set_deactivated, did_clear_deactivated}
+use Rattle.lq_table.specs.Moves.{is_set}
+use Rattle.lq_table.specs.Fates.{settle_view_owed, settle_log}
+use Rattle.lq_table.specs.Locks.{unlock_view, load_lock_log, unlock_log}
+use Rattle.lq_table.specs.Controls.{GoesAway, begin_control_view, set_deactivated_view, clear_deactivated_view, open_xoff_view, end_control_view, swap_view, set_deactivated_log, clear_deactivated_log}
+use Rattle.lq_table.specs.Inside.{load_inside_view, load_inside_log}
+use Rattle.lq_table.specs.Purges.{reset_draining_view, reset_missed_view, AreKnown, begin_purge_view}
+use Rattle.lq_table.specs.Solo.{IsAccounts, IsSole}
+use Rattle.lq_table.specs.States.{SeesState, load_state_log, clear_missed_log, clear_draining_log}
+use Rattle.lq_table.specs.Made.{Known, ◌⊳◌, load_base_log}
+use Rattle.lq_table.specs.Stops.{store_xoff_log}
 use Rattle.lq_control.specs.Control.{IsServed}
 
 -- ONE STEP
 
 -- a call of control begins, and ends
 abbrev pub with_control_begun : ℕ → Known → Known
-with_control_begun found k = record { view = beginning_control k.view; steps = k.steps ⊳ did_load_base found }
+with_control_begun found k = record { view = begin_control_view k.view; steps = k.steps ⊳ load_base_log found }
 
 abbrev pub with_control_ended : ℕ → Known → Known
-with_control_ended found k = record { view = returning k.view; steps = k.steps ⊳ did_load_base found }
+with_control_ended found k = record { view = end_control_view k.view; steps = k.steps ⊳ load_base_log found }
 
 -- DEACTIVATED is set for this event, which was set before or not, and cleared
 abbrev pub with_deactivated_set : ℕ → Bool → Known → Known
-with_deactivated_set event was k = record { view = closing event k.view; steps = k.steps ⊳ did_set_deactivated event was }
+with_deactivated_set event was k = record { view = set_deactivated_view event k.view; steps = k.steps ⊳ set_deactivated_log event was }
 
 abbrev pub with_deactivated_cleared : Known → Known
-with_deactivated_cleared k = record { view = opening k.view; steps = k.steps ⊳ did_clear_deactivated }
+with_deactivated_cleared k = record { view = clear_deactivated_view k.view; steps = k.steps ⊳ clear_deactivated_log }
 
 -- the calls inside are loaded
 abbrev pub with_inside_loaded : ℕ → Known → Known
-with_inside_loaded found k = record { view = finding found k.view; steps = k.steps ⊳ did_load_inside found }
+with_inside_loaded found k = record { view = load_inside_view found k.view; steps = k.steps ⊳ load_inside_log found }
 
 -- the run lock's word is loaded, and that and then the state: neither tells control anything of its own call
 abbrev pub with_lock_loaded : ℕ → Known → Known
-with_lock_loaded found k = record { view = k.view; steps = k.steps ⊳ did_load_lock found }
+with_lock_loaded found k = record { view = k.view; steps = k.steps ⊳ load_lock_log found }
 
 abbrev pub with_words_loaded : ℕ → ℕ → Known → Known
-with_words_loaded lock state k = record { view = k.view; steps = k.steps ⊳ did_load_lock lock ⊳ did_load_state state }
+with_words_loaded lock state k = record { view = k.view; steps = k.steps ⊳ load_lock_log lock ⊳ load_state_log state }
 
 -- the run lock is released
 abbrev pub with_lock_released : Known → Known
-with_lock_released k = record { view = unlocking k.view; steps = k.steps ⊳ did_unlock }
+with_lock_released k = record { view = unlock_view k.view; steps = k.steps ⊳ unlock_log }
 
 -- WAITS
 
@@ -117,16 +122,16 @@ pub record TakesLock (old new : Known) : Type 0 where
 
 -- a purge begins with a load of the state: these are the packets of the bands
 abbrev pub with_purge_begun : Cause → Three Band → ℕ → Known → Known
-with_purge_begun cause bands state k = record { view = purging cause bands k.view; steps = k.steps ⊳ did_load_state state }
+with_purge_begun cause bands state k = record { view = begin_purge_view cause bands k.view; steps = k.steps ⊳ load_state_log state }
 
 -- the fate of the packet that was in the requeue slot is stored, if there was one
 abbrev pub PurgesSlot : Setup → Fate → Option ℕ → Known → Known → Type 0
 PurgesSlot k f None old new = new ≡ old
-PurgesSlot k f (Some n) old new = new ≡ record { view = paying old.view; steps = old.steps ⊳ did_store_fate k n (word_of f) }
+PurgesSlot k f (Some n) old new = new ≡ record { view = settle_view_owed old.view; steps = old.steps ⊳ settle_log k n (word_of f) }
 
 -- MISSED and DRAINING are cleared after the last packet
 abbrev pub with_bits_cleared : Known → Known
-with_bits_cleared k = record { view = resetting_draining (resetting_missed k.view); steps = k.steps ⊳ did_clear_missed ⊳ did_clear_draining }
+with_bits_cleared k = record { view = reset_draining_view (reset_missed_view k.view); steps = k.steps ⊳ clear_missed_log ⊳ clear_draining_log }
 
 -- a purge that has begun with this packet in the requeue slot: that and then the three bands are purged, and both bits cleared. So many
 -- packets were purged.
@@ -198,12 +203,12 @@ ChangesLength k event len count old new = (clear changed : Known) × Deactivates
 
 -- the station has this unit and its device, and the first queue's stop word is stored as open
 abbrev pub with_device_swapped : Setup → ℕ → DeviceState → Known → Known
-with_device_swapped k unit device old = record { view = swapping (with_device (shown old.view.holder) unit device) old.view; steps = old.steps ⊳ did_store_stop k 0 0 }
+with_device_swapped k unit device old = record { view = swap_view (with_device (shown old.view.holder) unit device) old.view; steps = old.steps ⊳ store_xoff_log k 0 0 }
 
 -- so are the stop words of so many queues after the first, in ascending order
 abbrev pub with_queues_opened : Setup → ℕ → Known → Known
 with_queues_opened k zero old = old
-with_queues_opened k (suc more) old = record { view = opening_next (suc more) (with_queues_opened k more old).view; steps = (with_queues_opened k more old).steps ⊳ did_store_stop k (suc more) 0 }
+with_queues_opened k (suc more) old = record { view = open_xoff_view (suc more) (with_queues_opened k more old).view; steps = (with_queues_opened k more old).steps ⊳ store_xoff_log k (suc more) 0 }
 
 -- Under the run lock: a driver's open, with `netif_tx_start_all_queues` of include/linux/netdevice.h. The device that goes is the one that
 -- came with the latest unit, and has served the station.

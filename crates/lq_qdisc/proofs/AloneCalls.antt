@@ -16,8 +16,10 @@ use Rattle.lq_model.specs.declared.fate.Info.{Info}
 use Rattle.lq_run.specs.Runs as runs
 use Rattle.lq_table.specs.Made.{Known, Made}
 use Rattle.lq_table.specs.Views.{View, Setup, machine_packet, SharePart, first_account, no_packets}
-use Rattle.lq_table.specs.Solo.{Solo, IsSole, SeesState, account_of, solo, heard, locked_to, lowered, sched_cleared, sched_set}
-use Rattle.lq_table.specs.Told.{call_of, entering, going, is_set, looking, seen_by, some_bit, stepped}
+use Rattle.lq_table.specs.Solo.{Solo, IsSole, account_of, solo, heard, locked_to}
+use Rattle.lq_table.specs.States.{SeesState, clear_sched_alone, set_sched_alone, recheck_view_direct, load_state_view, some_bit}
+use Rattle.lq_table.specs.Inside.{lowered, call_of, enter_view}
+use Rattle.lq_table.specs.Moves.{is_set, seen_by, stepped}
 use Rattle.lq_model.specs.declared.machine.Answer.TheVariants.{Plain}
 use Rattle.lq_qdisc.proofs.ViewRelations.{Attempts, FollowsDirect, Goes, GoesPast, GoesThrough, Interrupts, RunsToEnd, TriesToPass}
 use Rattle.lq_qdisc.specs.Alone.{BringsAlone, Does, HasAll, IsAlone, IsOneSender, RunsAlone, account_in, bits_are_clear, running}
@@ -60,7 +62,7 @@ both_clear false true clean some = true≢false (sym clean)
 both_clear false false clean some = true≢false (sym some)
 
 -- as a soft interrupt begins
-pub entering_solo : (v : View) → v.packets ≡ no_packets → solo (entering v) ≡ lowered (solo v)
+pub entering_solo : (v : View) → v.packets ≡ no_packets → solo (enter_view v) ≡ lowered (solo v)
 entering_solo v packets =
     λ j. solo (stepped Plain (seen_by v) (record v { place = begun_as (call_of (option_map (machine_packet v.share.about.infos) (packets j).fresh)) v.place }))
 
@@ -81,10 +83,10 @@ module _ (k : Setup) (infos : List Info) where
 
   -- SOFT INTERRUPTS
 
-  module _ (old before new : View) (about : old.share.about ≡ k) (packets : old.packets ≡ no_packets) (raised : old.place.raised ≡ true) (i : Interrupts infos (entering old) before) (same : solo new ≡ solo before)
+  module _ (old before new : View) (about : old.share.about ≡ k) (packets : old.packets ≡ no_packets) (raised : old.place.raised ≡ true) (i : Interrupts infos (enter_view old) before) (same : solo new ≡ solo before)
       (h : IsAlone infos (first_account k) (solo old)) where
-    cleared_is : (w : View) → solo w ≡ sched_cleared (solo (entering old)) → solo w ≡ entered (solo old)
-    cleared_is w e = e ∙ ap sched_cleared (entering_solo old packets)
+    cleared_is : (w : View) → solo w ≡ clear_sched_alone (solo (enter_view old)) → solo w ≡ entered (solo old)
+    cleared_is w e = e ∙ ap clear_sched_alone (entering_solo old packets)
 
     serves : solo i.cleared ≡ entered (solo old) → i.cleared.share ≡ old.share → (account_of old).down ≡ None → i.due ≡ true
         → IsAlone infos (first_account k) (solo new) × (served infos (running (first_account k) (solo new)) ≡ served infos (running (first_account k) (solo old)))
@@ -113,7 +115,7 @@ module _ (k : Setup) (infos : List Info) where
     softirq_done : IsAlone infos (first_account k) (solo new) × (served infos (running (first_account k) (solo new)) ≡ served infos (running (first_account k) (solo old)))
     softirq_done = by_first (is_set 2 i.begins.first) refl
 
-  pub softirq_alone : (old before new : View) → old.share.about ≡ k → old.packets ≡ no_packets → old.place.raised ≡ true → Interrupts infos (entering old) before → solo new ≡ solo before
+  pub softirq_alone : (old before new : View) → old.share.about ≡ k → old.packets ≡ no_packets → old.place.raised ≡ true → Interrupts infos (enter_view old) before → solo new ≡ solo before
       → BringsAlone infos (first_account k) (λ s. s) (solo old) (solo new)
   softirq_alone old before new about packets raised i same = λ h. softirq_done old before new about packets raised i same h
 
@@ -170,12 +172,12 @@ module _ (k : Setup) (infos : List Info) (n : ℕ) where
   -- past the bands, under the run lock
   module _ (old got new : View) (about : got.share.about ≡ k) (low : (solo old).raised ≡ false) (active : (account_in (first_account k) (solo old)).down ≡ None) (clean : bits_are_clear (solo old) ≡ true)
       (h : IsAlone infos (first_account k) (solo old)) (lock : solo got ≡ locked_to true (solo old)) (p : GoesPast infos n got new) where
-    going_is : solo (going n p.state got) ≡ heard (Direct n) (locked_to true (solo old))
+    going_is : solo (recheck_view_direct n p.state got) ≡ heard (Direct n) (locked_to true (solo old))
     going_is = p.step ∙ ap (λ (v : Solo). heard (Direct n) v) lock
 
     directs : DirectsAlone (first_account k) (queue_in infos n) p.handed (heard (Direct n) (locked_to true (solo old))) (solo p.after)
     directs = subst (λ (w : Solo). DirectsAlone (first_account k) (queue_in infos n) p.handed w (solo p.after)) going_is (
-        directs_alone k (going n p.state got) about (subst HasAll (sym going_is) h.sender.sole) (subst (λ (w : Solo). IsSome w.whole.device.told) (sym going_is) h.sender.tells)
+        directs_alone k (recheck_view_direct n p.state got) about (subst HasAll (sym going_is) h.sender.sole) (subst (λ (w : Solo). IsSome w.whole.device.told) (sym going_is) h.sender.tells)
         p.handed n (queue_in infos n) p.after p.direct
         )
 
@@ -185,9 +187,9 @@ module _ (k : Setup) (infos : List Info) (n : ℕ) where
         same_bits : some_bit f.0 ≡ ((solo last).whole.missed || (solo last).whole.draining)
         same_bits = ap₂ (λ (x y : Bool). x || y) (f.1 all).missed (f.1 all).draining
 
-        by_state : (((some_bit f.0 ≡ true) × RunsToEnd infos (looking f.0 last) new) ⊎ ((some_bit f.0 ≡ false) × Rattle.lq_qdisc.specs.Sends.IsLockReleased (looking f.0 last) new)) → solo new ≡ ended (solo last)
+        by_state : (((some_bit f.0 ≡ true) × RunsToEnd infos (load_state_view f.0 last) new) ⊎ ((some_bit f.0 ≡ false) × Rattle.lq_qdisc.specs.Sends.IsLockReleased (load_state_view f.0 last) new)) → solo new ≡ ended (solo last)
         by_state (inl t) = absurd (both_clear (solo last).whole.missed (solo last).whole.draining (still refl) (sym same_bits ∙ t.0))
-        by_state (inr t) = t.1.sole all ∙ (ended_is (solo (looking f.0 last)) ∙ ap ended f.2)
+        by_state (inr t) = t.1.sole all ∙ (ended_is (solo (load_state_view f.0 last)) ∙ ap ended f.2)
     follows_is (through.Back reason) last f all still = f.sole all ∙ ended_is (solo last)
 
     pub past_alone : IsAlone infos (first_account k) (solo new) × (running (first_account k) (solo new) ≡ gone_direct infos n (running (first_account k) (solo old)))
@@ -217,7 +219,7 @@ module _ (k : Setup) (infos : List Info) (n : ℕ) where
 
     -- where the seat stands after its first load of the state
     stands : (c : Bool) → bypass && not (some_bit goes.state) ≡ c
-        → (looking goes.state (transmitting infos n old)).place.position ≡ (if c then Try1 (ToPass (machine_packet old.share.about.infos n)) else Put (machine_packet old.share.about.infos n) false)
+        → (load_state_view goes.state (transmitting infos n old)).place.position ≡ (if c then Try1 (ToPass (machine_packet old.share.about.infos n)) else Put (machine_packet old.share.about.infos n) false)
     stands c e =
         ap (λ (d : Bool). if d then Leave else if old.share.about.bypass && not (some_bit goes.state) then Try1 (ToPass (machine_packet old.share.about.infos n)) else Put (machine_packet old.share.about.infos n) false) still_active
         ∙ (ap (λ (b : Bool). if b && not (some_bit goes.state) then Try1 (ToPass (machine_packet old.share.about.infos n)) else Put (machine_packet old.share.about.infos n) false) bypass_is
@@ -225,11 +227,11 @@ module _ (k : Setup) (infos : List Info) (n : ℕ) where
 
     through_bands : bypass && not (some_bit goes.state) ≡ false → Ends
     through_bands e =
-        let g = through_alone answer (looking goes.state (transmitting infos n old)) last about (ap holds_lock (stands false e)) ready (goes.through still_active e) refl in
+        let g = through_alone answer (load_state_view goes.state (transmitting infos n old)) last about (ap holds_lock (stands false e)) ready (goes.through still_active e) refl in
         let done = subst (λ (v : Solo). IsAlone infos (first_account k) v × (served infos (running (first_account k) v) ≡ served infos (Rattle.lq_model.specs.Alone.gone_through infos n (running (first_account k) (solo old))))) (sym step) g in
         (done.0, done.1 ∙ ap (served infos) (sym (brought_through infos bypass n (running (first_account k) (solo old)) active (ap (λ (b : Bool). bypass && b) (sym same_clean) ∙ e))))
 
-    past_bands : bypass && not (some_bit goes.state) ≡ true → TriesToPass infos n answer (looking goes.state (transmitting infos n old)) last → Ends
+    past_bands : bypass && not (some_bit goes.state) ≡ true → TriesToPass infos n answer (load_state_view goes.state (transmitting infos n old)) last → Ends
     past_bands e (inl m) = absurd (true≢false (sym (m.1.sole h.sender.sole).0 ∙ h.rests.unlocked))
     past_bands e (inr b) = by_way b.2
       where
@@ -336,7 +338,7 @@ module _ (k : Setup) (infos : List Info) (queue : ℕ) (old new : View) (about :
   stop-at : slice_index (account_of old).stops queue ≡ slice_index (account_in (first_account k) (solo old)).stops queue
   stop-at = ap (λ (a : Account). slice_index a.stops queue) (sym (account_at k old about))
 
-  woken_alone : (was : Bool) → solo new ≡ sched_set was (heard (Wake queue) (solo old)) → was ≡ (solo old).whole.scheduled → slice_index (account_in (first_account k) (solo old)).stops queue ≡ 1 → Opens (solo new)
+  woken_alone : (was : Bool) → solo new ≡ set_sched_alone was (heard (Wake queue) (solo old)) → was ≡ (solo old).whole.scheduled → slice_index (account_in (first_account k) (solo old)).stops queue ≡ 1 → Opens (solo new)
   woken_alone was is sched stop = subst Opens (sym is) (
     record {
       sender = record {

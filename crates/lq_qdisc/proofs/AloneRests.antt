@@ -1,5 +1,7 @@
 -- What a run attempt leaves, and a station between two calls.
-use Rattle.lq_table.specs.Solo.{Solo, heard, locked_to, lowered, sched_cleared}
+use Rattle.lq_table.specs.Solo.{Solo, heard, locked_to}
+use Rattle.lq_table.specs.Inside.{lowered}
+use Rattle.lq_table.specs.States.{clear_sched_alone}
 use Rattle.lq_qdisc.specs.Stations.{IsBetweenOffers, dirty, is_waiting, may_take}
 use Rattle.lq_qdisc.specs.Alone.{HasAll, IsAlone, IsOneSender, RestsAlone, RunsAlone, account_in, bits_are_clear, running}
 use Rattle.lq_qdisc.proofs.AloneForms.{AttemptsAlone, MayRun, ended}
@@ -100,7 +102,7 @@ module _ (infos : List Info) (start : Account) (n : ℕ) (old mid : Solo) (event
 
 -- the mark was taken down and SCHED was cleared
 abbrev pub entered : Solo → Solo
-entered v = sched_cleared (lowered v)
+entered v = clear_sched_alone (lowered v)
 
 pub entered_ready : (infos : List Info) (start : Account) (v : Solo) → IsAlone infos start v → (account_in start v).down ≡ None → MayRun start (entered v)
 entered_ready infos start v h active = record {

@@ -17,16 +17,17 @@ use Rattle.lq_model.specs.declared.machine.Packet.{Packet}
 use Rattle.lq_model.specs.declared.machine.Position.{Position}
 use Rattle.lq_model.specs.declared.machine.Position.TheVariants.{BlockedClear, Gate, StoreXoff, Xmit}
 use Rattle.lq_table.specs.Views.{View, HolderPart, no_station}
-use Rattle.lq_table.specs.Seats.{CarriesBusyDevice, carried_but_for_slot}
+use Rattle.lq_table.specs.States.{CarriesBusyDevice, carried_but_for_slot, requeue_view, set_bit_view}
 use Rattle.lq_table.specs.Rule.{shown, IsResting}
 use Rattle.lq_table.specs.Sees.{view, slot, position, carried, packet_at, IsSameSeat, IsElseSame}
 use Rattle.lq_table.specs.declared.shared.Cpu.{Cpu}
 use Rattle.lq_table.specs.declared.shared.Shared.{Shared}
 use Rattle.lq_model.specs.Plan.{queue_in}
 use Rattle.lq_qdisc.specs.Calls.{IsKeptInRun, IsServing, IsSettledSame}
-use Rattle.lq_table.specs.Settled.{MaySettle}
-use Rattle.lq_table.specs.Told.{HasRoom, and_settled, machine_answer, fate_sent, loading, loading_from, passing, requeuing, seen_by, setting, settling, storing, storing_from}
-use Rattle.lq_table.specs.Solo.{Solo, IsSole, SeesStop, account_of, solo, heard, missed_to, draining_to, device_to}
+use Rattle.lq_table.specs.Fates.{MaySettle, machine_answer, fate_sent, settle_view_sent}
+use Rattle.lq_table.specs.Stops.{HasRoom, load_xoff_view, load_xoff_view_from, store_xoff_view, store_xoff_view_from, SeesXoff}
+use Rattle.lq_table.specs.Moves.{and_settled, pass_view, seen_by}
+use Rattle.lq_table.specs.Solo.{Solo, IsSole, account_of, solo, heard, missed_to, draining_to, device_to}
 use Rattle.lq_qdisc.specs.Direct.{Accepts, IsBusyAt, IsSentAs, LaysAside, SeesOpen, StaysAt, hearing_hung, hearing_stops, hung_below, position_after, sent_leads, stopped_by}
 use Rattle.lq_qdisc.proofs.TakeLemmas.{one, stop_is}
 use Rattle.lq_qdisc.specs.declared.answers.Through.TheVariants as through
@@ -35,15 +36,15 @@ use Rattle.lq_qdisc.specs.declared.answers.Through.TheVariants as through
 abbrev pub moved_to : Position → View → View
 moved_to position v = record v { place = record v.place { position = position } }
 
-pub loaded_at_gate : (x : ℕ) (v : View) (p : Packet) (direct : Bool) → v.place.position ≡ Gate p direct → loading x v ≡ moved_to (if x == 0 then Xmit p direct else BlockedClear (InHand p direct)) v
-loaded_at_gate x v p direct here = ap (λ (position : Position). loading_from position v.holder.slot x v) here
+pub loaded_at_gate : (x : ℕ) (v : View) (p : Packet) (direct : Bool) → v.place.position ≡ Gate p direct → load_xoff_view x v ≡ moved_to (if x == 0 then Xmit p direct else BlockedClear (InHand p direct)) v
+loaded_at_gate x v p direct here = ap (λ (position : Position). load_xoff_view_from position v.holder.slot x v) here
 
 -- STOP WORDS
 
-pub stored_at : (v w : View) (queue : ℕ) (hung direct : Bool) → v.place.position ≡ StoreXoff queue hung direct → w ≡ storing v → w ≡ storing_from (StoreXoff queue hung direct) v
-stored_at v w queue hung direct here is = is ∙ ap (λ (position : Position). storing_from position v) here
+pub stored_at : (v w : View) (queue : ℕ) (hung direct : Bool) → v.place.position ≡ StoreXoff queue hung direct → w ≡ store_xoff_view v → w ≡ store_xoff_view_from (StoreXoff queue hung direct) v
+stored_at v w queue hung direct here is = is ∙ ap (λ (position : Position). store_xoff_view_from position v) here
 
-pub stored_stays : (v w : View) (queue : ℕ) (hung direct : Bool) → w ≡ storing_from (StoreXoff queue hung direct) v → StaysAt v w
+pub stored_stays : (v w : View) (queue : ℕ) (hung direct : Bool) → w ≡ store_xoff_view_from (StoreXoff queue hung direct) v → StaysAt v w
 stored_stays v w queue hung direct is = record {
   share = ap (λ (x : View). x.share) is;
   packets = ap (λ (x : View). x.packets) is;
@@ -74,7 +75,7 @@ stays_then u v w x y = record {
 }
 
 -- after the store for a queue of a device that hangs, the next queue's comes, until there is none
-pub hung_leads : (v w : View) (queue queues : ℕ) (direct : Bool) → v.share.about.queues ≡ queues → w ≡ storing_from (StoreXoff queue true direct) v
+pub hung_leads : (v w : View) (queue queues : ℕ) (direct : Bool) → v.share.about.queues ≡ queues → w ≡ store_xoff_view_from (StoreXoff queue true direct) v
     → w.place.position ≡ (if nat_lt (queue + 1) queues then StoreXoff (queue + 1) true direct else position_after through.Yes direct w)
 hung_leads v w queue queues direct many is =
     ap (λ (x : View). x.place.position) is
@@ -101,7 +102,7 @@ settling_at position last hand st v = record v {
 }
 
 module _ (n : ℕ) (p : Packet) (direct : Bool) (st : StationState) (v w : View) (here : v.place.position ≡ Xmit p direct) (hand : v.holder.hand ≡ Some n) where
-  sent_is : (answer : Tx) → st.last ≡ Some answer → w ≡ settling st v → w ≡ settling_at (Xmit p direct) (Some answer) (Some n) st v
+  sent_is : (answer : Tx) → st.last ≡ Some answer → w ≡ settle_view_sent st v → w ≡ settling_at (Xmit p direct) (Some answer) (Some n) st v
   sent_is answer last is = is ∙ (λ j. settling_at (here j) (last j) (hand j) st v)
 
   sent_fields : (answer : Tx) → w ≡ settling_at (Xmit p direct) (Some answer) (Some n) st v
@@ -124,7 +125,7 @@ module _ (n : ℕ) (p : Packet) (direct : Bool) (st : StationState) (v w : View)
     step = step;
   }
 
-  pub sent_as : (answer : Tx) → is_busy answer ≡ false → st.last ≡ Some answer → w ≡ settling st v → solo w ≡ device_to st.device (heard Send (solo v)) → IsSentAs answer n p.queue direct st v w
+  pub sent_as : (answer : Tx) → is_busy answer ≡ false → st.last ≡ Some answer → w ≡ settle_view_sent st v → solo w ≡ device_to st.device (heard Send (solo v)) → IsSentAs answer n p.queue direct st v w
   sent_as Sent accepted last is step = let e = sent_is Sent last is in
       sent_fields Sent e (ap (λ (x : View). x.place.raised) e) (ap (λ (x : View). x.place.run) e) (ap (λ (x : View). x.place.position) e ∙ sym (ap (λ (x : View). position_after through.Yes direct x) e)) step
   sent_as SentStop accepted last is step = let e = sent_is SentStop last is in
@@ -179,7 +180,7 @@ accepts answer n queue queues direct st v m w accepted called many sent stays he
   sole = sole;
 }
 
-pub busy_at : (n queue : ℕ) (st : StationState) (v w : View) → v.holder.hand ≡ Some n → HasAnswered Busy queue n (shown v.holder) st → w ≡ requeuing st v
+pub busy_at : (n queue : ℕ) (st : StationState) (v w : View) → v.holder.hand ≡ Some n → HasAnswered Busy queue n (shown v.holder) st → w ≡ requeue_view st v
     → solo w ≡ device_to st.device (heard Back (missed_to true (solo v))) → SeesOpen queue v → IsBusyAt n queue v w
 busy_at n queue st v w hand called is step sole = record {
   station = st;
@@ -251,9 +252,9 @@ module _ {D : Type 0} where
       )
 
   -- the queue of the packet in hand was found stopped
-  abbrev pub lays_aside : (n queue first : ℕ) (p : Packet) (direct : Bool) (b m w : Cpu D) → first ≢ 0 → position b ≡ Gate p direct → (view b).holder.shut ≡ None → view m ≡ loading first (view b) → SeesStop queue (view b) first
+  abbrev pub lays_aside : (n queue first : ℕ) (p : Packet) (direct : Bool) (b m w : Cpu D) → first ≢ 0 → position b ≡ Gate p direct → (view b).holder.shut ≡ None → view m ≡ load_xoff_view first (view b) → SeesXoff queue (view b) first
       → IsSettledSame m w → (view w).holder ≡ record (view m).holder { slot = Some n; hand = None } → (view w).whole.state.past ≡ Back ∷ (view m).whole.state.past
-      → ((again : ℕ) × (view w ≡ setting (setting (loading again (passing (view m))))))
+      → ((again : ℕ) × (view w ≡ set_bit_view (set_bit_view (load_xoff_view again (pass_view (view m))))))
       → (IsSole (view m) → slice_index (account_of (view m)).stops queue ≢ 0 → solo (view w) ≡ missed_to true (heard Back (draining_to true (missed_to false (solo (view m))))))
       → LaysAside n queue (view b) (view w)
   lays_aside n queue first p direct b m w closed here shut loaded sees fates holder past again sole =
@@ -261,7 +262,7 @@ module _ {D : Type 0} where
         first = first;
         again = again.0;
         stopped = closed;
-        is = again.1 ∙ ap (λ (v : View). setting (setting (loading again.0 (passing v)))) loaded;
+        is = again.1 ∙ ap (λ (v : View). set_bit_view (set_bit_view (load_xoff_view again.0 (pass_view v)))) loaded;
         past = past ∙ ap (λ (v : View). Back ∷ v.whole.state.past) e;
         holder = holder ∙ ap (λ (v : View). record v.holder { slot = Some n; hand = None }) e;
         settled = fates.0 ∙ ap (λ (v : View). v.settled) e;
@@ -275,7 +276,7 @@ module _ {D : Type 0} where
       }
 
   -- it was found open
-  pub sees_open : (queue first : ℕ) (p : Packet) (direct : Bool) (b m : Cpu D) → first ≡ 0 → position b ≡ Gate p direct → (view b).holder.shut ≡ None → view m ≡ loading first (view b) → SeesStop queue (view b) first → SeesOpen queue (view m)
+  pub sees_open : (queue first : ℕ) (p : Packet) (direct : Bool) (b m : Cpu D) → first ≡ 0 → position b ≡ Gate p direct → (view b).holder.shut ≡ None → view m ≡ load_xoff_view first (view b) → SeesXoff queue (view b) first → SeesOpen queue (view m)
   sees_open queue first p direct b m opened here shut loaded sees =
       let e : view m ≡ moved_to (Xmit p direct) (view b) = loaded ∙ (loaded_at_gate first (view b) p direct here ∙ ap (λ (x : ℕ). moved_to (if x == 0 then Xmit p direct else BlockedClear (InHand p direct)) (view b)) opened) in
       subst (λ (v : View). SeesOpen queue v) (sym e) (λ alone.

@@ -6,7 +6,8 @@ use Rattle.lq_account_laws.specs.Trail.{down_of}
 use Rattle.lq_model.specs.Plan.{band_in}
 use Rattle.lq_model.specs.declared.fate.Info.{Info}
 use Rattle.lq_table.specs.Views.{View}
-use Rattle.lq_table.specs.Told.{is_set, looking, some_bit}
+use Rattle.lq_table.specs.Moves.{is_set}
+use Rattle.lq_table.specs.States.{load_state_view, some_bit}
 use Rattle.lq_qdisc.proofs.ViewRelations.{Goes, GoesPast, GoesThrough, GoesThroughHeld, TriesToPass}
 use Rattle.lq_qdisc.specs.Sends.{Enqueues, transmitting}
 use Rattle.lq_qdisc.specs.declared.answers.Sending.{Sending}
@@ -29,7 +30,7 @@ module _ (infos : List Info) (bypass : Bool) (n : ℕ) (answer : Sending) (old l
   tries_not event v is (inr b) = by_way b.2
     where
       by_way : (GoesThroughHeld infos n answer b.0 last ⊎ ((answer ≡ sending.Direct) × GoesPast infos n b.0 last)) → ⊥
-      by_way (inl h) = subst (λ (a : Sending). Enqueues n (band_in infos n) a (looking h.state b.0) h.put) is h.enqueued
+      by_way (inl h) = subst (λ (a : Sending). Enqueues n (band_in infos n) a (load_state_view h.state b.0) h.put) is h.enqueued
       by_way (inr p) = (let direct = p.0 in cc)
 
   by_bits : (event : ℕ) → answer ≡ sending.Refused event → is_set 2 goes.state ≡ false → (c : Bool) → bypass && not (some_bit goes.state) ≡ c → ⊥

@@ -11,8 +11,10 @@ use Rattle.lq_table.specs.Views.{View, HolderPart, Setup}
 use Rattle.lq_table.specs.Rule.{shown}
 use Rattle.lq_table.specs.Sees.{view, known, steps, position}
 use Rattle.lq_table.specs.Solo.{solo, heard, missed_to, device_to}
-use Rattle.lq_table.specs.Told.{fate_sent, loading}
-use Rattle.lq_table.specs.Made.{◌⊳◌, did_load_stop, did_set_missed, did_store_fate}
+use Rattle.lq_table.specs.Fates.{fate_sent, settle_log}
+use Rattle.lq_table.specs.Stops.{load_xoff_view, load_xoff_log}
+use Rattle.lq_table.specs.Made.{◌⊳◌}
+use Rattle.lq_table.specs.States.{set_missed_log}
 use Rattle.lq_table.specs.declared.shared.Cpu.{Cpu}
 use Rattle.lq_qdisc.specs.Direct.{Accepts, IsBusyAt, SeesOpen, hearing_stops, stopped_by}
 use Rattle.lq_qdisc.specs.Steps.{DirectsBy, OffersBy, stops_stored}
@@ -46,18 +48,18 @@ busy_before n queue v m w holder past settled alone sees b = record {
 }
 
 module _ {D : Type 0} where
-  pub offers_directs : (k : Setup) (t : Through) (n queue first : ℕ) (p : Packet) (direct : Bool) (b m w : Cpu D) → first ≡ 0 → position b ≡ Gate p direct → view m ≡ loading first (view b)
-      → steps m ≡ steps b ⊳ did_load_stop k queue first → SeesOpen queue (view m) → OffersBy k t n queue (steps m) (known m) (known w) → DirectsBy k t n queue (known b) (known w)
+  pub offers_directs : (k : Setup) (t : Through) (n queue first : ℕ) (p : Packet) (direct : Bool) (b m w : Cpu D) → first ≡ 0 → position b ≡ Gate p direct → view m ≡ load_xoff_view first (view b)
+      → steps m ≡ steps b ⊳ load_xoff_log k queue first → SeesOpen queue (view m) → OffersBy k t n queue (steps m) (known m) (known w) → DirectsBy k t n queue (known b) (known w)
   offers_directs k through.Yes n queue first p direct b m w opened here loaded made sees o =
       let e : view m ≡ moved_to (if first == 0 then Xmit p direct else BlockedClear (InHand p direct)) (view b) = loaded ∙ loaded_at_gate first (view b) p direct here in
       let holder : (view m).holder ≡ (view b).holder = ap (λ (v : View). v.holder) e in (
         accepted_before n queue (view b) (view m) (view w) holder (ap (λ (v : View). v.share) e) (ap (λ (v : View). v.whole.state.past) e) (ap (λ (v : View). v.settled) e) (ap (λ (v : View). solo v) e) (subst (λ (v : View). SeesOpen queue v) e sees) o.0,
-        o.1 ∙ (λ j. stops_stored k o.0.answer queue (made j ⊳ did_store_fate k n (word_of (fate_sent (holder j).station)))) ∙ (λ j. stops_stored k o.0.answer queue (steps b ⊳ did_load_stop k queue (opened j) ⊳ did_store_fate k n (word_of (fate_sent (view b).holder.station)))),
+        o.1 ∙ (λ j. stops_stored k o.0.answer queue (made j ⊳ settle_log k n (word_of (fate_sent (holder j).station)))) ∙ (λ j. stops_stored k o.0.answer queue (steps b ⊳ load_xoff_log k queue (opened j) ⊳ settle_log k n (word_of (fate_sent (view b).holder.station)))),
       )
   offers_directs k (through.Back why.Busy) n queue first p direct b m w opened here loaded made sees o =
       let e : view m ≡ moved_to (if first == 0 then Xmit p direct else BlockedClear (InHand p direct)) (view b) = loaded ∙ loaded_at_gate first (view b) p direct here in (
         busy_before n queue (view b) (view m) (view w) (ap (λ (v : View). v.holder) e) (ap (λ (v : View). v.whole.state.past) e) (ap (λ (v : View). v.settled) e) (ap (λ (v : View). solo v) e) (subst (λ (v : View). SeesOpen queue v) e sees) o.0,
         o.1,
-        o.2 ∙ (λ j. made j ⊳ did_set_missed o.1) ∙ (λ j. steps b ⊳ did_load_stop k queue (opened j) ⊳ did_set_missed o.1),
+        o.2 ∙ (λ j. made j ⊳ set_missed_log o.1) ∙ (λ j. steps b ⊳ load_xoff_log k queue (opened j) ⊳ set_missed_log o.1),
       )
   offers_directs k (through.Back why.Stopped) n queue first p direct b m w opened here loaded made sees o = absurd o

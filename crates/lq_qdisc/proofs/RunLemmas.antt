@@ -17,9 +17,11 @@ use Rattle.lq_model.specs.declared.machine.Position.TheVariants.{Quota, Unlock}
 use Rattle.lq_model.specs.declared.state.TheConstants.{QUOTA}
 use Rattle.lq_run.specs.Runs.{begins}
 use Rattle.lq_table.specs.Views.{HolderPart, View}
-use Rattle.lq_table.specs.Told.{backing, fate_sent, passing, seen_by, setting}
+use Rattle.lq_table.specs.States.{backing, set_bit_view, set_bit_alone}
+use Rattle.lq_table.specs.Fates.{fate_sent}
+use Rattle.lq_table.specs.Moves.{pass_view, seen_by}
 use Rattle.lq_model.specs.Account.{Back}
-use Rattle.lq_table.specs.Solo.{Solo, heard, laid}
+use Rattle.lq_table.specs.Solo.{Solo, heard}
 use Rattle.lq_qdisc.proofs.ViewRelations.{Directs}
 use Rattle.lq_qdisc.specs.Calls.{Dequeues, FindsPacket, KeepsFates, Picks}
 use Rattle.lq_qdisc.specs.Runs.{position_in_run}
@@ -73,18 +75,18 @@ directs_count (through.Back why.Busy) n queue v w d =
     ap (λ (h : HolderPart). length h.station.device.accepted) d.holder ∙ (ap length d.called.answers.accepted ∙ length-append v.holder.station.device.accepted [])
 
 -- where the quota is reached, MISSED is set
-pub set_at_quota : (v : View) → v.place.position ≡ position_in_run v → v.place.run ≡ QUOTA → setting v ≡ passing v
+pub set_at_quota : (v : View) → v.place.position ≡ position_in_run v → v.place.run ≡ QUOTA → set_bit_view v ≡ pass_view v
 set_at_quota v at run =
-    ap (λ (y : Position). if is_some (in_hand y) then backing v else passing v) (at ∙ ap (λ (k : ℕ). if k == QUOTA then Quota else begins v) run)
+    ap (λ (y : Position). if is_some (in_hand y) then backing v else pass_view v) (at ∙ ap (λ (k : ℕ). if k == QUOTA then Quota else begins v) run)
 
 -- then the run lock is released next, and nothing else changes
 abbrev pub over : View → View
 over v = record v { place = record v.place { position = Unlock }; whole = record v.whole { qdisc = record v.whole.qdisc { missed = true } } }
 
-pub over_at_quota : (v w : View) → w ≡ setting v → v.place.position ≡ position_in_run v → v.place.run ≡ QUOTA → w ≡ over v
+pub over_at_quota : (v w : View) → w ≡ set_bit_view v → v.place.position ≡ position_in_run v → v.place.run ≡ QUOTA → w ≡ over v
 over_at_quota v w is at run =
     is ∙ (set_at_quota v at run ∙ ap (λ (y : Position). record v { place = (step_at y Plain (seen_by v) v.place).seat; whole = record v.whole { qdisc = (step_at y Plain v.whole.qdisc v.place).qdisc } })
     (at ∙ ap (λ (k : ℕ). if k == QUOTA then Quota else begins v) run))
 
-pub laid_at_quota : (v : View) (w : Solo) → v.place.position ≡ position_in_run v → v.place.run ≡ QUOTA → laid v w ≡ w
+pub laid_at_quota : (v : View) (w : Solo) → v.place.position ≡ position_in_run v → v.place.run ≡ QUOTA → set_bit_alone v w ≡ w
 laid_at_quota v w at run = ap (λ (y : Position). if is_some (in_hand y) then heard Back w else w) (at ∙ ap (λ (k : ℕ). if k == QUOTA then Quota else begins v) run)

@@ -10,8 +10,9 @@ use Rattle.lq_model.specs.declared.machine.Position.{Position}
 use Rattle.lq_model.specs.declared.machine.Position.TheVariants.{Check, Leave, Put, Try1}
 use Rattle.lq_model.specs.declared.fate.Info.{Info}
 use Rattle.lq_account_laws.specs.Trail.{is_own}
-use Rattle.lq_table.specs.Told.{is_set, looking, seen_by, seen_state, some_bit}
-use Rattle.lq_table.specs.Made.{Known, ◌⊳◌, did_load_state}
+use Rattle.lq_table.specs.Moves.{is_set, seen_by}
+use Rattle.lq_table.specs.States.{load_state_view, seen_state, some_bit, load_state_log}
+use Rattle.lq_table.specs.Made.{Known, ◌⊳◌}
 use Rattle.lq_table.specs.Sees.{view, known, steps, IsElseSame, IsSameSeat, IsSeatOf}
 use Rattle.lq_table.specs.declared.shared.Cpu.{Cpu}
 use Rattle.lq_table.specs.declared.shared.Shared.{Shared}
@@ -46,12 +47,12 @@ come_from infos n answer u v w share packets turns trail h = record {
   trail = h.trail ∙ trail_same (came_as infos n answer) u v share trail;
 }
 
-pub come_looked : (infos : List Info) (n state : ℕ) (answer : Sending) (u v w : View) → v ≡ looking state u → HasCome infos n answer v w → HasCome infos n answer u w
+pub come_looked : (infos : List Info) (n state : ℕ) (answer : Sending) (u v w : View) → v ≡ load_state_view state u → HasCome infos n answer v w → HasCome infos n answer u w
 come_looked infos n state answer u v w e h =
     come_from infos n answer u v w (ap (λ (x : View). x.share) e) (ap (λ (x : View). x.packets) e) (ap (λ (x : View). x.turns) e) (ap (λ (x : View). x.trail) e) h
 
 -- where the first load of the state in a transmit leads, which isn't deactivated
-pub checked_leads : (p : Packet) (state : ℕ) (may : Bool) (u v : View) → u.place.position ≡ Check p → is_set 2 state ≡ false → u.share.about.bypass && not (some_bit state) ≡ may → v ≡ looking state u
+pub checked_leads : (p : Packet) (state : ℕ) (may : Bool) (u v : View) → u.place.position ≡ Check p → is_set 2 state ≡ false → u.share.about.bypass && not (some_bit state) ≡ may → v ≡ load_state_view state u
     → v.place.position ≡ (if may then Try1 (ToPass p) else Put p false)
 checked_leads p state may u v at off may_is is =
     ap (λ (x : View). x.place.position) is ∙ (ap (λ (y : Position). (step_at y Plain (seen_state (seen_by u) u.share.about.bypass state) u.place).seat.position) at
@@ -59,10 +60,10 @@ checked_leads p state may u v at off may_is is =
 
 module _ {D : Type 0} where
   -- a seat that brings a packet and is free inside the call does so and is so still
-  pub brings_looked : (t : Shared D) (n state : ℕ) (b m : Cpu D) → view m ≡ looking state (view b) → IsBringing t n b → IsBringing t n m
+  pub brings_looked : (t : Shared D) (n state : ℕ) (b m : Cpu D) → view m ≡ load_state_view state (view b) → IsBringing t n b → IsBringing t n m
   brings_looked t n state b m e p = (p.0, p.1, ap (λ (v : View). v.packets.fresh) e ∙ p.2, ap (λ (v : View). v.packets.owed) e ∙ p.3)
 
-  pub free_looked : (state : ℕ) (b m : Cpu D) → IsElseSame b m → view m ≡ looking state (view b) → IsFreeInside b → IsFreeInside m
+  pub free_looked : (state : ℕ) (b m : Cpu D) → IsElseSame b m → view m ≡ load_state_view state (view b) → IsFreeInside b → IsFreeInside m
   free_looked state b m same e f = ((same.3 ∙ f.0.0, same.1 ∙ f.0.1), ap (λ (v : View). v.locks) e ∙ f.1, ap (λ (v : View). v.holder.resizing) e ∙ f.2)
 
   -- what a call leaves as it was, from a step before it that left that too
@@ -101,15 +102,15 @@ module _ {D : Type 0} where
 
   -- What is known where a seat that brings a packet loaded the state, and goes on with the packet.
   pub record IsLooked (t : Shared D) (n state : ℕ) (b m : Cpu D) : Type 0 where
-    pub is : view m ≡ looking state (view b)
+    pub is : view m ≡ load_state_view state (view b)
     pub all : known m ≡ with_state_loaded state (known b)
     pub call : KeepsCall t b m
     pub packet : IsBringing t n m
     pub free : IsFreeInside b → IsFreeInside m
     pub came : (answer : Sending) (w : View) → HasCome t.infos.now n answer (view m) w → HasCome t.infos.now n answer (view b) w
 
-  pub looked_from : (t : Shared D) (n state : ℕ) (b m : Cpu D) → IsElseSame b m → view m ≡ looking state (view b)
-      → steps m ≡ steps b ⊳ did_load_state state → IsSeatOf t b → IsBringing t n b → IsLooked t n state b m
+  pub looked_from : (t : Shared D) (n state : ℕ) (b m : Cpu D) → IsElseSame b m → view m ≡ load_state_view state (view b)
+      → steps m ≡ steps b ⊳ load_state_log state → IsSeatOf t b → IsBringing t n b → IsLooked t n state b m
   looked_from t n state b m same e made s packet = record {
     is = e;
     all = λ j. record { view = e j; steps = made j };

@@ -16,11 +16,13 @@ use Rattle.lq_model.specs.Positions.{holds_lock}
 use Rattle.lq_model.specs.declared.machine.Seat.{Seat}
 use Rattle.lq_ring.specs.Take.{consuming}
 use Rattle.lq_table.specs.Views.{View, HolderPart, SharePart, State, machine_packet, first_account}
-use Rattle.lq_table.specs.Told.{loading, loading_from, passing, picking, seen_band, seen_by, setting, slot_begins}
-use Rattle.lq_table.specs.Rings.{finding_none}
+use Rattle.lq_table.specs.Stops.{load_xoff_view, load_xoff_view_from, picking, slot_begins, SeesXoff}
+use Rattle.lq_table.specs.Moves.{pass_view, seen_by}
+use Rattle.lq_table.specs.Consumers.{seen_band, head_slot_view_empty}
+use Rattle.lq_table.specs.States.{set_bit_view, set_bit_alone}
 use Rattle.lq_table.specs.Rule.{shown, IsResting}
 use Rattle.lq_table.specs.Sees.{view, position, slot, IsElseSame, IsSeatOf, IsSameSeat}
-use Rattle.lq_table.specs.Solo.{IsSole, SeesStop, account_of, laid}
+use Rattle.lq_table.specs.Solo.{IsSole, account_of}
 use Rattle.lq_table.specs.declared.shared.Cpu.{Cpu}
 use Rattle.lq_table.specs.declared.shared.Shared.{Shared}
 use Rattle.lq_qdisc.specs.Calls.{IsKeptInRun, IsServing, IsSettledSame, after_blocked, AreNone, Dequeues, Finds, ClearsMissedAlone, FindsNone, FindsPacket, FindsStopped, IsStopFor, Looks, Picks, finding_stopped, found_empty, laid_aside, looking_at, with_back}
@@ -68,10 +70,10 @@ seat_kept q b second v here =
     (ap (λ (y : Position). (step_at y Plain q v.place).seat.run) here ∙ k.0, ap (λ (y : Position). (step_at y Plain q v.place).seat.raised) here ∙ k.1)
 
 -- a holder that has the table alone, with no swap half done, finds the account's stop value
-pub stop_is : (queue found : ℕ) (v : View) → SeesStop queue v found → IsSole v → holds_lock v.place.position ≡ true → v.holder.shut ≡ None → found ≡ slice_index (account_of v).stops queue
+pub stop_is : (queue found : ℕ) (v : View) → SeesXoff queue v found → IsSole v → holds_lock v.place.position ≡ true → v.holder.shut ≡ None → found ≡ slice_index (account_of v).stops queue
 stop_is queue found v s alone holds shut = s.0 alone (sym (ap (λ (h : HolderPart). h.shut) (s.1 alone holds)) ∙ shut)
 
-pub stop_loaded_again : (queue found : ℕ) (b : Blocked) (old m : View) → m ≡ passing old → old.place.position ≡ BlockedClear b → SeesStop queue m found → IsSole old → old.holder.shut ≡ None
+pub stop_loaded_again : (queue found : ℕ) (b : Blocked) (old m : View) → m ≡ pass_view old → old.place.position ≡ BlockedClear b → SeesXoff queue m found → IsSole old → old.holder.shut ≡ None
     → found ≡ slice_index (account_of old).stops queue
 stop_loaded_again queue found b old m is here s alone shut =
     stop_is queue found m s (ap (λ (v : View). v.share.shares) is ∙ alone.0, ap (λ (v : View). v.whole.told) is ∙ alone.1)
@@ -91,23 +93,23 @@ blocked_over b q v = record v {
   whole = record v.whole { qdisc = q; state = with_back (BlockedClear b) v.whole.state };
 }
 
-pub maybe_cleared : (b : Blocked) (x : ℕ) (v w : View) → v.place.position ≡ BlockedClear b → w ≡ setting (loading x (passing v)) → (q : Qdisc) × (w ≡ blocked_over b q v)
-maybe_cleared b x v w at is = let r = over b (x == 0) in (r.0, is ∙ (ap (λ (p : Position). setting (loading x (passing (standing p v)))) at ∙ r.1)) where
-  over : (b : Blocked) (open_ : Bool) → (q : Qdisc) × (setting (standing (if open_ then BlockedMiss b else BlockedDrain b) (passing (standing (BlockedClear b) v))) ≡ blocked_over b q v)
+pub maybe_cleared : (b : Blocked) (x : ℕ) (v w : View) → v.place.position ≡ BlockedClear b → w ≡ set_bit_view (load_xoff_view x (pass_view v)) → (q : Qdisc) × (w ≡ blocked_over b q v)
+maybe_cleared b x v w at is = let r = over b (x == 0) in (r.0, is ∙ (ap (λ (p : Position). set_bit_view (load_xoff_view x (pass_view (standing p v)))) at ∙ r.1)) where
+  over : (b : Blocked) (open_ : Bool) → (q : Qdisc) × (set_bit_view (standing (if open_ then BlockedMiss b else BlockedDrain b) (pass_view (standing (BlockedClear b) v))) ≡ blocked_over b q v)
   over (InHand p direct) true = (_, refl)
   over (InHand p direct) false = (_, refl)
   over (NoneTaken queue) true = (_, refl)
   over (NoneTaken queue) false = (_, refl)
 
 -- a load of the stop word where a dequeue begins, with this in the requeue slot: the queue is open, or stopped
-pub opened_at_dequeue : (x : ℕ) (o : Option ℕ) (v w : View) → w ≡ loading x v → v.place.position ≡ Deq → v.holder.slot ≡ o → x ≡ 0 → w ≡ picking o (standing (slot_begins (option_map (machine_packet v.share.about.infos) o)) v)
-opened_at_dequeue x o v w is at slot_is zero_ = is ∙ (λ j. loading_from (at j) (slot_is j) (zero_ j) v)
+pub opened_at_dequeue : (x : ℕ) (o : Option ℕ) (v w : View) → w ≡ load_xoff_view x v → v.place.position ≡ Deq → v.holder.slot ≡ o → x ≡ 0 → w ≡ picking o (standing (slot_begins (option_map (machine_packet v.share.about.infos) o)) v)
+opened_at_dequeue x o v w is at slot_is zero_ = is ∙ (λ j. load_xoff_view_from (at j) (slot_is j) (zero_ j) v)
 
-pub stopped_at_dequeue : (x : ℕ) (o : Option ℕ) (v w : View) → w ≡ loading x v → v.place.position ≡ Deq → v.holder.slot ≡ o → x ≢ 0 → w ≡ standing (BlockedClear (NoneTaken (queue_of_slot (option_map (machine_packet v.share.about.infos) o)))) v
+pub stopped_at_dequeue : (x : ℕ) (o : Option ℕ) (v w : View) → w ≡ load_xoff_view x v → v.place.position ≡ Deq → v.holder.slot ≡ o → x ≢ 0 → w ≡ standing (BlockedClear (NoneTaken (queue_of_slot (option_map (machine_packet v.share.about.infos) o)))) v
 stopped_at_dequeue x o v w is at slot_is some_ =
     let p = option_map (machine_packet v.share.about.infos) o in
     let led = λ (open_ : Bool). (let m : View = standing (if open_ then slot_begins p else BlockedClear (NoneTaken (queue_of_slot p))) v in if open_ then picking o m else m) in
-    is ∙ ((λ j. loading_from (at j) (slot_is j) x v) ∙ ap led (ne_eqb x 0 some_))
+    is ∙ ((λ j. load_xoff_view_from (at j) (slot_is j) x v) ∙ ap led (ne_eqb x 0 some_))
 
 module _ {D : Type 0} where
   pub kept_then : {b m a : Cpu D} → IsKeptInRun b m → IsKeptInRun m a → IsKeptInRun b a
@@ -140,7 +142,7 @@ module _ {D : Type 0} where
 
   -- what is known once MISSED was cleared, the stop word loaded again as this, and a bit set
   pub record LeavesBlocked (found : ℕ) (b a : Cpu D) : Type 0 where
-    pub is : view a ≡ setting (loading found (passing (view b)))
+    pub is : view a ≡ set_bit_view (load_xoff_view found (pass_view (view b)))
     pub kept : IsKeptInRun b a
     pub at : position a ≡ after_blocked (position b)
     pub holder : (view a).holder ≡ laid_aside (position b) (view b).holder
@@ -149,9 +151,9 @@ module _ {D : Type 0} where
 
   pub leaves_blocked : (blocked : Blocked) (found : ℕ) (b m l a : Cpu D) → position b ≡ BlockedClear blocked
       → IsElseSame b m → IsElseSame m l → IsElseSame l a
-      → view m ≡ passing (view b) → view l ≡ loading found (view m) → view a ≡ setting (view l) → LeavesBlocked found b a
+      → view m ≡ pass_view (view b) → view l ≡ load_xoff_view found (view m) → view a ≡ set_bit_view (view l) → LeavesBlocked found b a
   leaves_blocked blocked found b m l a here first second third passed loaded set =
-      let is = set ∙ ap setting (loaded ∙ ap (loading found) passed) in
+      let is = set ∙ ap set_bit_view (loaded ∙ ap (load_xoff_view found) passed) in
       let seat : IsSameSeat b a = (third.0.0 ∙ (second.0.0 ∙ first.0.0), third.0.1 ∙ (second.0.1 ∙ first.0.1)) in
       let e = maybe_cleared blocked found (view b) (view a) here is in record {
         is = is;
@@ -162,7 +164,7 @@ module _ {D : Type 0} where
         fates = (ap (λ (x : View). x.settled) e.1, ap (λ (x : View). x.trail) e.1);
       }
 
-  pub kept_none : (b : ℕ) (second : Bool) (m a : Cpu D) → position m ≡ Scan b second → IsSameSeat m a → a.indices ≡ m.indices → view a ≡ finding_none b (view m) → IsKeptInRun m a
+  pub kept_none : (b : ℕ) (second : Bool) (m a : Cpu D) → position m ≡ Scan b second → IsSameSeat m a → a.indices ≡ m.indices → view a ≡ head_slot_view_empty b (view m) → IsKeptInRun m a
   kept_none b second m a here seat indices is = kept_moved m a _ _ _ _ seat indices is (seat_kept (seen_band b []) b second (view m) here).1
 
   pub kept_take : (b n : ℕ) (second : Bool) (m a : Cpu D) → position m ≡ Scan b second → IsSameSeat m a → a.indices ≡ m.indices → view a ≡ consuming b n (view m) → IsKeptInRun m a
@@ -191,7 +193,7 @@ module _ {D : Type 0} where
   serving_same b a slot_is station_is holder locks s =
       serving_with b a (view b).holder.slot (view b).holder.hand slot_is (station_is ∙ (s.0.1 ∙ ap (λ (h : HolderPart). Some (shown h)) (sym holder))) holder locks s
 
-  pub run_none : (b : ℕ) (second : Bool) (m a : Cpu D) → position m ≡ Scan b second → view a ≡ finding_none b (view m) → (view a).place.run ≡ (view m).place.run
+  pub run_none : (b : ℕ) (second : Bool) (m a : Cpu D) → position m ≡ Scan b second → view a ≡ head_slot_view_empty b (view m) → (view a).place.run ≡ (view m).place.run
   run_none b second m a here is = ap (λ (x : View). x.place.run) is ∙ (seat_kept (seen_band b []) b second (view m) here).0
 
   pub run_take : (b n : ℕ) (second : Bool) (m a : Cpu D) → position m ≡ Scan b second → view a ≡ consuming b n (view m) → (view a).place.run ≡ (view m).place.run
@@ -219,7 +221,7 @@ open_for (taken.Packet n) stop v w l is = is
 
 -- the queue was found stopped where a dequeue begins, MISSED was cleared, and what follows that was done
 pub finds_stopped : (q x again queue : ℕ) (v m w : View) → x ≢ 0 → m ≡ standing (BlockedClear (NoneTaken queue)) v → w ≡ finding_stopped x again v → w.whole.state ≡ with_back m.place.position m.whole.state
-    → w.holder ≡ laid_aside m.place.position m.holder → ClearsMissedAlone q (laid m) m w → (IsSole v → x ≡ slice_index (account_of v).stops q) → FindsStopped q v w
+    → w.holder ≡ laid_aside m.place.position m.holder → ClearsMissedAlone q (set_bit_alone m) m w → (IsSole v → x ≡ slice_index (account_of v).stops q) → FindsStopped q v w
 finds_stopped q x again queue v m w some_ e is state holder alone stop = record {
   first = x;
   again = again;
@@ -227,7 +229,7 @@ finds_stopped q x again queue v m w some_ e is state holder alone stop = record 
   is = is;
   past = ap (λ (g : State). g.past) (state ∙ ap (λ (y : View). with_back y.place.position y.whole.state) e);
   holder = holder ∙ ap (λ (y : View). laid_aside y.place.position y.holder) e;
-  sole = λ s. (λ z. some_ (stop s ∙ z), subst (λ (y : View). ClearsMissedAlone q (laid y) y w) e alone s (λ z. some_ (stop s ∙ z)));
+  sole = λ s. (λ z. some_ (stop s ∙ z), subst (λ (y : View). ClearsMissedAlone q (set_bit_alone y) y w) e alone s (λ z. some_ (stop s ∙ z)));
 }
 
 -- nothing is held in a band below the third

@@ -7,7 +7,8 @@ use Rattle.lq_model.specs.Plan.{owner_in, rank_in}
 use Rattle.lq_model.specs.declared.fate.Info.{Info}
 use Rattle.lq_table.specs.Views.{View}
 use Rattle.lq_table.specs.Solo.{solo}
-use Rattle.lq_table.specs.Told.{giving_turn, passing}
+use Rattle.lq_table.specs.Turns.{give_turn_view}
+use Rattle.lq_table.specs.Moves.{pass_view}
 use Rattle.lq_qdisc.proofs.ViewRelations.{Goes, Transmits}
 use Rattle.lq_qdisc.specs.Sends.{HasCome, came_as, trail_with, transmitting}
 use Rattle.lq_qdisc.specs.declared.answers.Sending.{Sending}
@@ -17,7 +18,7 @@ same_trail infos n None v = refl
 same_trail infos n (Some event) v = refl
 
 pub transmits_as : (infos : List Info) (bypass : Bool) (n : ℕ) (answer : Sending) (old last left new : View) → HasCome infos n answer (transmitting infos n old) last → Goes infos bypass n answer (transmitting infos n old) last
-    → left ≡ passing last → solo left ≡ solo last → new ≡ giving_turn (owner_in infos n) (rank_in infos n) left → Transmits infos bypass n answer old new
+    → left ≡ pass_view last → solo left ≡ solo last → new ≡ give_turn_view (owner_in infos n) (rank_in infos n) left → Transmits infos bypass n answer old new
 transmits_as infos bypass n answer old last left new came goes leaves step gives = record {
   came = came.came;
   turns = ap (λ (v : View). v.turns) gives
@@ -26,6 +27,6 @@ transmits_as infos bypass n answer old last left new came goes leaves step gives
   trail = ap (λ (v : View). v.trail) gives ∙ (ap (λ (v : View). v.trail) leaves ∙ (came.trail ∙ same_trail infos n (came_as infos n answer) old));
   last = last;
   goes = goes;
-  ends = gives ∙ ap (λ (v : View). giving_turn (owner_in infos n) (rank_in infos n) v) leaves;
+  ends = gives ∙ ap (λ (v : View). give_turn_view (owner_in infos n) (rank_in infos n) v) leaves;
   step = ap (λ (v : View). solo v) gives ∙ step;
 }

@@ -3,7 +3,8 @@ use Rattle.std.proofs.Common.{ℕ, zero, suc, ◌≡◌, ap, inl, inr}
 use Rattle.lq_model.specs.Plan.{band_in}
 use Rattle.lq_table.specs.Views.{View, Setup}
 use Rattle.lq_table.specs.Made.{Known}
-use Rattle.lq_table.specs.Told.{entering, passing}
+use Rattle.lq_table.specs.Inside.{enter_view}
+use Rattle.lq_table.specs.Moves.{pass_view}
 use Rattle.lq_table.specs.Solo.{solo}
 use Rattle.lq_qdisc.proofs.ViewRelations.{Attempts, Directs, FollowsDirect, Goes, GoesPast, GoesThrough, GoesThroughHeld, Hands, Interrupts, LastTurn, Runs, RunsToEnd, Sends, TriesToPass}
 use Rattle.lq_qdisc.specs.Sends.{Enqueues}
@@ -106,7 +107,7 @@ goes_view k n answer old new g = record {
   past = λ a e. tries_view k n answer (with_state_loaded g.state old) new (g.past a e);
 }
 
-pub interrupts_view : (k : Setup) (old new : Known) → InterruptsBy k old new → (before : View) × Interrupts k.infos (entering old.view) before × (new.view ≡ passing before) × (solo new.view ≡ solo before)
+pub interrupts_view : (k : Setup) (old new : Known) → InterruptsBy k old new → (before : View) × Interrupts k.infos (enter_view old.view) before × (new.view ≡ pass_view before) × (solo new.view ≡ solo before)
 interrupts_view k old new i = (
   i.last.view,
   record {

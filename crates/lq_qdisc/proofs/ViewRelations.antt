@@ -15,8 +15,10 @@ use Rattle.lq_qdisc.specs.declared.answers.Taken.TheVariants as taken
 use Rattle.lq_qdisc.specs.declared.answers.Through.{Through}
 use Rattle.lq_qdisc.specs.declared.answers.Through.TheVariants as through
 use Rattle.lq_qdisc.specs.declared.answers.Why.TheVariants as why
-use Rattle.lq_table.specs.Solo.{IsSole, solo, heard, missed_to, SeesState, SeesDown}
-use Rattle.lq_table.specs.Told.{passing, some_bit, is_set, looking, going, giving_turn}
+use Rattle.lq_table.specs.Solo.{IsSole, solo, heard, missed_to}
+use Rattle.lq_table.specs.States.{SeesState, SeesDown, some_bit, load_state_view, recheck_view_direct}
+use Rattle.lq_table.specs.Moves.{pass_view, is_set}
+use Rattle.lq_table.specs.Turns.{give_turn_view}
 use Rattle.lq_table.specs.Views.{View}
 use Rattle.std.specs.Prelude.{◌≡◌, ℕ, zero, suc, Bool, true, false, List, ◌⊎◌, ◌↔◌, ◌≤◌, slice_set, ◌+◌, ◌*◌, not, ◌&&◌, is_some}
 
@@ -45,7 +47,7 @@ Sends (suc sent) infos old new = (last : View) × Sends sent infos old last × H
 -- was laid into the requeue slot. After the last packet of the quota MISSED is set.
 abbrev pub LastTurn : RunEnd → List Info → View → View → Type 0
 LastTurn end.Empty infos old new = Dequeues taken.Empty infos old new × SeesOneQueue taken.Empty old
-LastTurn end.Quota infos old new = (new ≡ passing old) × (solo new ≡ missed_to true (solo old))
+LastTurn end.Quota infos old new = (new ≡ pass_view old) × (solo new ≡ missed_to true (solo old))
 LastTurn end.Stopped infos old new = (Dequeues taken.Stopped infos old new × SeesOneQueue taken.Stopped old) ⊎ Hands LaysAside infos old new
 LastTurn end.Busy infos old new = Hands IsBusyAt infos old new
 
@@ -83,14 +85,14 @@ pub record GoesThroughHeld (infos : List Info) (n : ℕ) (answer : Sending) (old
   pub waits : some_bit state ≡ true
   pub sees : IsSole old → SeesState old state
   pub put : View
-  pub enqueued : Enqueues n (band_in infos n) answer (looking state old) put
+  pub enqueued : Enqueues n (band_in infos n) answer (load_state_view state old) put
   pub served : RunsToEnd infos put new
 
 -- What follows a packet that went past the bands: where the device accepted it the state is loaded, and where MISSED or
 -- DRAINING is set then, the bands are served.
 abbrev pub FollowsDirect : Through → List Info → View → View → Type 0
-FollowsDirect through.Yes infos old new = (state : ℕ) × (IsSole old → SeesState old state) × (solo (looking state old) ≡ solo old)
-    × (((some_bit state ≡ true) × RunsToEnd infos (looking state old) new) ⊎ ((some_bit state ≡ false) × IsLockReleased (looking state old) new))
+FollowsDirect through.Yes infos old new = (state : ℕ) × (IsSole old → SeesState old state) × (solo (load_state_view state old) ≡ solo old)
+    × (((some_bit state ≡ true) × RunsToEnd infos (load_state_view state old) new) ⊎ ((some_bit state ≡ false) × IsLockReleased (load_state_view state old) new))
 FollowsDirect (through.Back reason) infos old new = IsLockReleased old new
 
 -- It went past the bands: the state was loaded under the run lock with MISSED and DRAINING clear.
@@ -98,10 +100,10 @@ pub record GoesPast (infos : List Info) (n : ℕ) (old new : View) : Type 0 wher
   pub state : ℕ
   pub clear : some_bit state ≡ false
   pub sees : IsSole old → SeesState old state
-  pub step : solo (going n state old) ≡ heard (Direct n) (solo old)
+  pub step : solo (recheck_view_direct n state old) ≡ heard (Direct n) (solo old)
   pub handed : Through
   pub after : View
-  pub direct : Directs handed n (queue_in infos n) (going n state old) after
+  pub direct : Directs handed n (queue_in infos n) (recheck_view_direct n state old) after
   pub follows : FollowsDirect handed infos after new
 
 -- It may go past the bands, since neither bit was set: it does so where the run lock is got and neither is set still.
@@ -116,8 +118,8 @@ pub record Goes (infos : List Info) (bypass : Bool) (n : ℕ) (answer : Sending)
   pub sees : IsSole old → SeesState old state
   pub first : old.control.first ≡ true → SeesDown old state
   pub refused : is_set 2 state ≡ true → (event : ℕ) × (answer ≡ sending.Refused event) × IsRefused n event state old new
-  pub through : is_set 2 state ≡ false → bypass && not (some_bit state) ≡ false → GoesThrough infos n answer (looking state old) new
-  pub past : is_set 2 state ≡ false → bypass && not (some_bit state) ≡ true → TriesToPass infos n answer (looking state old) new
+  pub through : is_set 2 state ≡ false → bypass && not (some_bit state) ≡ false → GoesThrough infos n answer (load_state_view state old) new
+  pub past : is_set 2 state ≡ false → bypass && not (some_bit state) ≡ true → TriesToPass infos n answer (load_state_view state old) new
 
 -- The transmit of the packet n, whose turn it is: the turn is given back.
 pub record Transmits (infos : List Info) (bypass : Bool) (n : ℕ) (answer : Sending) (old new : View) : Type 0 where
@@ -126,7 +128,7 @@ pub record Transmits (infos : List Info) (bypass : Bool) (n : ℕ) (answer : Sen
   pub trail : new.trail ≡ trail_with (came_as infos n answer) old
   pub last : View
   pub goes : Goes infos bypass n answer (transmitting infos n old) last
-  pub ends : new ≡ giving_turn (owner_in infos n) (rank_in infos n) (passing last)
+  pub ends : new ≡ give_turn_view (owner_in infos n) (rank_in infos n) (pass_view last)
   pub step : solo new ≡ solo last
 
 -- A soft interrupt, between its two steps on the calls inside: the bands are served, unless the station is deactivated still.

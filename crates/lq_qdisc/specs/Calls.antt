@@ -9,7 +9,9 @@ use Rattle.lq_model.specs.declared.machine.Position.TheVariants.{Again, Unlock, 
 use Rattle.lq_run.specs.Runs.{HasStation, Rests}
 use Rattle.lq_ring.specs.Put.{no_locks}
 use Rattle.lq_table.specs.Views.{View, Setup, HolderPart, State, machine_packet}
-use Rattle.lq_table.specs.Told.{IsPacketOf, IsKnownSlot, past_with, setting, loading, passing, picking}
+use Rattle.lq_table.specs.Moves.{IsPacketOf, IsKnownSlot, past_with, pass_view}
+use Rattle.lq_table.specs.States.{set_bit_view}
+use Rattle.lq_table.specs.Stops.{load_xoff_view, picking}
 use Rattle.lq_table.specs.Solo.{Solo, IsSole, IsAccounts, HasSent, account_of, solo, heard, missed_to, draining_to}
 use Rattle.lq_table.specs.Sees.{view, setup, position, IsSameSeat}
 use Rattle.lq_model.specs.declared.fate.Fate.{Fate}
@@ -120,7 +122,7 @@ pub record FindsPacket (n : ℕ) (old new : View) : Type 0 where
 
 -- The stop word of a queue was loaded as x and, after the clearing of MISSED, once more as y.
 abbrev pub finding_stopped : ℕ → ℕ → View → View
-finding_stopped x y v = setting (loading y (passing (loading x v)))
+finding_stopped x y v = set_bit_view (load_xoff_view y (pass_view (load_xoff_view x v)))
 
 -- It was loaded as 1 or 2, and nothing was taken.
 pub record FindsStopped (queue : ℕ) (old new : View) : Type 0 where

@@ -11,7 +11,8 @@ use Rattle.lq_model.specs.declared.machine.Position.TheVariants.{Post, Quota, St
 use Rattle.lq_run.specs.Runs.{begins}
 use Rattle.lq_table.specs.Views.{View}
 use Rattle.lq_table.specs.Rule.{shown}
-use Rattle.lq_table.specs.Told.{fate_sent, setting}
+use Rattle.lq_table.specs.Fates.{fate_sent}
+use Rattle.lq_table.specs.States.{set_bit_view}
 use Rattle.lq_table.specs.Solo.{Solo, IsSole, IsAccounts, HasSent, account_of, solo, heard, missed_to, draining_to, device_to}
 use Rattle.lq_qdisc.specs.Calls.{finding_stopped}
 use Rattle.lq_qdisc.specs.declared.answers.Through.{Through}
@@ -82,7 +83,7 @@ pub record LaysAside (n queue : ℕ) (old new : View) : Type 0 where
   pub first : ℕ
   pub again : ℕ
   pub stopped : first ≢ 0
-  pub is : new ≡ setting (finding_stopped first again old)
+  pub is : new ≡ set_bit_view (finding_stopped first again old)
   pub past : new.whole.state.past ≡ Back ∷ old.whole.state.past
   pub holder : new.holder ≡ record old.holder { slot = Some n; hand = None }
   pub settled : new.settled ≡ old.settled

@@ -12,11 +12,14 @@ use Rattle.lq_model.specs.declared.machine.Blocked.TheVariants.{InHand}
 use Rattle.lq_model.specs.declared.machine.Position.{Position}
 use Rattle.lq_model.specs.declared.machine.Position.TheVariants.{BlockedClear, StoreXoff, Unlock, Xmit}
 use Rattle.lq_ring.specs.Seats.{KeepsSeatAndView}
-use Rattle.lq_table.specs.Made.{Known, ◌⊳◌, did_set_missed, did_store_fate}
+use Rattle.lq_table.specs.Made.{Known, ◌⊳◌}
+use Rattle.lq_table.specs.States.{set_missed_log, requeue_view}
+use Rattle.lq_table.specs.Fates.{settle_log, fate_sent}
 use Rattle.lq_table.specs.Rule.{shown}
 use Rattle.lq_table.specs.Sees.{view, known, steps, setup, position, slot, packet_at, carried, IsSameSeat, IsElseSame}
 use Rattle.lq_table.specs.Solo.{solo, heard, missed_to, device_to}
-use Rattle.lq_table.specs.Told.{HasRoom, IsPacketOf, fate_sent, requeuing}
+use Rattle.lq_table.specs.Stops.{HasRoom}
+use Rattle.lq_table.specs.Moves.{IsPacketOf}
 use Rattle.lq_table.specs.declared.shared.Cpu.{Cpu}
 use Rattle.lq_table.specs.declared.shared.Shared.{Shared}
 use Rattle.lq_qdisc.specs.Calls.{ClearsMissedAlone, IsServing, IsKeptInRun, IsSettledSame}
@@ -88,10 +91,10 @@ module _ {D : Type 0} where
     pub same : IsSameSeat b a
     pub indices : a.indices ≡ b.indices
     pub same_slot : slot a ≡ slot b
-    pub requeued : view a ≡ requeuing (carried b) (view b)
+    pub requeued : view a ≡ requeue_view (carried b) (view b)
     pub station : a.station ≡ Some (shown (view a).holder)
     pub step : solo (view a) ≡ device_to (carried b).device (heard Back (missed_to true (solo (view b))))
-    pub made : (was : Bool) × (steps a ≡ steps b ⊳ did_set_missed was)
+    pub made : (was : Bool) × (steps a ≡ steps b ⊳ set_missed_log was)
 
 -- AFTER THE DEVICE ACCEPTED IT
 
@@ -109,7 +112,7 @@ module _ {D : Type 0} where
   pub record SettlesSent (t : Shared D) (n : ℕ) (f : Fate) (b a : Cpu D) : Type 0 where
     pub same : IsElseSame b a
     pub sent : StoresSent t n b a
-    pub made : steps a ≡ steps b ⊳ did_store_fate (setup t) n (word_of f)
+    pub made : steps a ≡ steps b ⊳ settle_log (setup t) n (word_of f)
 
   -- The device has given this answer to a packet of the queue, and its stop words are to be stored.
   pub record MayStop (t : Shared D) (queue : ℕ) (answer : Tx) (c : Cpu D) : Type 0 where

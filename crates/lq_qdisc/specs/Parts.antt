@@ -7,7 +7,7 @@ use Rattle.lq_model.specs.declared.machine.Position.TheVariants.{Check, Gate, Le
 use Rattle.lq_run.specs.Runs.{begins}
 use Rattle.lq_table.specs.Made.{Known}
 use Rattle.lq_table.specs.Sees.{view, known, setup, position, packet_at}
-use Rattle.lq_table.specs.Told.{IsPacketOf}
+use Rattle.lq_table.specs.Moves.{IsPacketOf}
 use Rattle.lq_table.specs.declared.shared.Cpu.{Cpu}
 use Rattle.lq_table.specs.declared.shared.Shared.{Shared}
 use Rattle.lq_qdisc.specs.Calls.{IsServing, IsSlotOf, KeepsFates}

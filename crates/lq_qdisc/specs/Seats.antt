@@ -12,8 +12,10 @@ use Rattle.lq_model.specs.declared.machine.Position.TheVariants.{Gate, Scan, Xmi
 use Rattle.lq_table.specs.Views.{first_account}
 use Rattle.lq_table.specs.Rule.{shown, times}
 use Rattle.lq_table.specs.Sees.{view, steps, setup, position, packet_at, carried}
-use Rattle.lq_table.specs.Told.{IsPacketOf, fate_sent}
-use Rattle.lq_table.specs.Made.{◌⊳◌, did_take_turn}
+use Rattle.lq_table.specs.Moves.{IsPacketOf}
+use Rattle.lq_table.specs.Fates.{fate_sent}
+use Rattle.lq_table.specs.Made.{◌⊳◌}
+use Rattle.lq_table.specs.Turns.{take_turn_log}
 use Rattle.lq_table.specs.Solo.{IsAccounts, solo}
 use Rattle.lq_table.specs.declared.shared.Cpu.{Cpu}
 use Rattle.lq_table.specs.declared.shared.Shared.{Shared}
@@ -80,7 +82,7 @@ module _ {D : Type 0} where
 
   -- the turn was tried and wasn't got: the answer is the turn word, and nothing else was done
   abbrev pub FindsOtherTurn : Shared D → ℕ → Sending → Cpu D → Cpu D → Type 0
-  FindsOtherTurn t n answer b a = (answer ≡ sending.OutOfTurn (turn_word t n b)) × (view a ≡ view b) × (steps a ≡ steps b ⊳ did_take_turn (owner_in t.infos.now n) (rank_in t.infos.now n) false)
+  FindsOtherTurn t n answer b a = (answer ≡ sending.OutOfTurn (turn_word t n b)) × (view a ≡ view b) × (steps a ≡ steps b ⊳ take_turn_log (owner_in t.infos.now n) (rank_in t.infos.now n) false)
 
 -- A SEAT THAT HAS THE TABLE ALONE
 

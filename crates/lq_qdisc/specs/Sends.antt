@@ -10,10 +10,15 @@ use Rattle.lq_model.specs.declared.machine.Attempt.TheVariants as attempt
 use Rattle.lq_run.specs.Runs.{HasNone, after_got, after_missed, after_begin, ended}
 use Rattle.lq_ring.specs.Put.{no_locks, putting, dropping_full as dropped}
 use Rattle.lq_table.specs.Views.{View, Setup, no_packets}
-use Rattle.lq_table.specs.Made.{Known, Made, ◌⊳◌, did_load_stop, did_wake, did_set_sched}
-use Rattle.lq_table.specs.Told.{is_set, looking, on_trail, bringing, entering, passing, paying, scheduling, waking, refusing as refused}
-use Rattle.lq_table.specs.Solo.{IsSole, IsAccounts, account_of, solo, heard, sched_cleared, sched_set, SeesState}
-use Rattle.lq_table.specs.SolePut.{SeesEnd}
+use Rattle.lq_table.specs.Made.{Known, Made, ◌⊳◌}
+use Rattle.lq_table.specs.Stops.{load_xoff_log, wake_log, wake_view}
+use Rattle.lq_table.specs.States.{set_sched_log, load_state_view, set_sched_view, check_view_refused as refused, clear_sched_alone, set_sched_alone, SeesState}
+use Rattle.lq_table.specs.Moves.{is_set, on_trail, pass_view}
+use Rattle.lq_table.specs.Turns.{take_turn_view}
+use Rattle.lq_table.specs.Inside.{enter_view}
+use Rattle.lq_table.specs.Fates.{settle_view_owed}
+use Rattle.lq_table.specs.Solo.{IsSole, IsAccounts, account_of, solo, heard}
+use Rattle.lq_table.specs.Producers.{SeesEnd}
 use Rattle.lq_table.specs.Sees.{view, IsSameSeat}
 use Rattle.lq_table.specs.declared.shared.Cpu.{Cpu}
 use Rattle.lq_table.specs.declared.shared.Shared.{Shared}
@@ -108,14 +113,14 @@ pub record IsLockReleased (old new : View) : Type 0 where
 -- the packet was put into its band, or dropped as full
 abbrev pub Enqueues : ℕ → ℕ → Sending → View → View → Type 0
 Enqueues n band sending.Queued old new = (new ≡ putting band n old) × SeesEnd band old 0 × (solo new ≡ heard (Join n band) (solo old))
-Enqueues n band (sending.FullSeen seen) old new = (new ≡ paying (dropped n seen old)) × SeesEnd band old (seen + 1) × (solo new ≡ heard (Full n seen) (solo old))
+Enqueues n band (sending.FullSeen seen) old new = (new ≡ settle_view_owed (dropped n seen old)) × SeesEnd band old (seen + 1) × (solo new ≡ heard (Full n seen) (solo old))
 Enqueues n band sending.Direct old new = ⊥
 Enqueues n band (sending.Refused event) old new = ⊥
 Enqueues n band (sending.OutOfTurn found) old new = ⊥
 
 -- The station is deactivated by the event: the packet is refused, and that is its fate.
 abbrev pub IsRefused : ℕ → ℕ → ℕ → View → View → Type 0
-IsRefused n event state old new = (is_set 2 state ≡ true) × ((bits : ℕ) × (bits < 16) × (state ≡ bits + 256 * (event + 1))) × (new ≡ paying (refused n event state old))
+IsRefused n event state old new = (is_set 2 state ≡ true) × ((bits : ℕ) × (bits < 16) × (state ≡ bits + 256 * (event + 1))) × (new ≡ settle_view_owed (refused n event state old))
 
 -- the state was loaded as this word, which tells the event by which the packet n is refused, and that fate is still to be stored
 abbrev pub OwesRefused : ℕ → ℕ → View → Type 0
@@ -127,7 +132,7 @@ IsRefusedAsOnTrail answer v = (event : ℕ) → (answer ≡ sending.Refused even
 
 -- the seat's view as the transmit of the packet n begins, whose turn it has
 abbrev pub transmitting : List Info → ℕ → View → View
-transmitting infos n v = entering (bringing n (owner_in infos n) (rank_in infos n) v)
+transmitting infos n v = enter_view (take_turn_view n (owner_in infos n) (rank_in infos n) v)
 
 -- SOFT INTERRUPTS AND WAKES
 
@@ -146,22 +151,22 @@ IsStillWithHolder old new = IsStill old new × (new.locks ≡ old.locks) × (new
 pub record IsDue (due : Bool) (old new : View) : Type 0 where
   pub first : ℕ
   pub sees : IsSole old → SeesState old first
-  pub step : solo (passing (looking first old)) ≡ sched_cleared (solo old)
-  pub active : is_set 2 first ≡ false → (due ≡ true) × (new ≡ passing (looking first old))
-  pub deactivated : is_set 2 first ≡ true → (second : ℕ) × (due ≡ not (is_set 2 second)) × (new ≡ looking second (passing (looking first old))) × (solo new ≡ sched_cleared (solo old))
+  pub step : solo (pass_view (load_state_view first old)) ≡ clear_sched_alone (solo old)
+  pub active : is_set 2 first ≡ false → (due ≡ true) × (new ≡ pass_view (load_state_view first old))
+  pub deactivated : is_set 2 first ≡ true → (second : ℕ) × (due ≡ not (is_set 2 second)) × (new ≡ load_state_view second (pass_view (load_state_view first old))) × (solo new ≡ clear_sched_alone (solo old))
       × (IsSole old → is_set 2 second ≡ is_some (account_of old).down)
 
 -- the stop word of a queue was found other than 1: as it was looked at, or as it was exchanged after that
 abbrev pub FindsOpen : Setup → ℕ → List Made → List Made → Type 0
 FindsOpen k queue old new =
-    ((found : ℕ) × (found ≢ 1) × (new ≡ old ⊳ did_load_stop k queue found))
-    ⊎ (new ≡ old ⊳ did_load_stop k queue 1 ⊳ did_wake k queue false)
+    ((found : ℕ) × (found ≢ 1) × (new ≡ old ⊳ load_xoff_log k queue found))
+    ⊎ (new ≡ old ⊳ load_xoff_log k queue 1 ⊳ wake_log k queue false)
 
 -- A queue was looked at: its stop word was 1 and was exchanged for 0, and the table is scheduled, or it wasn't 1.
 abbrev pub Wakes : Setup → ℕ → Known → Known → Type 0
 Wakes k queue old new =
-    ((was : Bool) × (new.view ≡ scheduling was (waking queue old.view)) × (solo new.view ≡ sched_set was (heard (Wake queue) (solo old.view))) × (IsSole old.view → was ≡ old.view.whole.qdisc.sched) × (IsSole old.view → slice_index (account_of old.view).stops queue ≡ 1)
-    × (new.steps ≡ old.steps ⊳ did_load_stop k queue 1 ⊳ did_wake k queue true ⊳ did_set_sched was))
+    ((was : Bool) × (new.view ≡ set_sched_view was (wake_view queue old.view)) × (solo new.view ≡ set_sched_alone was (heard (Wake queue) (solo old.view))) × (IsSole old.view → was ≡ old.view.whole.qdisc.sched) × (IsSole old.view → slice_index (account_of old.view).stops queue ≡ 1)
+    × (new.steps ≡ old.steps ⊳ load_xoff_log k queue 1 ⊳ wake_log k queue true ⊳ set_sched_log was))
     ⊎ ((new.view ≡ old.view) × (IsSole old.view → slice_index (account_of old.view).stops queue ≢ 1) × FindsOpen k queue old.steps new.steps)
 
 -- those of the first so many queues

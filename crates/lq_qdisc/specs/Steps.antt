@@ -10,9 +10,14 @@ use Rattle.lq_model.specs.declared.state.TheConstants.{QUOTA}
 use Rattle.lq_run.specs.Tries.{BeginsBy, EndsRun}
 use Rattle.lq_ring.specs.Steps.{FindsSlotEmpty, FindsFull, Puts, Takes}
 use Rattle.lq_table.specs.Views.{Setup}
-use Rattle.lq_table.specs.Told.{is_set, some_bit, entering, fate_sent, going, giving_turn, loading, looking, passing, setting}
-use Rattle.lq_table.specs.Solo.{IsSole, SeesDown, SeesState, solo, heard, missed_to}
-use Rattle.lq_table.specs.Made.{Known, Made, ◌⊳◌, did_load_stop, did_load_state, did_clear_missed, did_clear_draining, did_set_missed, did_set_draining, did_clear_sched, did_store_stop, did_store_fate, did_take_turn, did_give_turn, did_enter, did_leave}
+use Rattle.lq_table.specs.Moves.{is_set, pass_view}
+use Rattle.lq_table.specs.States.{some_bit, recheck_view_direct, load_state_view, set_bit_view, SeesDown, SeesState, load_state_log, clear_missed_log, clear_draining_log, set_missed_log, set_draining_log, clear_sched_log}
+use Rattle.lq_table.specs.Inside.{enter_view, enter_log, leave_log}
+use Rattle.lq_table.specs.Fates.{fate_sent, settle_log}
+use Rattle.lq_table.specs.Turns.{give_turn_view, take_turn_log, give_turn_log}
+use Rattle.lq_table.specs.Stops.{load_xoff_view, load_xoff_log, store_xoff_log}
+use Rattle.lq_table.specs.Solo.{IsSole, solo, heard, missed_to}
+use Rattle.lq_table.specs.Made.{Known, Made, ◌⊳◌}
 use Rattle.lq_qdisc.specs.Calls.{Dequeues, SeesOneQueue, finding_stopped}
 use Rattle.lq_qdisc.specs.Direct.{Accepts, IsBusyAt, LaysAside}
 use Rattle.lq_qdisc.specs.Sends.{Enqueues, GetsLock, IsDue, IsLockReleased, IsRefused, Misses, came_as, trail_with, transmitting}
@@ -29,7 +34,7 @@ use Rattle.lq_qdisc.specs.declared.answers.Why.TheVariants as why
 
 -- a load of the state, in a call
 abbrev pub with_state_loaded : ℕ → Known → Known
-with_state_loaded state k = record { view = looking state k.view; steps = k.steps ⊳ did_load_state state }
+with_state_loaded state k = record { view = load_state_view state k.view; steps = k.steps ⊳ load_state_log state }
 
 -- A DEQUEUE
 
@@ -37,21 +42,21 @@ with_state_loaded state k = record { view = looking state k.view; steps = k.step
 -- now MISSED is set, and else DRAINING
 abbrev pub ClearsMaybe : Setup → ℕ → ℕ → List Made → List Made → Type 0
 ClearsMaybe k queue again old new =
-    ((again ≡ 0) × (was : Bool) × (new ≡ old ⊳ did_clear_missed ⊳ did_load_stop k queue again ⊳ did_set_missed was))
-    ⊎ ((again ≢ 0) × (was : Bool) × (new ≡ old ⊳ did_clear_missed ⊳ did_load_stop k queue again ⊳ did_set_draining was))
+    ((again ≡ 0) × (was : Bool) × (new ≡ old ⊳ clear_missed_log ⊳ load_xoff_log k queue again ⊳ set_missed_log was))
+    ⊎ ((again ≢ 0) × (was : Bool) × (new ≡ old ⊳ clear_missed_log ⊳ load_xoff_log k queue again ⊳ set_draining_log was))
 
 -- with what the seat knows after it
 abbrev pub ClearsMissedBy : Setup → ℕ → Known → Known → Type 0
-ClearsMissedBy k queue old new = (again : ℕ) × (new.view ≡ setting (loading again (passing old.view))) × ClearsMaybe k queue again old.steps new.steps
+ClearsMissedBy k queue old new = (again : ℕ) × (new.view ≡ set_bit_view (load_xoff_view again (pass_view old.view))) × ClearsMaybe k queue again old.steps new.steps
 
 -- and MISSED is set after that
 abbrev pub ClearsAndSetsBy : Setup → ℕ → Known → Known → Type 0
-ClearsAndSetsBy k queue old new = (again : ℕ) × (new.view ≡ setting (setting (loading again (passing old.view))))
-    × (cleared : List Made) × (was : Bool) × ClearsMaybe k queue again old.steps cleared × (new.steps ≡ cleared ⊳ did_set_missed was)
+ClearsAndSetsBy k queue old new = (again : ℕ) × (new.view ≡ set_bit_view (set_bit_view (load_xoff_view again (pass_view old.view))))
+    × (cleared : List Made) × (was : Bool) × ClearsMaybe k queue again old.steps cleared × (new.steps ≡ cleared ⊳ set_missed_log was)
 
 -- the queue is found stopped
 abbrev pub FindsStopWord : Setup → ℕ → Known → Known → Type 0
-FindsStopWord k queue old new = (first again : ℕ) × (first ≢ 0) × (new.view ≡ finding_stopped first again old.view) × ClearsMaybe k queue again (old.steps ⊳ did_load_stop k queue first) new.steps
+FindsStopWord k queue old new = (first again : ℕ) × (first ≢ 0) × (new.view ≡ finding_stopped first again old.view) × ClearsMaybe k queue again (old.steps ⊳ load_xoff_log k queue first) new.steps
 
 -- the first so many bands are found empty, in ascending order
 abbrev pub EmptyBelow : Setup → ℕ → Known → Known → Type 0
@@ -69,15 +74,15 @@ taken_as (Some n) = taken.Packet n
 
 -- MISSED and DRAINING are cleared
 abbrev pub both_cleared : Known → Known
-both_cleared k = record { view = passing (passing k.view); steps = k.steps ⊳ did_clear_missed ⊳ did_clear_draining }
+both_cleared k = record { view = pass_view (pass_view k.view); steps = k.steps ⊳ clear_missed_log ⊳ clear_draining_log }
 
 -- the seat has cleared both
 abbrev pub ClearsBothBy : Known → Known → Type 0
-ClearsBothBy old new = (new.view ≡ passing (passing old.view)) × (new.steps ≡ old.steps ⊳ did_clear_missed ⊳ did_clear_draining)
+ClearsBothBy old new = (new.view ≡ pass_view (pass_view old.view)) × (new.steps ≡ old.steps ⊳ clear_missed_log ⊳ clear_draining_log)
 
 -- the state is loaded; whether MISSED or DRAINING is set in it, the answer says
 abbrev pub LoadsBitsBy : Bool → Known → Known → Type 0
-LoadsBitsBy answer old new = (state : ℕ) × (answer ≡ some_bit state) × (new.view ≡ looking state old.view) × (new.steps ≡ old.steps ⊳ did_load_state state)
+LoadsBitsBy answer old new = (state : ℕ) × (answer ≡ some_bit state) × (new.view ≡ load_state_view state old.view) × (new.steps ≡ old.steps ⊳ load_state_log state)
 
 -- `pfifo_fast_dequeue` of net/sched/sch_generic.c: the bands are scanned. Where they are empty the state is loaded, and where MISSED or
 -- DRAINING is set both are cleared, and the bands scanned once more.
@@ -90,11 +95,11 @@ LooksThrough k answer old new =
 
 -- the one queue is found open
 abbrev pub found_open : Setup → Known → Known
-found_open k old = record { view = loading 0 old.view; steps = old.steps ⊳ did_load_stop k 0 0 }
+found_open k old = record { view = load_xoff_view 0 old.view; steps = old.steps ⊳ load_xoff_log k 0 0 }
 
 -- the queue of the packet in the requeue slot, or the one queue, is open first; with more queues none is asked for the bands
 abbrev pub DequeuesFrom : Setup → Option ℕ → Taken → Known → Known → Type 0
-DequeuesFrom k (Some n) answer old new = ((answer ≡ taken.Packet n) × (new.view ≡ loading 0 old.view) × (new.steps ≡ old.steps ⊳ did_load_stop k (queue_in k.infos n) 0)) ⊎ ((answer ≡ taken.Stopped) × FindsStopWord k (queue_in k.infos n) old new)
+DequeuesFrom k (Some n) answer old new = ((answer ≡ taken.Packet n) × (new.view ≡ load_xoff_view 0 old.view) × (new.steps ≡ old.steps ⊳ load_xoff_log k (queue_in k.infos n) 0)) ⊎ ((answer ≡ taken.Stopped) × FindsStopWord k (queue_in k.infos n) old new)
 DequeuesFrom k None answer old new = ((k.queues ≢ 1) × LooksThrough k answer old new)
     ⊎ ((k.queues ≡ 1) × (LooksThrough k answer (found_open k old) new ⊎ ((answer ≡ taken.Stopped) × FindsStopWord k 0 old new)))
 
@@ -108,29 +113,29 @@ pub record DequeuesBy (k : Setup) (answer : Taken) (old new : Known) : Type 0 wh
 -- the stop words of the first so many queues are stored as hung, in ascending order
 abbrev pub hung_stored : Setup → ℕ → List Made → List Made
 hung_stored k zero steps = steps
-hung_stored k (suc queue) steps = hung_stored k queue steps ⊳ did_store_stop k queue 2
+hung_stored k (suc queue) steps = hung_stored k queue steps ⊳ store_xoff_log k queue 2
 
 -- what follows an answer of the device
 abbrev pub stops_stored : Setup → Tx → ℕ → List Made → List Made
 stops_stored k tx.Sent queue steps = steps
 stops_stored k tx.Busy queue steps = steps
-stops_stored k tx.SentStop queue steps = steps ⊳ did_store_stop k queue 1
+stops_stored k tx.SentStop queue steps = steps ⊳ store_xoff_log k queue 1
 stops_stored k tx.SentHang queue steps = hung_stored k k.queues steps
 
 -- The device answered: its answer to the packet that it accepted says which stop words are stored after that packet's fate. Where it was
 -- busy MISSED is set.
 abbrev pub OffersBy : Setup → Through → ℕ → ℕ → List Made → Known → Known → Type 0
-OffersBy k through.Yes n queue from old new = (a : Accepts n queue old.view new.view) × (new.steps ≡ stops_stored k a.answer queue (from ⊳ did_store_fate k n (word_of (fate_sent old.view.holder.station))))
-OffersBy k (through.Back why.Busy) n queue from old new = IsBusyAt n queue old.view new.view × (was : Bool) × (new.steps ≡ from ⊳ did_set_missed was)
+OffersBy k through.Yes n queue from old new = (a : Accepts n queue old.view new.view) × (new.steps ≡ stops_stored k a.answer queue (from ⊳ settle_log k n (word_of (fate_sent old.view.holder.station))))
+OffersBy k (through.Back why.Busy) n queue from old new = IsBusyAt n queue old.view new.view × (was : Bool) × (new.steps ≡ from ⊳ set_missed_log was)
 OffersBy k (through.Back why.Stopped) n queue from old new = ⊥
 
 -- `sch_direct_xmit` of net/sched/sch_generic.c: where the packet's queue is open it is handed to the device; else it goes to the requeue
 -- slot, and MISSED is set
 abbrev pub DirectsBy : Setup → Through → ℕ → ℕ → Known → Known → Type 0
-DirectsBy k through.Yes n queue old new = OffersBy k through.Yes n queue (old.steps ⊳ did_load_stop k queue 0) old new
-DirectsBy k (through.Back why.Busy) n queue old new = OffersBy k (through.Back why.Busy) n queue (old.steps ⊳ did_load_stop k queue 0) old new
+DirectsBy k through.Yes n queue old new = OffersBy k through.Yes n queue (old.steps ⊳ load_xoff_log k queue 0) old new
+DirectsBy k (through.Back why.Busy) n queue old new = OffersBy k (through.Back why.Busy) n queue (old.steps ⊳ load_xoff_log k queue 0) old new
 DirectsBy k (through.Back why.Stopped) n queue old new = (l : LaysAside n queue old.view new.view)
-    × (cleared : List Made) × (was : Bool) × ClearsMaybe k queue l.again (old.steps ⊳ did_load_stop k queue l.first) cleared × (new.steps ≡ cleared ⊳ did_set_missed was)
+    × (cleared : List Made) × (was : Bool) × ClearsMaybe k queue l.again (old.steps ⊳ load_xoff_log k queue l.first) cleared × (new.steps ≡ cleared ⊳ set_missed_log was)
 
 -- A RUN
 
@@ -153,7 +158,7 @@ SendsBy k (suc sent) old new = (last : Known) × SendsBy k sent old last × Hand
 -- requeue slot. After the last packet of the quota MISSED is set.
 abbrev pub EndsBy : Setup → RunEnd → Known → Known → Type 0
 EndsBy k end.Empty old new = DequeuesBy k taken.Empty old new × SeesOneQueue taken.Empty old.view
-EndsBy k end.Quota old new = (new.view ≡ passing old.view) × (solo new.view ≡ missed_to true (solo old.view)) × (was : Bool) × (new.steps ≡ old.steps ⊳ did_set_missed was)
+EndsBy k end.Quota old new = (new.view ≡ pass_view old.view) × (solo new.view ≡ missed_to true (solo old.view)) × (was : Bool) × (new.steps ≡ old.steps ⊳ set_missed_log was)
 EndsBy k end.Stopped old new = (DequeuesBy k taken.Stopped old new × SeesOneQueue taken.Stopped old.view) ⊎ HandsBy k (through.Back why.Stopped) old new
 EndsBy k end.Busy old new = HandsBy k (through.Back why.Busy) old new
 
@@ -199,7 +204,7 @@ AttemptsBy k old new = MissesBy old new ⊎ ((got : Known) × GetsBy old got × 
 abbrev pub EnqueuesBy : Setup → ℕ → Sending → Known → Known → Type 0
 EnqueuesBy k n sending.Queued old new = Enqueues n (band_in k.infos n) sending.Queued old.view new.view × Puts k (band_in k.infos n) n old new
 EnqueuesBy k n (sending.FullSeen seen) old new = Enqueues n (band_in k.infos n) (sending.FullSeen seen) old.view new.view
-    × (full : Known) × FindsFull k (band_in k.infos n) n seen old full × (new.steps ≡ full.steps ⊳ did_store_fate k n (word_of (fate.Full seen)))
+    × (full : Known) × FindsFull k (band_in k.infos n) n seen old full × (new.steps ≡ full.steps ⊳ settle_log k n (word_of (fate.Full seen)))
 EnqueuesBy k n sending.Direct old new = ⊥
 EnqueuesBy k n (sending.Refused event) old new = ⊥
 EnqueuesBy k n (sending.OutOfTurn found) old new = ⊥
@@ -224,7 +229,7 @@ pub record GoesHeldBy (k : Setup) (n : ℕ) (answer : Sending) (old new : Known)
 -- after a packet that went past the bands: where the device accepted it the state is loaded, and where MISSED or DRAINING is set then, the
 -- bands are served
 abbrev pub FollowsBy : Setup → Through → Known → Known → Type 0
-FollowsBy k through.Yes old new = (state : ℕ) × (IsSole old.view → SeesState old.view state) × (solo (looking state old.view) ≡ solo old.view)
+FollowsBy k through.Yes old new = (state : ℕ) × (IsSole old.view → SeesState old.view state) × (solo (load_state_view state old.view) ≡ solo old.view)
     × (((some_bit state ≡ true) × RunsToEndBy k (with_state_loaded state old) new) ⊎ ((some_bit state ≡ false) × ReleasesBy (with_state_loaded state old) new))
 FollowsBy k (through.Back reason) old new = ReleasesBy old new
 
@@ -234,14 +239,14 @@ PassesBandsBy k n old new = (handed : Through) × (after : Known) × DirectsBy k
 
 -- a load of the state under the run lock, after which the packet n is in hand
 abbrev pub gone : ℕ → ℕ → Known → Known
-gone n state k = record { view = going n state k.view; steps = k.steps ⊳ did_load_state state }
+gone n state k = record { view = recheck_view_direct n state k.view; steps = k.steps ⊳ load_state_log state }
 
 -- past the bands: the state was loaded under the run lock with MISSED and DRAINING clear
 pub record GoesPastBy (k : Setup) (n : ℕ) (old new : Known) : Type 0 where
   pub state : ℕ
   pub clear : some_bit state ≡ false
   pub sees : IsSole old.view → SeesState old.view state
-  pub step : solo (going n state old.view) ≡ heard (DirectEvent n) (solo old.view)
+  pub step : solo (recheck_view_direct n state old.view) ≡ heard (DirectEvent n) (solo old.view)
   pub handed : Through
   pub after : Known
   pub direct : DirectsBy k handed n (queue_in k.infos n) (gone n state old) after
@@ -258,12 +263,12 @@ TriesToPassBy k n answer old new = ((missed : Known) × MissesBy old missed × G
 -- the station is deactivated: the packet is refused, and its fate stored
 abbrev pub RefusesBy : Setup → ℕ → Sending → ℕ → Known → Known → Type 0
 RefusesBy k n answer state old new = (event : ℕ) × (answer ≡ sending.Refused event) × IsRefused n event state old.view new.view
-    × (new.steps ≡ old.steps ⊳ did_load_state state ⊳ did_store_fate k n (word_of (fate.Refused event)))
+    × (new.steps ≡ old.steps ⊳ load_state_log state ⊳ settle_log k n (word_of (fate.Refused event)))
 
 -- its fate is stored, where the state was loaded as this word
 abbrev pub StoresRefused : Setup → ℕ → ℕ → Sending → List Made → List Made → Type 0
 StoresRefused k n state answer old new = (event : ℕ) × (bits : ℕ) × (bits < 16) × (state ≡ bits + 256 * (event + 1)) × (answer ≡ sending.Refused event)
-    × (new ≡ old ⊳ did_store_fate k n (word_of (fate.Refused event)))
+    × (new ≡ old ⊳ settle_log k n (word_of (fate.Refused event)))
 
 -- `__dev_xmit_skb` of net/core/dev.c, the part for a qdisc with `TCQ_F_NOLOCK`
 pub record GoesBy (k : Setup) (n : ℕ) (answer : Sending) (old new : Known) : Type 0 where
@@ -276,11 +281,11 @@ pub record GoesBy (k : Setup) (n : ℕ) (answer : Sending) (old new : Known) : T
 
 -- the turn of the packet n is taken, and the call begins
 abbrev pub transmit_begun : ℕ → Setup → Known → Known
-transmit_begun n k old = record { view = transmitting k.infos n old.view; steps = old.steps ⊳ did_take_turn (owner_in k.infos n) (rank_in k.infos n) true ⊳ did_enter }
+transmit_begun n k old = record { view = transmitting k.infos n old.view; steps = old.steps ⊳ take_turn_log (owner_in k.infos n) (rank_in k.infos n) true ⊳ enter_log }
 
 -- the call ends, and then the turn is given back
 abbrev pub transmit_over : ℕ → Setup → Known → Known
-transmit_over n k last = record { view = giving_turn (owner_in k.infos n) (rank_in k.infos n) (passing last.view); steps = last.steps ⊳ did_leave ⊳ did_give_turn (owner_in k.infos n) (rank_in k.infos n) }
+transmit_over n k last = record { view = give_turn_view (owner_in k.infos n) (rank_in k.infos n) (pass_view last.view); steps = last.steps ⊳ leave_log ⊳ give_turn_log (owner_in k.infos n) (rank_in k.infos n) }
 
 -- `__dev_queue_xmit` of net/core/dev.c, of a packet whose turn it is
 pub record TransmitsBy (k : Setup) (n : ℕ) (answer : Sending) (old new : Known) : Type 0 where
@@ -297,15 +302,15 @@ pub record TransmitsBy (k : Setup) (n : ℕ) (answer : Sending) (old new : Known
 -- SCHED was cleared; what the loads of the state showed says whether the bands are served
 abbrev pub IsDueBy : Bool → Known → Known → Type 0
 IsDueBy due old new = (d : IsDue due old.view new.view)
-    × ((is_set 2 d.first ≡ false → new.steps ≡ old.steps ⊳ did_load_state d.first ⊳ did_clear_sched)
-    × ((on : is_set 2 d.first ≡ true) → new.steps ≡ old.steps ⊳ did_load_state d.first ⊳ did_clear_sched ⊳ did_load_state (d.deactivated on).0))
+    × ((is_set 2 d.first ≡ false → new.steps ≡ old.steps ⊳ load_state_log d.first ⊳ clear_sched_log)
+    × ((on : is_set 2 d.first ≡ true) → new.steps ≡ old.steps ⊳ load_state_log d.first ⊳ clear_sched_log ⊳ load_state_log (d.deactivated on).0))
 
 -- the call begins, as a soft interrupt, and ends
 abbrev pub softirq_begun : Known → Known
-softirq_begun k = record { view = entering k.view; steps = k.steps ⊳ did_enter }
+softirq_begun k = record { view = enter_view k.view; steps = k.steps ⊳ enter_log }
 
 abbrev pub softirq_over : Known → Known
-softirq_over k = record { view = passing k.view; steps = k.steps ⊳ did_leave }
+softirq_over k = record { view = pass_view k.view; steps = k.steps ⊳ leave_log }
 
 -- `net_tx_action` of net/core/dev.c for one qdisc: the bands are served, unless the station is deactivated still
 pub record InterruptsBy (k : Setup) (old new : Known) : Type 0 where

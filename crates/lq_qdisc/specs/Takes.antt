@@ -4,8 +4,9 @@ use Rattle.lq_model.specs.declared.machine.Position.TheVariants.{ClearMissed, De
 use Rattle.lq_run.specs.Runs.{begins}
 use Rattle.lq_table.specs.Made.{Known}
 use Rattle.lq_table.specs.Sees.{view, known, setup, position, slot, packet_at}
-use Rattle.lq_table.specs.Solo.{IsSole, laid, solo}
-use Rattle.lq_table.specs.Told.{IsPacketOf}
+use Rattle.lq_table.specs.Solo.{IsSole, solo}
+use Rattle.lq_table.specs.States.{set_bit_alone}
+use Rattle.lq_table.specs.Moves.{IsPacketOf}
 use Rattle.lq_table.specs.declared.shared.Cpu.{Cpu}
 use Rattle.lq_table.specs.declared.shared.Shared.{Shared}
 use Rattle.lq_table.specs.Views.{Setup}
@@ -99,7 +100,7 @@ module _ {D : Type 0} where
     pub heard : (view a).whole.state ≡ with_back (position b) (view b).whole.state
     pub fates : IsSettledSame b a
     pub stopped : ClearsMissedBy (setup t) queue (known b) (known a)
-    pub sole : ClearsMissedAlone queue (laid (view b)) (view b) (view a)
+    pub sole : ClearsMissedAlone queue (set_bit_alone (view b)) (view b) (view a)
 
 -- A RUN
 

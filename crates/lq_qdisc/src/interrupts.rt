@@ -7,7 +7,7 @@ ghost use Rattle.lq_table.specs.Views.{first_account};
 ghost use Rattle.lq_qdisc.specs.Alone.{Does};
 ghost use Rattle.lq_table.specs.Sees.{view, known, setup, position, IsSeatOf, IsElseSame};
 ghost use Rattle.lq_table.specs.Solo.{solo};
-ghost use Rattle.lq_table.specs.Told.{at_rest};
+ghost use Rattle.lq_table.specs.Moves.{at_rest};
 ghost use Rattle.lq_qdisc.specs.Calls.{KeepsFates};
 ghost use Rattle.lq_qdisc.specs.Steps.{InterruptsBy, IsDueBy};
 ghost use Rattle.lq_qdisc.specs.Sends.{IsCallKept, IsReadyToSend, IsStill, IsStillWithHolder, Wakes, WakesBelow};

@@ -4,7 +4,9 @@ ghost use Rattle.lq_model.specs.declared.machine.Position.TheVariants.{Put};
 ghost use Rattle.lq_ring.specs.Put.{no_locks};
 ghost use Rattle.lq_ring.specs.Seats.{GoesOnFromPut};
 ghost use Rattle.lq_table.specs.Sees.{view, known, steps, setup, position, slot, packet_at, IsSeatOf, IsSameSeat, IsElseSame};
-ghost use Rattle.lq_table.specs.Told.{is_set, some_bit, paying};
+ghost use Rattle.lq_table.specs.Moves.{is_set};
+ghost use Rattle.lq_table.specs.States.{some_bit};
+ghost use Rattle.lq_table.specs.Fates.{settle_view_owed};
 ghost use Rattle.lq_table.specs.Solo.{solo};
 ghost use Rattle.lq_qdisc.specs.Steps.{AttemptsBy, EnqueuesAndRunsBy, EnqueuesBy, FollowsBy, GoesBy, GoesLockedBy, GoesThroughBy, PassesBandsBy, RunsToEndBy, StoresRefused, TriesToPassBy};
 ghost use Rattle.lq_qdisc.specs.Sends.{IsBringing, OwesRefused};
@@ -184,7 +186,7 @@ fn refuse<'a, D: TxDevice>(shared: &Shared<'a, D>, cpu: &mut Cpu<D>, n: u32, sta
     requires packet { n < length shared.now.infos.now }
     requires state { OwesRefused n state (view cpu.old) }
     ensures same { IsElseSame cpu.old cpu.new }
-    ensures view { view cpu.new ≡ paying (view cpu.old) }
+    ensures view { view cpu.new ≡ settle_view_owed (view cpu.old) }
     ensures event { StoresRefused (setup shared.now) n state result (steps cpu.old) (steps cpu.new) }
     ensures step { solo (view cpu.new) ≡ solo (view cpu.old) }
 {

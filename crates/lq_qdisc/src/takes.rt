@@ -5,7 +5,7 @@ ghost use Rattle.lq_model.specs.Steps.{queue_of_blocked};
 ghost use Rattle.lq_model.specs.declared.machine.Blocked.{Blocked};
 ghost use Rattle.lq_model.specs.declared.machine.Position.TheVariants.{BlockedClear, Scan, Test, ClearMissed, Deq};
 ghost use Rattle.lq_table.specs.Sees.{view, setup, position, slot, IsSeatOf};
-ghost use Rattle.lq_table.specs.Told.{IsPacketOf};
+ghost use Rattle.lq_table.specs.Moves.{IsPacketOf};
 ghost use Rattle.lq_device.specs.Station.{StationState, with_slot};
 ghost use Rattle.lq_table.specs.Rule.{shown};
 ghost use Rattle.lq_ring.specs.Calls.{ChangesStation};

@@ -13,8 +13,8 @@ use Rattle.lq_band_laws.specs.Ring.{Ends, Lock, locked_at}
 use Rattle.lq_band_laws.specs.HalfResized.{IsBeforeResize, IsRefilled}
 use Rattle.lq_band_laws.proofs.Three.{at_put_other, three_cases}
 use Rattle.lq_table.specs.Views.{View, HalfResize, Work, no_resizing}
-use Rattle.lq_table.specs.Resizes.{resizing_of, beginning, with_work, restarted}
-use Rattle.lq_table.specs.Rings.{with_lock_at}
+use Rattle.lq_table.specs.Resizes.{resizing_of, begin_resize_view, with_work, store_size_view}
+use Rattle.lq_table.specs.Producers.{with_lock_at}
 use Rattle.lq_table.specs.Rule.{shown}
 use Rattle.lq_ring.specs.Fates.{fates_onto}
 use Rattle.lq_ring.specs.Work.{work_at, working, having_settled, event_of_work, IsTurner, IsWorkBegun, IsWorkDone}
@@ -44,7 +44,7 @@ work_else b c w v t below below' other =
 
 -- THE BEGINNING
 
-module _ (limit size len event : ℕ) (infos : List Info) (held : ℕ → List ℕ) (slots : Three (List ℕ)) (v v1 : View) (begun : v1 ≡ beginning (resizing_of len event held slots) v) where
+module _ (limit size len event : ℕ) (infos : List Info) (held : ℕ → List ℕ) (slots : Three (List ℕ)) (v v1 : View) (begun : v1 ≡ begin_resize_view (resizing_of len event held slots) v) where
   abbrev t0 : HalfResize
   t0 = resizing_of len event held slots
 
@@ -81,7 +81,7 @@ ready_step limit size len event infos st b c w l fates v v' below below' other e
 
 -- THE END
 
-module _ (len event : ℕ) (held : ℕ → List ℕ) (slots : Three (List ℕ)) (v v1 v2 v3 v4 : View) (w0 w1 w2 : Work) (i0 i1 i2 : ℕ) (begun : v1 ≡ beginning (resizing_of len event held slots) v)
+module _ (len event : ℕ) (held : ℕ → List ℕ) (slots : Three (List ℕ)) (v v1 v2 v3 v4 : View) (w0 w1 w2 : Work) (i0 i1 i2 : ℕ) (begun : v1 ≡ begin_resize_view (resizing_of len event held slots) v)
     (e2 : v2 ≡ with_lock_at 0 (locked_at i0) (having_settled (fates_onto (fate.Shrunk event) (work_at 0 v1).waiting v1.settled) (working 0 w0 v1)))
     (e3 : v3 ≡ with_lock_at 1 (locked_at i1) (having_settled (fates_onto (fate.Shrunk event) (work_at 1 v2).waiting v2.settled) (working 1 w1 v2)))
     (e4 : v4 ≡ with_lock_at 2 (locked_at i2) (having_settled (fates_onto (fate.Shrunk event) (work_at 2 v3).waiting v3.settled) (working 2 w2 v3))) where
@@ -125,11 +125,11 @@ module _ (len event : ℕ) (held : ℕ → List ℕ) (slots : Three (List ℕ)) 
       (λ j. fates_onto (fate.Shrunk event) (waits2 j) ((ap (λ (x : View). x.settled) e3 ∙ two) j))
       ∙ (fates_append (fate.Shrunk event) (drop len (held 1)) (drop len (held 2)) (fates_onto (fate.Shrunk event) (drop len (held 0)) v.settled) ∙ fates_append (fate.Shrunk event) (drop len (held 0)) (drop len (held 1) ++ drop len (held 2)) v.settled)
 
-  -- all steps from the beginning to the store of the new length
-  pub resize_is : (t : HalfResize) (v5 : View) → t.len ≡ len → v5 ≡ restarted t v4 → v5 ≡ having_locks i0 i1 i2 (having_resized len event (all_lost len held) v)
+  -- all steps from the begin_resize_view to the store of the new length
+  pub resize_is : (t : HalfResize) (v5 : View) → t.len ≡ len → v5 ≡ store_size_view t v4 → v5 ≡ having_locks i0 i1 i2 (having_resized len event (all_lost len held) v)
   resize_is t v5 len_is e5 =
-      let at3 = λ (x : View). restarted t (with_lock_at 2 (locked_at i2) (having_settled fates3 (working 2 w2 x))) in
+      let at3 = λ (x : View). store_size_view t (with_lock_at 2 (locked_at i2) (having_settled fates3 (working 2 w2 x))) in
       let at2 = λ (x : View). at3 (with_lock_at 1 (locked_at i1) (having_settled fates2 (working 1 w1 x))) in
       let at1 = λ (x : View). at2 (with_lock_at 0 (locked_at i0) (having_settled fates1 (working 0 w0 x))) in
-      e5 ∙ (ap (restarted t) e4 ∙ (ap at3 e3 ∙ (ap at2 e2 ∙ (ap at1 begun
+      e5 ∙ (ap (store_size_view t) e4 ∙ (ap at3 e3 ∙ (ap at2 e2 ∙ (ap at1 begun
       ∙ (λ j. record (having_locks i0 i1 i2 (having_resized len event (all_lost len held) v)) { settled = fates_are j; holder = record (having_resized len event (all_lost len held) v).holder { size = len_is j } })))))

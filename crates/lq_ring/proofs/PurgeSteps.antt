@@ -14,7 +14,7 @@ use Rattle.lq_band_laws.proofs.Three.{at_put_same, put_at}
 use Rattle.lq_band_laws.proofs.Kept.{rest_after}
 use Rattle.lq_table.specs.Views.{View, Left}
 use Rattle.lq_table.specs.Rule.{shown}
-use Rattle.lq_table.specs.Purges.{passing_band, purged_one}
+use Rattle.lq_table.specs.Purges.{purge_slot_view_empty, purged_one}
 use Rattle.lq_ring.specs.Fates.{fates_onto}
 use Rattle.lq_ring.specs.Purged.{purging_one, purged_by, purged_to, IsPurgedTo, IsBandPurged, going_on}
 use Rattle.lq_ring.proofs.PutSteps.{put_put}
@@ -100,16 +100,16 @@ next_purged b k n l v u w none_owed p first is =
       alone = p.alone;
     }
 
-pub all_purged : (b k : ℕ) (u0 : Purge) (l : Left) (v u w : View) → IsPurgedTo b k l v u → held_of (at b (purged_by b k l).bands) ≡ [] → w ≡ passing_band u0 u → IsBandPurged b u0 l v w × (k ≡ length (held_of (at b l.bands)))
+pub all_purged : (b k : ℕ) (u0 : Purge) (l : Left) (v u w : View) → IsPurgedTo b k l v u → held_of (at b (purged_by b k l).bands) ≡ [] → w ≡ purge_slot_view_empty u0 u → IsBandPurged b u0 l v w × (k ≡ length (held_of (at b l.bands)))
 all_purged b k u0 l v u w p none_left is =
     let held : List ℕ = held_of (at b l.bands) in let few = p.few in let dl = length-drop k held in
     let gone : length (drop k held) ≡ 0 = ap length (sym (held_left b k l) ∙ none_left) in
     let all : k ≡ length held = omega arith in
-    let y : View = passing_band u0 (purged_to b k l p.ends p.whole v) in (
+    let y : View = purge_slot_view_empty u0 (purged_to b k l p.ends p.whole v) in (
       record {
         ends = p.ends;
         whole = y.whole;
-        is = is ∙ (ap (passing_band u0) p.is ∙ ap (λ (z : ℕ). record (purged_to b z l p.ends p.whole (going_on u0 v)) { whole = y.whole }) all);
+        is = is ∙ (ap (purge_slot_view_empty u0) p.is ∙ ap (λ (z : ℕ). record (purged_to b z l p.ends p.whole (going_on u0 v)) { whole = y.whole }) all);
         few = omega arith;
         rests = p.rests;
         told = p.told;

@@ -6,16 +6,19 @@ use Rattle.lq_band_laws.specs.Ring.{Ends, is_emptying}
 use Rattle.lq_model.specs.Words.{word_of}
 use Rattle.lq_model.specs.declared.fate.Fate.{Fate}
 use Rattle.lq_table.specs.Views.{Setup}
-use Rattle.lq_table.specs.Made.{Made, ◌⊳◌, did_load_producer, did_take_producer, did_store_fate, did_store_slot, did_swap_slot}
+use Rattle.lq_table.specs.Made.{Made, ◌⊳◌}
+use Rattle.lq_table.specs.Producers.{load_producer_log, take_producer_log, store_slot_log}
+use Rattle.lq_table.specs.Fates.{settle_log}
+use Rattle.lq_table.specs.Resizes.{clear_slot_log}
 use Rattle.lq_ring.specs.Take.{emptied_count}
 use Rattle.lq_ring.specs.Steps.{Spins, held, lost, zeroed}
 use Rattle.lq_ring.specs.Changes.{TurnsRing, not_yet as unturned, took_out, put_back, dropped}
 
-pub spins_held : (band seen : ℕ) (old a b : List Made) → seen % 2 ≢ 0 → Spins band old a → b ≡ a ⊳ did_load_producer band seen → Spins band old b
+pub spins_held : (band seen : ℕ) (old a b : List Made) → seen % 2 ≢ 0 → Spins band old a → b ≡ a ⊳ load_producer_log band seen → Spins band old b
 spins_held band seen old a b odd h e = subst (Spins band old) (sym e) (held a seen odd h)
 
-pub spins_lost : (band seen : ℕ) (old a b c : List Made) → seen % 2 ≡ 0 → Spins band old a → b ≡ a ⊳ did_load_producer band seen → c ≡ b ⊳ did_take_producer band seen false → Spins band old c
-spins_lost band seen old a b c even h e f = subst (Spins band old) (sym (f ∙ ap (λ (xs : List Made). xs ⊳ did_take_producer band seen false) e)) (lost a seen even h)
+pub spins_lost : (band seen : ℕ) (old a b c : List Made) → seen % 2 ≡ 0 → Spins band old a → b ≡ a ⊳ load_producer_log band seen → c ≡ b ⊳ take_producer_log band seen false → Spins band old c
+spins_lost band seen old a b c even h e f = subst (Spins band old) (sym (f ∙ ap (λ (xs : List Made). xs ⊳ take_producer_log band seen false) e)) (lost a seen even h)
 
 -- A BAND IS TURNED
 
@@ -26,13 +29,13 @@ module _ (k : Setup) (band : ℕ) where
   turns_then old mid _ h (put_back steps i word t) = put_back steps i word (turns_then old mid steps h t)
   turns_then old mid _ h (dropped steps n fate t) = dropped steps n fate (turns_then old mid steps h t)
 
-  pub turns_out : (old a b : List Made) (i found : ℕ) → TurnsRing k band old a → b ≡ a ⊳ did_swap_slot k band i found → TurnsRing k band old b
+  pub turns_out : (old a b : List Made) (i found : ℕ) → TurnsRing k band old a → b ≡ a ⊳ clear_slot_log k band i found → TurnsRing k band old b
   turns_out old a b i found h e = subst (TurnsRing k band old) (sym e) (took_out a i found h)
 
-  pub turns_back : (old new : List Made) (i word : ℕ) → new ≡ old ⊳ did_store_slot k band i word → TurnsRing k band old new
+  pub turns_back : (old new : List Made) (i word : ℕ) → new ≡ old ⊳ store_slot_log k band i word → TurnsRing k band old new
   turns_back old new i word e = subst (TurnsRing k band old) (sym e) (put_back old i word unturned)
 
-  pub turns_dropped : (old new : List Made) (n : ℕ) (fate : Fate) → new ≡ old ⊳ did_store_fate k n (word_of fate) → TurnsRing k band old new
+  pub turns_dropped : (old new : List Made) (n : ℕ) (fate : Fate) → new ≡ old ⊳ settle_log k n (word_of fate) → TurnsRing k band old new
   turns_dropped old new n fate e = subst (TurnsRing k band old) (sym e) (dropped old n fate unturned)
 
 -- A TAKE

@@ -17,14 +17,14 @@ use Rattle.lq_band_laws.proofs.Three.{at_put_same, put_at}
 use Rattle.lq_band_laws.proofs.Kept.{rest_after, down_more, down_here, down_all}
 use Rattle.lq_table.specs.Views.{View, HolderPart, machine_packet}
 use Rattle.lq_table.specs.Rule.{IsResting, shown}
-use Rattle.lq_table.specs.Told.{seen_band}
-use Rattle.lq_table.specs.Rings.{emptying, taking, finding_none, sized}
+use Rattle.lq_table.specs.Consumers.{seen_band, zero_slot_view, head_slot_view, head_slot_view_empty}
+use Rattle.lq_table.specs.Producers.{load_size_view}
 use Rattle.lq_table.specs.Solo.{solo, heard}
 use Rattle.lq_ring.specs.Put.{no_locks}
 use Rattle.lq_ring.specs.Take.{having_ends, emptied_times, emptied_count, consuming}
 use Rattle.lq_ring.proofs.PutSteps.{put_put}
 
-pub emptying_having : (b : ℕ) (e d : Ends) (v : View) → emptying b (having_ends b e d v) ≡ having_ends b (emptied_on v.holder.size e) (emptied_on v.holder.size d) v
+pub emptying_having : (b : ℕ) (e d : Ends) (v : View) → zero_slot_view b (having_ends b e d v) ≡ having_ends b (emptied_on v.holder.size e) (emptied_on v.holder.size d) v
 emptying_having b e d v =
     let size = v.holder.size in
     let step : (x : Ends) (t : Three Ends) → put b (emptied_on size (at b (put b x t))) (put b x t) ≡ put b (emptied_on size x) t = λ x t. ap (λ (y : Ends). put b (emptied_on size y) (put b x t)) (at_put_same b x t) ∙ put_put b (emptied_on size x) x t in
@@ -63,11 +63,11 @@ rest_put size (suc zero) c e r h = (r.0, h, r.2)
 rest_put size (suc (suc b)) c e r h = (r.0, r.1, h)
 
 -- a seat with no producer lock learns nothing of the size that it loads
-pub sized_none : (z : ℕ) (v : View) → v.locks ≡ no_locks → sized z v ≡ v
+pub sized_none : (z : ℕ) (v : View) → v.locks ≡ no_locks → load_size_view z v ≡ v
 sized_none z v e =
     ap (λ (ls : Three Lock). record v { locks = record { low = sized_if z ls.low; mid = sized_if z ls.mid; high = sized_if z ls.high } }) e ∙ (λ j. record v { locks = sym e j })
 
--- the emptying that a take asks, where the packet was taken as t says
+-- the zero_slot_view that a take asks, where the packet was taken as t says
 pub takes_end : (b z size : ℕ) (c d : Ends) (t v2 v3 : View) → z ≡ size → v2 ≡ t → at b t.holder.ends ≡ taken_on c → at b t.whole.state.ends ≡ taken_on d
     → (is_emptying z (at b v2.holder.ends) ≡ true → v3 ≡ having_ends b (all_empty z (at b v2.holder.ends)) (emptied_times z ((at b v2.holder.ends).head - (at b v2.holder.ends).tail) (at b v2.whole.state.ends)) v2)
     → (is_emptying z (at b v2.holder.ends) ≡ false → v3 ≡ v2) → v3 ≡ having_ends b (after_take size c) (emptied_times size (emptied_count size (taken_on c)) (taken_on d)) t
@@ -83,12 +83,12 @@ takes_end b z size c d t v2 v3 is_size took own known emptied rested =
     ∙ sym (λ j. having_ends b (if idle j then all_empty size (taken_on c) else taken_on c) (emptied_times size (if idle j then (taken_on c).head - (taken_on c).tail else 0) (taken_on d)) t)))))
     (cases_Bool (is_emptying size (taken_on c)))
 
--- a take, and the emptying that it asks
-pub consumes : (b n z : ℕ) (v v2 v3 : View) → z ≡ v.holder.size → v2 ≡ taking b n v
+-- a take, and the zero_slot_view that it asks
+pub consumes : (b n z : ℕ) (v v2 v3 : View) → z ≡ v.holder.size → v2 ≡ head_slot_view b n v
     → (is_emptying z (at b v2.holder.ends) ≡ true → v3 ≡ having_ends b (all_empty z (at b v2.holder.ends)) (emptied_times z ((at b v2.holder.ends).head - (at b v2.holder.ends).tail) (at b v2.whole.state.ends)) v2)
     → (is_emptying z (at b v2.holder.ends) ≡ false → v3 ≡ v2) → v3 ≡ consuming b n v
 consumes b n z v v2 v3 is_size took emptied rested =
-    takes_end b z v.holder.size (at b v.holder.ends) (at b v.whole.state.ends) (taking b n v) v2 v3 is_size took (at_put_same b _ v.holder.ends) (at_put_same b _ v.whole.state.ends) emptied rested
+    takes_end b z v.holder.size (at b v.holder.ends) (at b v.whole.state.ends) (head_slot_view b n v) v2 v3 is_size took (at_put_same b _ v.holder.ends) (at_put_same b _ v.whole.state.ends) emptied rested
 
 -- it leaves all three at rest, and the station as the holder knows it
 pub ends_after : (b n : ℕ) (v w : View) → w ≡ consuming b n v → w.holder.ends ≡ put b (after_take v.holder.size (at b v.holder.ends)) v.holder.ends
@@ -123,11 +123,11 @@ raised_scan [] b second q s = refl
 raised_scan (p ∷ ps) b second q s = refl
 
 module _ (b : ℕ) (second : Bool) (v : View) (here : v.place.position ≡ Scan b second) where
-  pub none_leads : b < 3 → (finding_none b v).place.position ≡ after_band b second
+  pub none_leads : b < 3 → (head_slot_view_empty b v).place.position ≡ after_band b second
   none_leads below =
       ap (λ (y : Position). (step_at y Plain (seen_band b []) v.place).seat.position) here ∙ ap (λ (ps : List Packet). (scan ps b second (seen_band b []) v.place).seat.position) (one_band b [] below)
 
-  pub take_leads : (n : ℕ) → b < 3 → (taking b n v).place.position ≡ Gate (machine_packet v.share.about.infos n) false
+  pub take_leads : (n : ℕ) → b < 3 → (head_slot_view b n v).place.position ≡ Gate (machine_packet v.share.about.infos n) false
   take_leads n below =
       let ps = machine_packet v.share.about.infos n ∷ [] in
       ap (λ (y : Position). (step_at y Plain (seen_band b ps) v.place).seat.position) here ∙ ap (λ (qs : List Packet). (scan qs b second (seen_band b ps) v.place).seat.position) (one_band b ps below)
@@ -138,7 +138,7 @@ module _ (b : ℕ) (second : Bool) (v : View) (here : v.place.position ≡ Scan 
   raised : (seen : Qdisc) → (step_at v.place.position Plain seen v.place).seat.raised ≡ v.place.raised
   raised seen = ap (λ (y : Position). (step_at y Plain seen v.place).seat.raised) here ∙ raised_scan (band_at seen b) b second seen v.place
 
-  pub none_heard : solo (finding_none b v) ≡ solo v
+  pub none_heard : solo (head_slot_view_empty b v) ≡ solo v
   none_heard = let a = raised (seen_band b []) in let w = words.1 in let h = solo v in
       λ j. record h { raised = a j; whole = record h.whole { missed = (w j).missed; draining = (w j).draining; scheduled = (w j).sched; locked = (w j).locked } }
 

@@ -15,7 +15,7 @@ use Rattle.lq_band_laws.proofs.Three.{at_put_same, put_at}
 use Rattle.lq_table.specs.Views.{View, HalfResize, Work, no_resizing}
 use Rattle.lq_table.specs.Resizes.{is_word, is_member, hand_with, out_of, into, with_work, with_resizing, settled_work}
 use Rattle.lq_ring.proofs.PutSteps.{put_put}
-use Rattle.lq_table.specs.Settled.{shrinking}
+use Rattle.lq_table.specs.Fates.{settle_view_shrunk}
 use Rattle.lq_ring.specs.Work.{having_settled, work_at, working, IsTurner, AreMembers, members_of, back_in, with_slots, exchanged, reversed_to, rotated, zeroed_to, settled_if, dropped_to, event_of_work, shrunk_if, shrunk_to}
 
 -- THE VIEW
@@ -361,12 +361,12 @@ pub work_of : (b : ℕ) (v : View) (t : HalfResize) → v.holder.resizing ≡ So
 work_of b v t e = ap (λ (o : Option HalfResize). at b (unwrap_or o no_resizing).works) e
 
 -- the store of a fate as a step on the work
-pub shrunk_is : (b b' x event : ℕ) (v : View) (t : HalfResize) → v.holder.resizing ≡ Some t → b' ≡ b → x ≢ 0 → shrinking b' (x - 1) event v ≡ having_settled (shrunk_if x event v.settled) (working b (settled_if x (work_at b v)) v)
+pub shrunk_is : (b b' x event : ℕ) (v : View) (t : HalfResize) → v.holder.resizing ≡ Some t → b' ≡ b → x ≢ 0 → settle_view_shrunk b' (x - 1) event v ≡ having_settled (shrunk_if x event v.settled) (working b (settled_if x (work_at b v)) v)
 shrunk_is b b' x event v t e same some_ =
     let step : with_resizing (option_map (λ (t : HalfResize). with_work b (settled_work (at b t.works)) t) v.holder.resizing) v ≡ working b (settled_if x (work_at b v)) v =
     ap (λ (o : Option HalfResize). with_resizing (option_map (λ (t : HalfResize). with_work b (settled_work (at b t.works)) t) o) v) e ∙ (told_work b settled_work v t e ∙ ap (λ (w : Work). working b w v) (sym (settled_one x (work_at b v) some_))) in
     let fates : (x - 1, fate.Shrunk event) ∷ v.settled ≡ shrunk_if x event v.settled = sym (ap (λ (c : Bool). if c then v.settled else (x - 1, fate.Shrunk event) ∷ v.settled) (ne_eqb x 0 some_)) in
-    ap (λ (z : ℕ). shrinking z (x - 1) event v) same ∙ (λ j. having_settled (fates j) (step j))
+    ap (λ (z : ℕ). settle_view_shrunk z (x - 1) event v) same ∙ (λ j. having_settled (fates j) (step j))
 
 pub into_is : (i x : ℕ) (hand : List ℕ) (w : Work) → x ≢ 0 → w.hand ≡ (x - 1) ∷ hand → into i (x - 1) hand w ≡ back_in i x w
 into_is i x hand w some_ e = sym (back_word i x w some_ ∙ (λ j. record w { slots = set w.slots i ((let q : x ≡ x - 1 + 1 = omega arith in q) j); hand = drop 1 (e j) }))

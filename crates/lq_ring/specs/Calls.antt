@@ -8,13 +8,13 @@ use Rattle.lq_model.specs.declared.fate.Fate.TheVariants as fate
 use Rattle.lq_model.specs.declared.machine.Position.TheVariants.{Put, Scan}
 use Rattle.lq_ring_core.specs.declared.ring.Full.{Full}
 use Rattle.lq_band_laws.specs.Ring.{is_emptying}
-use Rattle.lq_table.specs.Made.{◌⊳◌, did_swap_slot}
-use Rattle.lq_table.specs.Resizes.{out_of}
+use Rattle.lq_table.specs.Made.{◌⊳◌}
+use Rattle.lq_table.specs.Resizes.{clear_slot_log, out_of}
 use Rattle.lq_table.specs.Rule.{IsResting}
 use Rattle.lq_table.specs.Sees.{view, known, steps, setup, position, slot, packet_at, ends_at, lock_at, IsSameSeat, IsElseSame, Brings}
 use Rattle.lq_table.specs.Solo.{IsSole, account_of}
-use Rattle.lq_table.specs.SolePut.{SeesEnd}
-use Rattle.lq_table.specs.Told.{IsPacketOf}
+use Rattle.lq_table.specs.Producers.{SeesEnd}
+use Rattle.lq_table.specs.Moves.{IsPacketOf}
 use Rattle.lq_table.specs.Views.{View}
 use Rattle.lq_table.specs.declared.shared.Cpu.{Cpu}
 use Rattle.lq_table.specs.declared.shared.Shared.{Shared}
@@ -170,7 +170,7 @@ module _ {D : Type 0} where
   -- A slot was emptied, which had this word.
   pub record TakesOut (t : Shared D) (band i word : ℕ) (b a : Cpu D) : Type 0 where
     pub same : IsElseSame b a
-    pub made : steps a ≡ steps b ⊳ did_swap_slot (setup t) band i word
+    pub made : steps a ≡ steps b ⊳ clear_slot_log (setup t) band i word
     pub found : IsSlotWord i word (work_at band (view b))
     pub taken : view a ≡ working band (out_of i (work_at band (view b))) (view b)
 

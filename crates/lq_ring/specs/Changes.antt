@@ -10,7 +10,10 @@ use Rattle.lq_ring.specs.Purged.{IsBandPurged}
 use Rattle.lq_ring.specs.Take.{emptied_count}
 use Rattle.lq_ring.specs.Resized.{HoldOwnPackets, IsKnownHeld, all_lost, having_resized}
 use Rattle.lq_table.specs.Views.{Left, Setup}
-use Rattle.lq_table.specs.Made.{Known, Made, ◌⊳◌, did_give_producer, did_set_producer, did_load_size, did_store_size, did_load_slot, did_store_slot, did_swap_slot, did_store_fate}
+use Rattle.lq_table.specs.Made.{Known, Made, ◌⊳◌}
+use Rattle.lq_table.specs.Producers.{give_producer_log, load_size_log, load_slot_log, store_slot_log}
+use Rattle.lq_table.specs.Resizes.{set_producer_log, store_size_log, clear_slot_log}
+use Rattle.lq_table.specs.Fates.{settle_log}
 use Rattle.lq_ring.specs.Steps.{LocksProducer, zeroed}
 
 -- PURGES
@@ -18,13 +21,13 @@ use Rattle.lq_ring.specs.Steps.{LocksProducer, zeroed}
 -- In rings of this size whose consumer is at these ends: the packet n was taken from the slot at the head, its fate was stored, and
 -- the slots taken are emptied as after a take.
 abbrev pub purging_steps : Setup → ℕ → Fate → ℕ → Ends → ℕ → List Made → List Made
-purging_steps k band fate size c n steps = zeroed k band (c.head + 1) (emptied_count size (taken_on c)) (steps ⊳ did_load_slot k band c.head (n + 1) ⊳ did_store_fate k n (word_of fate))
+purging_steps k band fate size c n steps = zeroed k band (c.head + 1) (emptied_count size (taken_on c)) (steps ⊳ load_slot_log k band c.head (n + 1) ⊳ settle_log k n (word_of fate))
 
 -- the first packet that the band held was, or else the slot at the head was loaded as 0
 pub record PurgesOneOrNone (k : Setup) (band : ℕ) (fate : Fate) (one : Bool) (old new : Known) : Type 0 where
   pub first : one ≡ true → (l : Left) (n : ℕ) → old.view.holder.left ≡ Some l → slice_get (held_of (at band l.bands)) 0 ≡ Some n
       → new.steps ≡ purging_steps k band fate old.view.holder.size (at band old.view.holder.ends) n old.steps
-  pub none : one ≡ false → new.steps ≡ old.steps ⊳ did_load_slot k band (at band old.view.holder.ends).head 0
+  pub none : one ≡ false → new.steps ≡ old.steps ⊳ load_slot_log k band (at band old.view.holder.ends).head 0
 
 -- these packets were purged, in this order, from these ends to those
 pub data PurgesEach (k : Setup) (band : ℕ) (fate : Fate) (size : ℕ) (start : Ends) (old : List Made) : List ℕ → Ends → List Made → Type 0 where
@@ -35,7 +38,7 @@ pub data PurgesEach (k : Setup) (band : ℕ) (fate : Fate) (size : ℕ) (start :
 -- The size was loaded, these packets were purged, and then the slot at the head was loaded as 0.
 abbrev pub PurgesAll : Setup → ℕ → Fate → List ℕ → Known → Known → Type 0
 PurgesAll k band fate packets old new = let size = old.view.holder.size in
-    (steps : List Made) × (c : Ends) × PurgesEach k band fate size (at band old.view.holder.ends) (old.steps ⊳ did_load_size size) packets c steps × (new.steps ≡ steps ⊳ did_load_slot k band c.head 0)
+    (steps : List Made) × (c : Ends) × PurgesEach k band fate size (at band old.view.holder.ends) (old.steps ⊳ load_size_log size) packets c steps × (new.steps ≡ steps ⊳ load_slot_log k band c.head 0)
 
 -- `pfifo_fast_reset` of net/sched/sch_generic.c, at the band that a purge has come to: all packets that the band held are purged.
 pub record PurgesBand (k : Setup) (band : ℕ) (fate : Fate) (count : ℕ) (old new : Known) : Type 0 where
@@ -47,13 +50,13 @@ pub record PurgesBand (k : Setup) (band : ℕ) (fate : Fate) (count : ℕ) (old 
 -- A band is turned: its slots are exchanged for 0 and stored, and fates of packets that it drops are stored.
 pub data TurnsRing (k : Setup) (band : ℕ) (old : List Made) : List Made → Type 0 where
   not_yet : TurnsRing k band old old
-  took_out : (steps : List Made) (i found : ℕ) → TurnsRing k band old steps → TurnsRing k band old (steps ⊳ did_swap_slot k band i found)
-  put_back : (steps : List Made) (i word : ℕ) → TurnsRing k band old steps → TurnsRing k band old (steps ⊳ did_store_slot k band i word)
-  dropped : (steps : List Made) (n : ℕ) (fate : Fate) → TurnsRing k band old steps → TurnsRing k band old (steps ⊳ did_store_fate k n (word_of fate))
+  took_out : (steps : List Made) (i found : ℕ) → TurnsRing k band old steps → TurnsRing k band old (steps ⊳ clear_slot_log k band i found)
+  put_back : (steps : List Made) (i word : ℕ) → TurnsRing k band old steps → TurnsRing k band old (steps ⊳ store_slot_log k band i word)
+  dropped : (steps : List Made) (n : ℕ) (fate : Fate) → TurnsRing k band old steps → TurnsRing k band old (steps ⊳ settle_log k n (word_of fate))
 
 -- and then its producer is set, whose lock stays taken
 abbrev pub TurnsBand : Setup → ℕ → ℕ → List Made → List Made → Type 0
-TurnsBand k band index old new = (turned : List Made) × TurnsRing k band old turned × (new ≡ turned ⊳ did_set_producer band index)
+TurnsBand k band index old new = (turned : List Made) × TurnsRing k band old turned × (new ≡ turned ⊳ set_producer_log band index)
 
 -- the producer locks of bands 0, 1 and 2, in this order
 abbrev pub LocksAll : List Made → List Made → Type 0
@@ -61,12 +64,12 @@ LocksAll old new = (low mid high : ℕ) × (one two : List Made) × LocksProduce
 
 -- Under them the size is loaded, with which the resize begins, the bands are turned, and the new size is stored;
 abbrev pub TurnsAll : Setup → ℕ → ℕ → ℕ → ℕ → List Made → List Made → Type 0
-TurnsAll k len low mid high old new = (begun : ℕ) × (one two three : List Made) × TurnsBand k 0 low (old ⊳ did_load_size begun) one × TurnsBand k 1 mid one two × TurnsBand k 2 high two three
-    × (new ≡ three ⊳ did_store_size len)
+TurnsAll k len low mid high old new = (begun : ℕ) × (one two three : List Made) × TurnsBand k 0 low (old ⊳ load_size_log begun) one × TurnsBand k 1 mid one two × TurnsBand k 2 high two three
+    × (new ≡ three ⊳ store_size_log len)
 
 -- and they are given back in the same order, after a load of the size.
 abbrev pub UnlocksAll : ℕ → ℕ → ℕ → List Made → List Made → Type 0
-UnlocksAll low mid high old new = (stored : ℕ) × (new ≡ old ⊳ did_load_size stored ⊳ did_give_producer 0 low ⊳ did_give_producer 1 mid ⊳ did_give_producer 2 high)
+UnlocksAll low mid high old new = (stored : ℕ) × (new ≡ old ⊳ load_size_log stored ⊳ give_producer_log 0 low ⊳ give_producer_log 1 mid ⊳ give_producer_log 2 high)
 
 -- The three producer locks are taken, the bands are turned, the size is stored, and the locks are given back with the new indices.
 pub record Resizes (k : Setup) (len : ℕ) (old new : List Made) : Type 0 where
@@ -81,11 +84,11 @@ pub record Resizes (k : Setup) (len : ℕ) (old new : List Made) : Type 0 where
   pub one : List Made
   pub two : List Made
   pub three : List Made
-  pub first : TurnsBand k 0 low (locked ⊳ did_load_size size ⊳ did_load_size begun) one
+  pub first : TurnsBand k 0 low (locked ⊳ load_size_log size ⊳ load_size_log begun) one
   pub second : TurnsBand k 1 mid one two
   pub third : TurnsBand k 2 high two three
   pub stored : ℕ
-  pub ends : new ≡ three ⊳ did_store_size len ⊳ did_load_size stored ⊳ did_give_producer 0 low ⊳ did_give_producer 1 mid ⊳ did_give_producer 2 high
+  pub ends : new ≡ three ⊳ store_size_log len ⊳ load_size_log stored ⊳ give_producer_log 0 low ⊳ give_producer_log 1 mid ⊳ give_producer_log 2 high
 
 -- `ptr_ring_resize_multiple` of include/linux/ptr_ring.h: each band keeps the first packets of those that it held, and so many are
 -- dropped.

@@ -10,8 +10,8 @@ use Rattle.lq_ring_core.specs.declared.ring.Full.{Full}
 use Rattle.lq_band_laws.specs.Three.{Three, put, all_three}
 use Rattle.lq_band_laws.specs.Ring.{Lock, unlocked, locked_at}
 use Rattle.lq_table.specs.Views.{View}
-use Rattle.lq_table.specs.Told.{seen_by}
-use Rattle.lq_table.specs.Rings.{joining, dropping}
+use Rattle.lq_table.specs.Moves.{seen_by}
+use Rattle.lq_table.specs.Producers.{store_slot_view, producer_slot_view_full}
 use Rattle.lq_table.specs.Solo.{solo, heard}
 
 -- it has no producer lock
@@ -24,11 +24,11 @@ just_locked b i = put b (locked_at i) no_locks
 
 -- the packet joined the band, and the producer lock was given back
 abbrev pub putting : ℕ → ℕ → View → View
-putting b n v = record (joining b n v) { locks = no_locks }
+putting b n v = record (store_slot_view b n v) { locks = no_locks }
 
 -- it was dropped as full, and the producer lock was given back
 abbrev pub dropping_full : ℕ → ℕ → View → View
-dropping_full n seen v = record (dropping n seen v) { locks = no_locks }
+dropping_full n seen v = record (producer_slot_view_full n seen v) { locks = no_locks }
 
 -- it joined or was dropped, as the answer says
 abbrev pub IsPutAs : ℕ → ℕ → Result (Unit {0}) Full → View → View → Type 0

@@ -13,10 +13,10 @@ use Rattle.lq_band_laws.specs.Three.{at, all_three}
 use Rattle.lq_band_laws.specs.Ring.{at_start, is_emptying, locked_at}
 use Rattle.lq_table.specs.Views.{HolderPart, Left, Work, machine_packet}
 use Rattle.lq_table.specs.Resizes.{may_resize}
-use Rattle.lq_table.specs.Rings.{with_lock_at}
+use Rattle.lq_table.specs.Producers.{with_lock_at}
 use Rattle.lq_table.specs.Rule.{shown, IsResting}
 use Rattle.lq_table.specs.Sees.{view, position, slot, packet_at, ends_at, IsSameSeat}
-use Rattle.lq_table.specs.Settled.{MayShrink}
+use Rattle.lq_table.specs.Fates.{MayShrink}
 use Rattle.lq_table.specs.declared.shared.Cpu.{Cpu}
 use Rattle.lq_table.specs.declared.shared.Shared.{Shared}
 use Rattle.lq_ring.specs.Purged.{AreOfCapture}

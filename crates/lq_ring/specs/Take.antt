@@ -4,7 +4,7 @@ use Rattle.lq_model.specs.Account.{Take}
 use Rattle.lq_band_laws.specs.Three.{at, put}
 use Rattle.lq_band_laws.specs.Ring.{Ends, after_take, all_empty, taken_on, emptied_on, is_emptying}
 use Rattle.lq_table.specs.Views.{View}
-use Rattle.lq_table.specs.Rings.{taking}
+use Rattle.lq_table.specs.Consumers.{head_slot_view}
 use Rattle.lq_table.specs.Rule.{shown}
 use Rattle.lq_table.specs.Sees.{view}
 use Rattle.lq_table.specs.Solo.{solo, heard}
@@ -45,7 +45,7 @@ AreJustTaken size c = (c.edge ≡ c.head) × (c.tail < c.head) × (c.head ≤ si
 -- the packet was taken from the band, and all slots were emptied that this asks
 abbrev pub consuming : ℕ → ℕ → View → View
 consuming b n v = let size = v.holder.size in let own = at b v.holder.ends in
-    having_ends b (after_take size own) (emptied_times size (emptied_count size (taken_on own)) (taken_on (at b v.whole.state.ends))) (taking b n v)
+    having_ends b (after_take size own) (emptied_times size (emptied_count size (taken_on own)) (taken_on (at b v.whole.state.ends))) (head_slot_view b n v)
 
 -- the state beside the machine has the ends that the holder has
 abbrev pub KnowsEnds : View → Type 0

@@ -12,8 +12,9 @@ use Rattle.lq_model.specs.declared.machine.Position.TheVariants.{Miss, Try1, Try
 use Rattle.lq_model.specs.declared.machine.Seat.{Seat}
 use Rattle.lq_table.specs.Views.{HolderPart, Setup, SharePart, View}
 use Rattle.lq_table.specs.Rule.{shown, IsResting}
-use Rattle.lq_table.specs.Seats.{GetsRunLock}
-use Rattle.lq_table.specs.Told.{IsKnownSlot, finding_locked, got, got_in_control, missing, seen_by, seen_lock}
+use Rattle.lq_table.specs.Locks.{GetsRunLock, look_lock_view, try_lock_view, try_lock_view_in_control, seen_lock}
+use Rattle.lq_table.specs.Moves.{IsKnownSlot, seen_by}
+use Rattle.lq_table.specs.States.{miss_view}
 use Rattle.lq_table.specs.Solo.{IsSole}
 use Rattle.lq_table.specs.Sees.{view, position, slot, IsSameSeat}
 use Rattle.lq_table.specs.declared.shared.Cpu.{Cpu}
@@ -58,30 +59,30 @@ abbrev moved_to : Position → Seat → HolderPart → View → View
 moved_to p place d v = record v { place = place; holder = d; whole = record v.whole { qdisc = (step_at p Plain v.whole.qdisc v.place).qdisc } }
 
 abbrev got_at : HolderPart → View → Position → View
-got_at d v p = if is_control p then got_in_control d v else moved_to p (got_to p d v) d v
+got_at d v p = if is_control p then try_lock_view_in_control d v else moved_to p (got_to p d v) d v
 
-pub first_got : (a : Attempt) (d : HolderPart) (v w : View) → v.place.position ≡ Try1 a → w ≡ got d v → Touches v w
+pub first_got : (a : Attempt) (d : HolderPart) (v w : View) → v.place.position ≡ Try1 a → w ≡ try_lock_view d v → Touches v w
 first_got a d v w at is = (got_to (Try1 a) d v, d, (step_at (Try1 a) Plain v.whole.qdisc v.place).qdisc, raised_got a _ v.place, is ∙ ap (got_at d v) at)
 
-pub second_got : (a : Attempt) (d : HolderPart) (v w : View) → v.place.position ≡ Try2 a → w ≡ got d v → Touches v w
+pub second_got : (a : Attempt) (d : HolderPart) (v w : View) → v.place.position ≡ Try2 a → w ≡ try_lock_view d v → Touches v w
 second_got a d v w at is = (got_to (Try2 a) d v, d, (step_at (Try2 a) Plain v.whole.qdisc v.place).qdisc, raised_got a _ v.place, is ∙ ap (got_at d v) at)
 
 -- the lock was found held: next MISSED is set, or the try is given up
-pub first_locked : (a : Attempt) (v w : View) → v.place.position ≡ Try1 a → w ≡ finding_locked v → Touches v w × (w.place.position ≡ Miss a)
+pub first_locked : (a : Attempt) (v w : View) → v.place.position ≡ Try1 a → w ≡ look_lock_view v → Touches v w × (w.place.position ≡ Miss a)
 first_locked a v w at is =
     let e = is ∙ ap (λ (p : Position). moved_to p (locked_to p v) v.holder v) at in
     ((locked_to (Try1 a) v, v.holder, (step_at (Try1 a) Plain v.whole.qdisc v.place).qdisc, refl, e), ap (λ (z : View). z.place.position) e)
 
-pub second_locked : (a : Attempt) (v w : View) → v.place.position ≡ Try2 a → w ≡ finding_locked v → Touches v w
+pub second_locked : (a : Attempt) (v w : View) → v.place.position ≡ Try2 a → w ≡ look_lock_view v → Touches v w
 second_locked a v w at is =
     (locked_to (Try2 a) v, v.holder, (step_at (Try2 a) Plain v.whole.qdisc v.place).qdisc, refl, is ∙ ap (λ (p : Position). moved_to p (locked_to p v) v.holder v) at)
 
-pub missed_touches : (a : Attempt) (was : Bool) (v w : View) → v.place.position ≡ Miss a → w ≡ missing was v → Touches v w
+pub missed_touches : (a : Attempt) (was : Bool) (v w : View) → v.place.position ≡ Miss a → w ≡ miss_view was v → Touches v w
 missed_touches a was v w at is =
     (missed_to (Miss a) was v, v.holder, (step_at (Miss a) Plain v.whole.qdisc v.place).qdisc, raised_missed a was (seen_by v) v.place, is ∙ ap (λ (p : Position). moved_to p (missed_to p was v) v.holder v) at)
 
 -- where MISSED was clear the lock is tried once more
-pub missed_leads : (a : Attempt) (v w : View) → v.place.position ≡ Miss a → w ≡ missing false v → w.place.position ≡ Try2 a
+pub missed_leads : (a : Attempt) (v w : View) → v.place.position ≡ Miss a → w ≡ miss_view false v → w.place.position ≡ Try2 a
 missed_leads a v w at is = ap (λ (z : View). z.place.position) is ∙ ap (λ (p : Position). (missed_to p false v).position) at
 
 -- where a step that gets the lock leads
@@ -97,11 +98,11 @@ leads_from : (a : Attempt) (d : HolderPart) (v w : View) (q : Qdisc) → w ≡ r
 leads_from a d v w q e = let l = leads a d v q in
     (ap (λ (z : View). z.place.position) e ∙ (l.0 ∙ sym (ap (λ (z : View). after_got z (Try1 a)) e)), ap (λ (z : View). z.place.run) e ∙ l.1, ap (λ (z : View). z.holder) e)
 
-pub first_leads : (a : Attempt) (d : HolderPart) (v w : View) → v.place.position ≡ Try1 a → w ≡ got d v → LeadsGot a v.place.run d w
+pub first_leads : (a : Attempt) (d : HolderPart) (v w : View) → v.place.position ≡ Try1 a → w ≡ try_lock_view d v → LeadsGot a v.place.run d w
 first_leads a d v w at is = leads_from a d v w (step_at (Try1 a) Plain v.whole.qdisc v.place).qdisc (is ∙ ap (got_at d v) at)
 
 -- at the second try, after the first found the lock held and MISSED was set
-pub second_leads : (a : Attempt) (d : HolderPart) (u m v w : View) → u.place.position ≡ Try1 a → m ≡ finding_locked u → v ≡ missing false m → w ≡ got d v → LeadsGot a u.place.run d w
+pub second_leads : (a : Attempt) (d : HolderPart) (u m v w : View) → u.place.position ≡ Try1 a → m ≡ look_lock_view u → v ≡ miss_view false m → w ≡ try_lock_view d v → LeadsGot a u.place.run d w
 second_leads a d u m v w at locked missed is =
     let miss_ = first_locked a u m at locked in let l = leads_from a d v w (step_at (Try2 a) Plain v.whole.qdisc v.place).qdisc (is ∙ ap (got_at d v) (missed_leads a m v miss_.1 missed)) in
     let run : v.place.run ≡ u.place.run = ap (λ (z : View). z.place.run) missed ∙ (ap (λ (p : Position). (missed_to p false m).run) miss_.1 ∙ (ap (λ (z : View). z.place.run) locked ∙ ap (λ (p : Position). (locked_to p u).run) at)) in

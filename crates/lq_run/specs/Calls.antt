@@ -2,11 +2,12 @@
 use Rattle.std.specs.Prelude.{◌≡◌, ◌⊎◌, Bool, true, false}
 use Rattle.lq_model.specs.declared.machine.Position.{Position}
 use Rattle.lq_model.specs.declared.machine.Position.TheVariants.{Idle, Leave, Unlock}
-use Rattle.lq_table.specs.Made.{◌⊳◌, did_clear_sched}
-use Rattle.lq_table.specs.Seats.{GetsRunLock}
+use Rattle.lq_table.specs.Made.{◌⊳◌}
+use Rattle.lq_table.specs.States.{clear_sched_log, clear_sched_alone}
+use Rattle.lq_table.specs.Locks.{GetsRunLock, SeesTry, look_lock_view}
 use Rattle.lq_table.specs.Sees.{view, known, position, slot, steps, IsSameSeat, IsElseSame}
-use Rattle.lq_table.specs.Solo.{IsSole, SeesTry, missed_to, sched_cleared, solo}
-use Rattle.lq_table.specs.Told.{finding_locked, passing}
+use Rattle.lq_table.specs.Solo.{IsSole, missed_to, solo}
+use Rattle.lq_table.specs.Moves.{pass_view}
 use Rattle.lq_table.specs.declared.shared.Cpu.{Cpu}
 use Rattle.lq_run.specs.Runs.{BeginsAlone, BeginsAsHolder, IsElseKept, IsEventless, IsRaisedAsBefore, HasStation, MayReleaseActive, Rests, StandsWithoutStation, StaysRaised, after_missed, ended}
 use Rattle.lq_run.specs.Tries.{BeginsBy, EndsRun, SetsMissed, TriesOnce}
@@ -28,7 +29,7 @@ module _ {D : Type 0} where
   pub record TriesRunLock (answer : Bool) (b a : Cpu D) : Type 0 where
     pub seat : IsSameSeat b a × (a.station ≡ b.station) × (a.indices ≡ b.indices)
     pub got : answer ≡ true → GetsRunLock b a
-    pub held : answer ≡ false → (view a ≡ finding_locked (view b)) × (slot a ≡ slot b)
+    pub held : answer ≡ false → (view a ≡ look_lock_view (view b)) × (slot a ≡ slot b)
     pub sole : IsSole (view b) → SeesTry answer (view b) (view a)
     pub tries : TriesOnce answer (known b) (known a)
 
@@ -56,5 +57,5 @@ module _ {D : Type 0} where
 
   -- SCHED is cleared, and nothing else changes.
   pub record ClearsSched (b a : Cpu D) : Type 0 where
-    pub clears : IsElseSame b a × (view a ≡ passing (view b)) × (steps a ≡ steps b ⊳ did_clear_sched)
-    pub step : solo (view a) ≡ sched_cleared (solo (view b))
+    pub clears : IsElseSame b a × (view a ≡ pass_view (view b)) × (steps a ≡ steps b ⊳ clear_sched_log)
+    pub step : solo (view a) ≡ clear_sched_alone (solo (view b))

@@ -7,9 +7,10 @@ use Rattle.lq_model.specs.declared.machine.Position.TheVariants.{Control, Try1, 
 use Rattle.lq_model.specs.Steps.{dequeue_begins}
 use Rattle.lq_table.specs.Views.{View}
 use Rattle.lq_table.specs.Rule.{shown, IsResting}
-use Rattle.lq_table.specs.Told.{seen_by, scheduling, IsKnownSlot}
-use Rattle.lq_table.specs.Solo.{Solo, IsSole, IsAccounts, solo, missed_to, sched_set, locked_to}
-use Rattle.lq_table.specs.Made.{◌⊳◌, did_set_sched}
+use Rattle.lq_table.specs.Moves.{seen_by, IsKnownSlot}
+use Rattle.lq_table.specs.States.{set_sched_view, set_sched_alone, set_sched_log}
+use Rattle.lq_table.specs.Solo.{Solo, IsSole, IsAccounts, solo, missed_to, locked_to}
+use Rattle.lq_table.specs.Made.{◌⊳◌}
 use Rattle.lq_table.specs.Sees.{view, position, steps, slot, IsSameSeat, IsElseSame}
 use Rattle.lq_table.specs.declared.shared.Cpu.{Cpu}
 
@@ -50,7 +51,7 @@ BeginsAlone got v w = (got ≡ not v.whole.qdisc.locked) × (solo w ≡ after_be
 
 -- the lock is free after the end of a run, and the table scheduled where MISSED is set
 abbrev pub ended : Solo → Solo
-ended s = if s.whole.missed then sched_set s.whole.scheduled (locked_to false s) else locked_to false s
+ended s = if s.whole.missed then set_sched_alone s.whole.scheduled (locked_to false s) else locked_to false s
 
 -- WHAT A CALL LEAVES
 
@@ -99,4 +100,4 @@ module _ {D : Type 0} where
 
   -- SCHED is set, the seat raised where it was clear, and nothing else changes
   abbrev pub SetsSched : Cpu D → Cpu D → Type 0
-  SetsSched b a = IsElseSame b a × (was : Bool) × (view a ≡ scheduling was (view b)) × (solo (view a) ≡ sched_set was (solo (view b))) × (IsSole (view b) → was ≡ (view b).whole.qdisc.sched) × (steps a ≡ steps b ⊳ did_set_sched was)
+  SetsSched b a = IsElseSame b a × (was : Bool) × (view a ≡ set_sched_view was (view b)) × (solo (view a) ≡ set_sched_alone was (solo (view b))) × (IsSole (view b) → was ≡ (view b).whole.qdisc.sched) × (steps a ≡ steps b ⊳ set_sched_log was)

@@ -5,7 +5,8 @@ ghost use Rattle.std.specs.Prelude.{◌≡◌, true};
 ghost use Rattle.lq_model.specs.declared.machine.Position.TheVariants.{Try1, Unlock as AtUnlock, Leave as AtLeave, Idle as AtIdle};
 ghost use Rattle.lq_model.specs.declared.machine.Attempt.{Attempt};
 ghost use Rattle.lq_table.specs.Sees.{position, IsSeatOf};
-ghost use Rattle.lq_table.specs.Told.{tries_lock, misses, schedules, clears_sched};
+ghost use Rattle.lq_table.specs.Locks.{try_lock_at};
+ghost use Rattle.lq_table.specs.States.{miss_at, set_sched_at, clear_sched_at};
 ghost use Rattle.lq_run.specs.Calls.{released_to, BeginsRun, ClearsSched, MayReleaseRunLock, NotesMissed, ReleasesTo, TriesRunLock};
 ghost use Rattle.lq_run.specs.Runs.{HasStation, HasNone, MayReleaseActive, Rests, SetsSched};
 
@@ -17,7 +18,7 @@ use lq_table::{Cpu, Shared};
 /// at first, and exchanged only where it is free. True where the seat has the lock.
 pub fn try_run_lock<'a, D: TxDevice>(shared: &Shared<'a, D>, cpu: &mut Cpu<D>) -> bool
     requires seat { IsSeatOf shared.now cpu.old }
-    requires at { tries_lock (position cpu.old) ≡ true }
+    requires at { try_lock_at (position cpu.old) ≡ true }
     ensures { TriesRunLock result cpu.old cpu.new }
 {
     if shared.look_lock(cpu) {
@@ -29,7 +30,7 @@ pub fn try_run_lock<'a, D: TxDevice>(shared: &Shared<'a, D>, cpu: &mut Cpu<D>) -
 /// Sets MISSED after a failed try of the run lock, where a look at the state doesn't find it set. True where it was set before.
 fn note_missed<'a, D: TxDevice>(shared: &Shared<'a, D>, cpu: &mut Cpu<D>) -> bool
     requires seat { IsSeatOf shared.now cpu.old }
-    requires at { misses (position cpu.old) ≡ true }
+    requires at { miss_at (position cpu.old) ≡ true }
     ensures { NotesMissed result cpu.old cpu.new }
 {
     if shared.look_missed(cpu) {
@@ -101,7 +102,7 @@ pub fn end_resize<'a, D: TxDevice>(shared: &Shared<'a, D>, cpu: &mut Cpu<D>)
 /// Sets SCHED, as `__netif_schedule` of net/core/dev.c does; where it was clear the seat is raised.
 pub fn schedule<'a, D: TxDevice>(shared: &Shared<'a, D>, cpu: &mut Cpu<D>)
     requires seat { IsSeatOf shared.now cpu.old }
-    requires at { schedules (position cpu.old) ≡ true }
+    requires at { set_sched_at (position cpu.old) ≡ true }
     ensures sets { SetsSched cpu.old cpu.new }
 {
     shared.set_sched(cpu);
@@ -110,7 +111,7 @@ pub fn schedule<'a, D: TxDevice>(shared: &Shared<'a, D>, cpu: &mut Cpu<D>)
 /// Clears SCHED at the start of a soft interrupt, as `net_tx_action` of net/core/dev.c does.
 pub fn unschedule<'a, D: TxDevice>(shared: &Shared<'a, D>, cpu: &mut Cpu<D>)
     requires seat { IsSeatOf shared.now cpu.old }
-    requires at { clears_sched (position cpu.old) ≡ true }
+    requires at { clear_sched_at (position cpu.old) ≡ true }
     ensures { ClearsSched cpu.old cpu.new }
 {
     shared.clear_sched(cpu);

@@ -15,8 +15,8 @@ use Rattle.lq_plan.specs.Limits.{IsKindWithin}
 use Rattle.lq_qdisc.specs.Alone.{Does}
 use Rattle.lq_seat.specs.State.{HasServed, SeatState, first_account, latest_unit, no_device, solo_of, station_count, times, units_of}
 use Rattle.lq_seat.specs.Steps.{ControlsBy, DoesInterrupts, LooksAtStops, Makes, MakesAndServes, SwapsBy, Transmits}
-use Rattle.lq_table.specs.Made.{◌⊳◌, did_load_base}
-pub use Rattle.lq_table.specs.Told.{with_turns, without}
+use Rattle.lq_table.specs.Made.{◌⊳◌, load_base_log}
+pub use Rattle.lq_table.specs.Seats.{with_turns, without}
 
 -- for a seat that has the table alone and whose device tells, the station is just as after this step of the run of one sender
 abbrev pub DoesAlone : (RunningStation → RunningStation) → SeatState → SeatState → Type 0
@@ -148,4 +148,4 @@ Joins old other new = new ≡ record old {
 
 -- by one load, of the table's base word
 abbrev pub LoadsBase : SeatState → SeatState → Type 0
-LoadsBase old new = (found : ℕ) × (new.steps ≡ old.steps ⊳ did_load_base found)
+LoadsBase old new = (found : ℕ) × (new.steps ≡ old.steps ⊳ load_base_log found)

@@ -41,7 +41,7 @@ use Rattle.lq_table.specs.Views.{View, Setup, PacketPart, HolderPart, Left, no_p
 use Rattle.lq_table.specs.Rule.{Words, words_of, locks_at, account, holders, shown, is_live, seats_of, machine_of, bands_now, owes, waiting_in, waits, unstored, Ties, Rule, AtHome, IsResting, has_turn, event_word}
 use Rattle.lq_table.specs.Between.{StandsForMachine, StandsForNothing, IsInNoCall, HasNothingOwn, IsTableQuiet}
 use Rattle.lq_table.specs.Closes.{AreQuiet, AreSlotsEmpty, IsEmptied}
-use Rattle.lq_table.specs.Told.{at_rest, is_set}
+use Rattle.lq_table.specs.Moves.{at_rest, is_set}
 use Rattle.lq_table.proofs.Bits.{has_sched, has_deactivated}
 use Rattle.lq_table.proofs.Decided.{decided}
 use Rattle.lq_table.proofs.Facts.{none_if}

@@ -17,9 +17,9 @@ use Rattle.lq_account_laws.specs.Places.{IsPlaced}
 use Rattle.lq_table.specs.Places.{lock_place}
 use Rattle.lq_table.specs.Views.{View, Setup, State, PacketPart, Left}
 use Rattle.lq_table.specs.Rule.{words_of, stops_offset, account, machine_of, bands_now, has_turn, is_live, Ties, Rule}
-use Rattle.lq_table.specs.Told.{Sat}
-use Rattle.lq_table.specs.Controls.{unchanged}
-use Rattle.lq_table.specs.AtRest.{IsSoleAtRest, IsFatedOrHeld, IsRest, KnowsRest, lock_seen}
+use Rattle.lq_table.specs.Moves.{Sat, unchanged}
+use Rattle.lq_table.specs.AtRest.{IsSoleAtRest, IsFatedOrHeld, IsRest, KnowsRest}
+use Rattle.lq_table.specs.Locks.{load_lock_told}
 use Rattle.lq_table.proofs.AllAtRest.{unlocked, nothing, no_purge, home, all_bands, none_at_all}
 use Rattle.lq_table.proofs.Ends.{live, rests, nobody}
 use Rattle.lq_table.proofs.Decided.{all_placed}
@@ -86,5 +86,5 @@ module _ (k : Setup) (s : table.State (Option StationState) View) (r : Rule k s)
       (λ j. (sym (r.parts.seats.shares.about id v at_id lives) j, sym (knows_qdisc k s r id v at_id some_share alone.0) j, sym (knows_state k s r id v at_id some_share alone.0) j, sym (knows_account k s r id v at_id some_share alone.0) j)) rest
 
 -- what a load of the run lock tells
-pub loads_lock : (k : Setup) (slots id : ℕ) (m : Sat) → 0 < k.queues → Allows (Rule k) slots id m lock_place (λ x. x) (lock_seen (step slots lock_place 0 0 none) m)
+pub loads_lock : (k : Setup) (slots id : ℕ) (m : Sat) → 0 < k.queues → Allows (Rule k) slots id m lock_place (λ x. x) (load_lock_told (step slots lock_place 0 0 none) m)
 loads_lock k slots id m some_queue = also k slots id m lock_place (λ x. x) (unchanged (step slots lock_place 0 0 none) m) (λ _. IsSoleAtRest m.0 → KnowsRest m.0) (λ s r here alone. knows_rest k s r id m.0 here alone some_queue) (loads_any k slots id m lock_place)

@@ -19,14 +19,15 @@ use Rattle.lq_model.specs.Kept.{IsInductive}
 use Rattle.lq_table.specs.Places.{state_place}
 use Rattle.lq_table.specs.Views.{View, Setup, HolderPart, Left}
 use Rattle.lq_table.specs.Rule.{words_of, account, holders, is_live, Rule}
-use Rattle.lq_table.specs.Told.{Sat}
-use Rattle.lq_table.specs.Controls.{beginning_control, control_begun, returning, returned, purge_ending, purge_going, no_missed, no_draining, resetting_missed, resetting_missed_in, missed_reset, resetting_draining, resetting_draining_in, draining_reset}
+use Rattle.lq_table.specs.Moves.{Sat}
+use Rattle.lq_table.specs.Controls.{begin_control_view, begin_control_told, end_control_view, end_control_told}
+use Rattle.lq_table.specs.Purges.{purge_ending, purge_going, no_missed, no_draining, reset_missed_view, reset_missed_view_in, reset_missed_told, reset_draining_view, reset_draining_view_in, reset_draining_told}
 use Rattle.lq_model.specs.Steps.{is_idle}
 use Rattle.lq_table.proofs.ControlsKept.{firsts_now}
 use Rattle.lq_table.proofs.ByName.{set_back}
 use Rattle.lq_table.proofs.Middle.{middle, begins_in, to_idle}
-use Rattle.lq_table.proofs.DirectKept.{two_ways}
-use Rattle.lq_table.proofs.PurgeDone.{ends_missed, ends_draining, goes_on_missed, goes_on_draining}
+use Rattle.lq_table.proofs.RecheckKept.{two_ways}
+use Rattle.lq_table.proofs.ResetKept.{ends_missed, ends_draining, goes_on_missed, goes_on_draining}
 use Rattle.lq_table.proofs.Frames.{same_xoff, rule_after, opened, closed, same_past, lends_step, moves}
 use Rattle.lq_table.proofs.SeatFrames.{seats_same}
 use Rattle.lq_table.proofs.StationFrames.{station_kept}
@@ -54,10 +55,10 @@ module _ (k : Setup) where
         account = p.account;
       }
 
-  pub begins_control : (slots id : ℕ) (m : Sat) → m.0.place.position ≡ Idle → m.0.control.first ≡ true → 0 < m.0.share.shares → Allows (Rule k) slots id m 0 (λ x. x) (control_begun (step slots 0 0 0 none) m)
+  pub begins_control : (slots id : ℕ) (m : Sat) → m.0.place.position ≡ Idle → m.0.control.first ≡ true → 0 < m.0.share.shares → Allows (Rule k) slots id m 0 (λ x. x) (begin_control_told (step slots 0 0 0 none) m)
   begins_control slots id m position first some_share s r deep here small =
       let v : View = m.0 in let live = lt-ltb 0 v.share.shares some_share in let t : Seat = record v.place { position = Control false } in (
-        beginning_control v,
+        begin_control_view v,
         keeps,
         tt,
         places s r id v t here live
@@ -66,10 +67,10 @@ module _ (k : Setup) where
         refl,
       )
 
-  pub returns_control : (slots id : ℕ) (m : Sat) → m.0.place.position ≡ Control false → 0 < m.0.share.shares → Allows (Rule k) slots id m 0 (λ x. x) (returned (step slots 0 0 0 none) m)
+  pub returns_control : (slots id : ℕ) (m : Sat) → m.0.place.position ≡ Control false → 0 < m.0.share.shares → Allows (Rule k) slots id m 0 (λ x. x) (end_control_told (step slots 0 0 0 none) m)
   returns_control slots id m position some_share s r deep here small =
       let v : View = m.0 in let live = lt-ltb 0 v.share.shares some_share in let t : Seat = record v.place { position = Idle } in (
-        returning v,
+        end_control_view v,
         keeps,
         tt,
         places s r id v t here live
@@ -80,7 +81,7 @@ module _ (k : Setup) where
 
   -- the two bits after the last packet of a purge
   pub resets_missed : (slots id : ℕ) (m : Sat) (u : Purge) (l : Left) → m.0.place.position ≡ Control true → m.0.control.purge ≡ Some u → not (nat_lt u.band 3) ≡ true → m.0.holder.left ≡ Some l → m.0.holder.resizing ≡ None → 0 < m.0.share.shares
-      → Allows (Rule k) slots id m state_place (λ n. bit_and n 18446744073709551611) (missed_reset (step slots state_place 18446744073709551611 0 none) m)
+      → Allows (Rule k) slots id m state_place (λ n. bit_and n 18446744073709551611) (reset_missed_told (step slots state_place 18446744073709551611 0 none) m)
   resets_missed slots id m u l position purge over left no_resizing some_share =
       ⊎_elim
       (λ (e : u.draining ≡ true). subst Goal (ap (λ (b : Bool). if b then ended else gone_on) (sym e) ∙ told) (ends_missed k slots id m u l position purge over e left no_resizing some_share))
@@ -96,11 +97,11 @@ module _ (k : Setup) where
       gone_on : View
       gone_on = purge_going no_missed (record u { missed = true }) m.0
 
-      told : (if u.draining then ended else gone_on) ≡ resetting_missed m.0
-      told = ap (λ (o : Option Purge). resetting_missed_in o m.0) (sym purge)
+      told : (if u.draining then ended else gone_on) ≡ reset_missed_view m.0
+      told = ap (λ (o : Option Purge). reset_missed_view_in o m.0) (sym purge)
 
   pub resets_draining : (slots id : ℕ) (m : Sat) (u : Purge) (l : Left) → m.0.place.position ≡ Control true → m.0.control.purge ≡ Some u → not (nat_lt u.band 3) ≡ true → m.0.holder.left ≡ Some l → m.0.holder.resizing ≡ None → 0 < m.0.share.shares
-      → Allows (Rule k) slots id m state_place (λ n. bit_and n 18446744073709551607) (draining_reset (step slots state_place 18446744073709551607 0 none) m)
+      → Allows (Rule k) slots id m state_place (λ n. bit_and n 18446744073709551607) (reset_draining_told (step slots state_place 18446744073709551607 0 none) m)
   resets_draining slots id m u l position purge over left no_resizing some_share =
       ⊎_elim
       (λ (e : u.missed ≡ true). subst Goal (ap (λ (b : Bool). if b then ended else gone_on) (sym e) ∙ told) (ends_draining k slots id m u l position purge over e left no_resizing some_share))
@@ -116,5 +117,5 @@ module _ (k : Setup) where
       gone_on : View
       gone_on = purge_going no_draining (record u { draining = true }) m.0
 
-      told : (if u.missed then ended else gone_on) ≡ resetting_draining m.0
-      told = ap (λ (o : Option Purge). resetting_draining_in o m.0) (sym purge)
+      told : (if u.missed then ended else gone_on) ≡ reset_draining_view m.0
+      told = ap (λ (o : Option Purge). reset_draining_view_in o m.0) (sym purge)

@@ -10,7 +10,7 @@ use Rattle.lq_model.specs.Legal.{brought_by}
 use Rattle.lq_account_laws.proofs.Lists.{drop-in}
 use Rattle.lq_table.specs.Views.{View, Setup}
 use Rattle.lq_table.specs.Rule.{account, is_live, Rule}
-use Rattle.lq_table.specs.Told.{IsPacketOf, IsKnownSlot}
+use Rattle.lq_table.specs.Moves.{IsPacketOf, IsKnownSlot}
 use Rattle.lq_table.proofs.Accounts.{contains_get}
 
 module _ (k : Setup) (s : table.State (Option StationState) View) (r : Rule k s) (id : ℕ) (v : View) (here : get_elem? s.views id ≡ some v) (live : is_live v ≡ true) where

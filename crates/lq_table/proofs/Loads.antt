@@ -7,8 +7,7 @@ use Rattle.lq_device.specs.Station.{StationState}
 use Rattle.atomic_table.specs.Table.{step, Allows, keeps}
 use Rattle.lq_table.specs.Views.{View, Setup}
 use Rattle.lq_table.specs.Rule.{Rule}
-use Rattle.lq_table.specs.Told.{Sat}
-use Rattle.lq_table.specs.Controls.{unchanged}
+use Rattle.lq_table.specs.Moves.{Sat, unchanged}
 use Rattle.lq_table.proofs.Frames.{rule_same}
 
 module _ (k : Setup) (slots id : ℕ) (m : Sat) (i : ℕ) where

@@ -11,11 +11,12 @@ use Rattle.lq_model.specs.Machine.{state_word}
 use Rattle.lq_table.specs.Places.{state_place, lock_place}
 use Rattle.lq_table.specs.Views.{Setup}
 use Rattle.lq_table.specs.Rule.{account, event_word, Rule}
-use Rattle.lq_table.specs.Told.{Sat, is_set, misses, missing, tries_lock}
-use Rattle.lq_table.specs.Solo.{lock_looked_all, missed_looked_all}
+use Rattle.lq_table.specs.Moves.{Sat, is_set}
+use Rattle.lq_table.specs.States.{miss_at, miss_view, look_missed_told_all}
+use Rattle.lq_table.specs.Locks.{try_lock_at, look_lock_told_all}
 use Rattle.lq_table.proofs.Bits.{has_missed, or_missed}
 use Rattle.lq_table.proofs.LocksKept.{tries_all}
-use Rattle.lq_table.proofs.QuietKept.{misses_kept}
+use Rattle.lq_table.proofs.StatesKept.{misses_kept}
 use Rattle.lq_table.proofs.SoleFacts.{sees_state, sees_lock}
 use Rattle.lq_table.proofs.Frames.{rule_same}
 
@@ -24,7 +25,7 @@ set_or_clear true = inl refl
 set_or_clear false = inr refl
 
 module _ (k : Setup) (slots id : ℕ) (m : Sat) where
-  pub looks_lock : tries_lock m.0.place.position ≡ true → 0 < m.0.share.shares → Allows (Rule k) slots id m lock_place (λ x. x) (lock_looked_all (step slots lock_place 0 0 none) m)
+  pub looks_lock : try_lock_at m.0.place.position ≡ true → 0 < m.0.share.shares → Allows (Rule k) slots id m lock_place (λ x. x) (look_lock_told_all (step slots lock_place 0 0 none) m)
   looks_lock at some_share s r deep here small =
       let n : ℕ = get_or s.words lock_place 0 in dite (ℕ_discrete n 0)
       (λ free. (m.0, keeps, tt, rule_same k s r lock_place id m.0 here, ((λ _. refl, λ held. absurd (held free)), λ sole. sees_lock k s r id m.0 here some_share sole)))
@@ -36,7 +37,7 @@ module _ (k : Setup) (slots id : ℕ) (m : Sat) where
         ((λ free. absurd (held free), t.4.1), λ sole. sees_lock k s r id m.0 here some_share sole),
       ))
 
-  pub looks_missed : misses m.0.place.position ≡ true → 0 < m.0.share.shares → Allows (Rule k) slots id m state_place (λ x. x) (missed_looked_all (step slots state_place 0 0 none) m)
+  pub looks_missed : miss_at m.0.place.position ≡ true → 0 < m.0.share.shares → Allows (Rule k) slots id m state_place (λ x. x) (look_missed_told_all (step slots state_place 0 0 none) m)
   looks_missed at some_share s r deep here small =
       let n : ℕ = get_or s.words state_place 0 in let q = r.qdisc in let t = r.parts.station.stands in let e : ℕ = event_word (account k r.state).down in
       let was : is_set 4 n ≡ q.missed = ap (is_set 4) t.state ∙ has_missed q.sched q.deactivated q.missed q.draining e in ⊎_elim
@@ -47,7 +48,7 @@ module _ (k : Setup) (slots id : ℕ) (m : Sat) where
         z.1,
         z.2,
         subst (λ (x : ℕ). Rule k (table_stepped s state_place x id m.1 z.0 z.1)) same z.3,
-        ((λ clear. absurd (true≢false (sym found ∙ clear)), λ _. z.4 ∙ (λ j. (missing (found j) m.0, m.1))), λ sole. sees_state k s r id m.0 here some_share sole),
+        ((λ clear. absurd (true≢false (sym found ∙ clear)), λ _. z.4 ∙ (λ j. (miss_view (found j) m.0, m.1))), λ sole. sees_state k s r id m.0 here some_share sole),
       ))
       (λ (clear : is_set 4 n ≡ false). (m.0, keeps, tt, rule_same k s r state_place id m.0 here, ((λ _. refl, λ found. absurd (true≢false (sym found ∙ clear))), λ sole. sees_state k s r id m.0 here some_share sole)))
       (set_or_clear (is_set 4 n))

@@ -19,16 +19,14 @@ use Rattle.lq_band_laws.proofs.StandsFor.{index_stands}
 use Rattle.lq_table.specs.Places.{producer_place}
 use Rattle.lq_table.specs.Views.{View, Setup, Left}
 use Rattle.lq_table.specs.Rule.{words_of, account, bands_now, locks_at, Leaves, Rule}
-use Rattle.lq_table.specs.Told.{Sat}
-use Rattle.lq_table.specs.Controls.{unchanged}
-use Rattle.lq_table.specs.Rings.{got_producer}
-use Rattle.lq_table.specs.SolePut.{producer_index, SeesProducer, producer_seen_all, got_producer_all}
+use Rattle.lq_table.specs.Moves.{Sat, unchanged}
+use Rattle.lq_table.specs.Producers.{take_producer_told, producer_index, SeesProducer, load_producer_told, take_producer_told_all}
 use Rattle.lq_table.proofs.ByName.{producer_of}
 use Rattle.lq_table.proofs.Facts.{none_if}
 use Rattle.lq_table.proofs.Loads.{also, loads_any}
 use Rattle.lq_table.proofs.ProducersKept.{gets_producer}
 use Rattle.lq_table.proofs.SoleFacts.{knows_account}
-use Rattle.lq_table.proofs.UpKept.{one_of}
+use Rattle.lq_table.proofs.ClearDeactivatedKept.{one_of}
 
 total_map : {A B : Type 0} (f : B → ℕ) (g : A → B) (xs : List A) → total f (map g xs) ≡ total (λ x. f (g x)) xs
 total_map f g [] = refl
@@ -77,13 +75,13 @@ module _ (k : Setup) (s : table.State (Option StationState) View) (r : Rule k s)
       producer_of k s.words b below ∙ word ∙ ap (λ (n : ℕ). 2 * n) index
 
 module _ (k : Setup) (slots id : ℕ) (m : Sat) (b : ℕ) (below : b < 3) (some_share : 0 < m.0.share.shares) where
-  pub loads_producer : Allows (Rule k) slots id m (producer_place b) (λ x. x) (producer_seen_all b (step slots (producer_place b) 0 0 none) m)
+  pub loads_producer : Allows (Rule k) slots id m (producer_place b) (λ x. x) (load_producer_told b (step slots (producer_place b) 0 0 none) m)
   loads_producer = also k slots id m (producer_place b) (λ x. x) (unchanged (step slots (producer_place b) 0 0 none) m) (SeesProducer b m.0)
       (λ s r here. sees_producer k s r id m.0 here b below some_share)
       (loads_any k slots id m (producer_place b))
 
   pub gets_producer_sole : (i : ℕ) → (at b m.0.locks).holds ≡ false
-      → Allows (Rule k) slots id m (producer_place b) (λ n. either (eqb n (2 * i)) (2 * i + 1) n) (got_producer_all b i k.max_len (step slots (producer_place b) (2 * i) (2 * i + 1) none) m)
-  gets_producer_sole i free = also k slots id m (producer_place b) (λ n. either (eqb n (2 * i)) (2 * i + 1) n) (got_producer b i k.max_len (step slots (producer_place b) (2 * i) (2 * i + 1) none) m) (SeesProducer b m.0)
+      → Allows (Rule k) slots id m (producer_place b) (λ n. either (eqb n (2 * i)) (2 * i + 1) n) (take_producer_told_all b i k.max_len (step slots (producer_place b) (2 * i) (2 * i + 1) none) m)
+  gets_producer_sole i free = also k slots id m (producer_place b) (λ n. either (eqb n (2 * i)) (2 * i + 1) n) (take_producer_told b i k.max_len (step slots (producer_place b) (2 * i) (2 * i + 1) none) m) (SeesProducer b m.0)
       (λ s r here. sees_producer k s r id m.0 here b below some_share)
       (gets_producer k slots id m b i below free some_share)

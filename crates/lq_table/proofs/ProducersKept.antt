@@ -19,8 +19,8 @@ use Rattle.lq_band_laws.proofs.Kept.{locks, sizes_if, gives}
 use Rattle.lq_table.specs.Places.{size_place, producer_place}
 use Rattle.lq_table.specs.Views.{View, Setup, HolderPart}
 use Rattle.lq_table.specs.Rule.{words_of, account, holders, bands_now, locks_at, Rule}
-use Rattle.lq_table.specs.Told.{Sat}
-use Rattle.lq_table.specs.Rings.{with_lock_at, got_producer, producer_given, sized, size_loaded}
+use Rattle.lq_table.specs.Moves.{Sat}
+use Rattle.lq_table.specs.Producers.{with_lock_at, take_producer_told, give_producer_told, load_size_view, load_size_told}
 use Rattle.lq_table.proofs.ByName.{set_producer, set_back, producer_of}
 use Rattle.lq_table.proofs.Quiet.{beside}
 use Rattle.lq_table.proofs.Frames.{locks_here, locks_after, control_same, calm_even, calm_here, rings_step, rule_same}
@@ -38,7 +38,7 @@ module _ (k : Setup) where
       (λ c h n. (refl, at_put_other b c x W.producers below h n, at_put_other b c l v.locks below h n, refl, refl)))
 
   pub gets_producer : (slots id : ℕ) (m : Sat) (b i : ℕ) → b < 3 → (at b m.0.locks).holds ≡ false → 0 < m.0.share.shares
-      → Allows (Rule k) slots id m (producer_place b) (λ n. either (eqb n (2 * i)) (2 * i + 1) n) (got_producer b i k.max_len (step slots (producer_place b) (2 * i) (2 * i + 1) none) m)
+      → Allows (Rule k) slots id m (producer_place b) (λ n. either (eqb n (2 * i)) (2 * i + 1) n) (take_producer_told b i k.max_len (step slots (producer_place b) (2 * i) (2 * i + 1) none) m)
   gets_producer slots id m b i below free some_share s r deep here small =
       let v : View = m.0 in let p = r.parts in let W = words_of k s.words in let word = producer_of k s.words b below in
       dite (ℕ_discrete (get_or s.words (producer_place b) 0) (2 * i))
@@ -62,7 +62,7 @@ module _ (k : Setup) where
       ))
 
   pub gives_producer : (slots id : ℕ) (m : Sat) (b size i : ℕ) → b < 3 → (at b m.0.locks).holds ≡ true → (at b m.0.locks).size ≡ Some size → i ≡ index_given size (at b m.0.locks) → 0 < m.0.share.shares → m.0.holder.resizing ≡ None
-      → Allows (Rule k) slots id m (producer_place b) (λ _. 2 * i) (λ _. producer_given b (step slots (producer_place b) (2 * i) 0 none) m (2 * i))
+      → Allows (Rule k) slots id m (producer_place b) (λ _. 2 * i) (λ _. give_producer_told b (step slots (producer_place b) (2 * i) 0 none) m (2 * i))
   gives_producer slots id m b size i below has knows is some_share no_resizing s r deep here small =
       let v : View = m.0 in let p = r.parts in let g = r.state in let W = words_of k s.words in let D : HolderPart = holders g (account k g) W.size in
       let calm : g.resizing ≡ None = calm_here k.infos k.max_len W.size W.producers W.slots _ _ _ r.qdisc.locked W.xoff r.home g.past D g.resizing s.views id v b p.station.rings p.station.lends refl here below has no_resizing in
@@ -79,7 +79,7 @@ module _ (k : Setup) where
 
   -- THE SIZE
 
-  at_sized : (z b : ℕ) (v : View) → at b (sized z v).locks ≡ sized_if z (at b v.locks)
+  at_sized : (z b : ℕ) (v : View) → at b (load_size_view z v).locks ≡ sized_if z (at b v.locks)
   at_sized z zero v = refl
   at_sized z (suc zero) v = refl
   at_sized z (suc (suc b)) v = refl
@@ -91,9 +91,9 @@ module _ (k : Setup) where
       go true e h = e
       go false e h = sym (ap (λ (b : Bool). (if b then sized_at z l else l).holds) e) ∙ h
 
-  pub loads_size : (slots id : ℕ) (m : Sat) → 0 < m.0.share.shares → Allows (Rule k) slots id m size_place (λ n. n) (size_loaded k.max_len (step slots size_place 0 0 none) m)
+  pub loads_size : (slots id : ℕ) (m : Sat) → 0 < m.0.share.shares → Allows (Rule k) slots id m size_place (λ n. n) (load_size_told k.max_len (step slots size_place 0 0 none) m)
   loads_size slots id m some_share s r deep here small =
-      let v : View = m.0 in let p = r.parts in let g = r.state in let a = account k g in let W = words_of k s.words in let w : View = sized W.size v in let live = lt-ltb 0 v.share.shares some_share in
+      let v : View = m.0 in let p = r.parts in let g = r.state in let a = account k g in let W = words_of k s.words in let w : View = load_size_view W.size v in let live = lt-ltb 0 v.share.shares some_share in
       let first = p.station.rings.positive in let few = p.station.rings.within in
       let locks_sized : (b : ℕ) → locks_at b (set s.views id w) ≡ set (locks_at b s.views) id (sized_if W.size (at b v.locks)) = λ b. locks_after k s.views id v w here b ∙ ap (set (locks_at b s.views) id) (at_sized W.size b v) in (
         w,

@@ -22,15 +22,14 @@ use Rattle.lq_band_laws.proofs.Kept.{finds_full}
 use Rattle.lq_band_laws.proofs.StandsFor.{full_exactly}
 use Rattle.lq_table.specs.Views.{View, Setup, HolderPart, machine_packet}
 use Rattle.lq_table.specs.Rule.{words_of, slot_word, account, holders, holding, is_live, IsResting, Rule}
-use Rattle.lq_table.specs.Told.{Sat}
-use Rattle.lq_table.specs.Rings.{slot_seen}
+use Rattle.lq_table.specs.Moves.{Sat}
+use Rattle.lq_table.specs.Producers.{producer_slot_told, SeesEnd, producer_slot_told_all}
 use Rattle.lq_table.specs.Solo.{account_of}
-use Rattle.lq_table.specs.SolePut.{SeesEnd, slot_seen_all}
 use Rattle.lq_table.proofs.ByName.{slot_of}
 use Rattle.lq_table.proofs.Facts.{calm_rule}
-use Rattle.lq_table.proofs.FullKept.{sees_slot}
+use Rattle.lq_table.proofs.ProducerSlotKept.{sees_slot}
 use Rattle.lq_table.proofs.Frames.{locks_here, calm_here, total_holding}
-use Rattle.lq_table.proofs.UpKept.{one_of, both_true, false_if}
+use Rattle.lq_table.proofs.ClearDeactivatedKept.{one_of, both_true, false_if}
 use Rattle.lq_table.proofs.Loads.{also}
 use Rattle.lq_table.proofs.SoleFacts.{knows_account}
 
@@ -72,8 +71,8 @@ module _ (k : Setup) where
   pub sees_slot_sole : (slots id : ℕ) (m : Sat) (b i n : ℕ) (holds : Bool) → b < 3 → i < k.max_len → m.0.place.position ≡ Put (machine_packet k.infos n) holds
       → (at b m.0.locks).holds ≡ true → (at b m.0.locks).stored ≡ false → i ≡ (at b m.0.locks).index
       → m.0.packets.fresh ≡ Some n → m.0.packets.owed ≡ None → band_in k.infos n ≡ b → 0 < m.0.share.shares → length k.infos ≤ 1000000 → m.0.holder.resizing ≡ None
-      → Allows (Rule k) slots id m (slot_word k b i) (λ x. x) (slot_seen_all b n (step slots (slot_word k b i) 0 0 none) m)
+      → Allows (Rule k) slots id m (slot_word k b i) (λ x. x) (producer_slot_told_all b n (step slots (slot_word k b i) 0 0 none) m)
   sees_slot_sole slots id m b i n holds below inside position has new is_index is_fresh no_debts of_band some_share few no_resizing =
-      also k slots id m (slot_word k b i) (λ x. x) (slot_seen b n (step slots (slot_word k b i) 0 0 none) m) (SeesEnd b m.0)
+      also k slots id m (slot_word k b i) (λ x. x) (producer_slot_told b n (step slots (slot_word k b i) 0 0 none) m) (SeesEnd b m.0)
       (λ s r here. sees_end s r id m.0 b i n holds here below inside position has new is_index some_share no_resizing)
       (sees_slot k slots id m b i n holds below inside position has new is_index is_fresh no_debts of_band some_share few no_resizing)

@@ -43,9 +43,9 @@ use Rattle.lq_table.specs.Places.{size_place, producer_place}
 use Rattle.lq_table.specs.Views.{View, Setup, State, HolderPart, HalfResize, Work, machine_packet}
 use Rattle.lq_table.specs.Rule.{words_of, machine_of, account, holders, owes, waiting_of, unstored, bands_of, bands_now, Holder, IsLocker, IsResizing, IsResting, locks_at, KnowsPackets, Rule}
 use Rattle.lq_table.proofs.UnitsKept.{gone_step}
-use Rattle.lq_table.specs.Told.{Sat}
-use Rattle.lq_table.specs.Rings.{with_lock_at}
-use Rattle.lq_table.specs.Resizes.{may_resize, each_band, resizing_of, beginning, resize_begun, producer_set, restarted, size_stored}
+use Rattle.lq_table.specs.Moves.{Sat}
+use Rattle.lq_table.specs.Producers.{with_lock_at}
+use Rattle.lq_table.specs.Resizes.{may_resize, each_band, resizing_of, begin_resize_view, begin_resize_told, set_producer_told, store_size_view, store_size_told}
 use Rattle.lq_table.proofs.Accounts.{quiet_after}
 use Rattle.lq_table.proofs.ByName.{slots_long, set_back, set_producer, set_size}
 use Rattle.lq_table.proofs.Facts.{map_none, leaving_rule}
@@ -104,7 +104,7 @@ module _ (k : Setup) where
   -- a resize begins
   pub begins_resize : (slots id : ℕ) (m : Sat) (len event : ℕ) → m.0.place.position ≡ Control true → may_resize m.0.control.phase ≡ true → m.0.control.purge ≡ None → m.0.holder.resizing ≡ None → IsResting m.0.holder.size m.0.holder.ends
       → ((b : ℕ) → b < 3 → ((at b m.0.locks).holds ≡ true) × ((at b m.0.locks).stored ≡ false)) → 0 < len → len ≤ k.max_len → 0 < m.0.share.shares
-      → Allows (Rule k) slots id m size_place (λ n. n) (resize_begun k.infos k.max_len len event (step slots size_place 0 0 none) m)
+      → Allows (Rule k) slots id m size_place (λ n. n) (begin_resize_told k.infos k.max_len len event (step slots size_place 0 0 none) m)
   begins_resize slots id m len event position phase no_purge no_resizing rests locked some_len fits some_share s r2 deep here small =
       let v : View = m.0 in let live = lt-ltb 0 v.share.shares some_share in let holds : holds_lock v.place.position ≡ true = ap holds_lock position in
       let r1 = resizing_rule k s r2 None (resizing_known k s r2 id v None here some_share holds no_resizing) in
@@ -115,7 +115,7 @@ module _ (k : Setup) where
       let D : HolderPart = holders g a W.size in
       let at_ : Holder k.infos W.xoff g.past D (Control true) v.holder = subst (λ (z : Position). Holder k.infos W.xoff g.past D z v.holder) position (p.station.lends.knows id v here live holds) in
       let held : ℕ → List ℕ = held_in a in let t : HalfResize = resizing_of len event held W.slots in let e : Event = Resize len event in let g' : State = record g { past = e ∷ g.past; resizing = Some t } in let a' : Account = after e a in
-      let works : ℕ → Work = λ b. record { kept = take len (held b); waiting = drop len (held b); slots = at b W.slots; hand = [] } in let w : View = beginning t v in
+      let works : ℕ → Work = λ b. record { kept = take len (held b); waiting = drop len (held b); slots = at b W.slots; hand = [] } in let w : View = begin_resize_view t v in
       let rest : IsResting W.size g.ends = subst (λ (z : HolderPart). IsResting z.size z.ends) at_.is rests in
       let may : a.hand ≡ None = map_none (machine_packet k.infos) a.hand (sym at_.in_hand) in let drops : List ℕ = dropped_in len a 0 ++ (dropped_in len a 1 ++ dropped_in len a 2) in
       let same : (c : ℕ) → locks_at c (set s.views id w) ≡ locks_at c s.views = λ c. locks_same k s.views id v w here c refl in
@@ -194,7 +194,7 @@ module _ (k : Setup) where
 
   -- control sets the producer of a band
   pub sets_producer : (slots id : ℕ) (m : Sat) (b i : ℕ) (t : HalfResize) → b < 3 → holds_lock m.0.place.position ≡ true → m.0.holder.resizing ≡ Some t → (at b m.0.locks).holds ≡ true → 0 < m.0.share.shares
-      → Allows (Rule k) slots id m (producer_place b) (λ _. 2 * i + 1) (λ _. producer_set b i (step slots (producer_place b) (2 * i + 1) 0 none) m (2 * i + 1))
+      → Allows (Rule k) slots id m (producer_place b) (λ _. 2 * i + 1) (λ _. set_producer_told b i (step slots (producer_place b) (2 * i + 1) 0 none) m (2 * i + 1))
   sets_producer slots id m b i t below holds under_way locked some_share s r1 deep here small =
       let v : View = m.0 in let r = resizing_rule k s r1 (Some t) (resizing_known k s r1 id v (Some t) here some_share holds under_way) in
       let p = r.parts in let g = r.state in let a = account k g in let W = words_of k s.words in let w : View = with_lock_at b (locked_at i) v in let live = lt-ltb 0 v.share.shares some_share in
@@ -228,10 +228,10 @@ module _ (k : Setup) where
   -- the size is stored, once the slots have what each band keeps, the producers are set and no fate is owed
   pub stores_size : (slots id : ℕ) (m : Sat) (t : HalfResize) → holds_lock m.0.place.position ≡ true → m.0.holder.resizing ≡ Some t → 0 < m.0.share.shares
       → ((b : ℕ) → b < 3 → IsRefilled (at b t.works).slots (at b t.works).kept t.len × (at b m.0.locks ≡ locked_at (round t.len (length (at b t.works).kept))) × ((at b t.works).waiting ≡ []))
-      → Allows (Rule k) slots id m size_place (λ _. t.len) (λ _. size_stored t (step slots size_place t.len 0 none) m t.len)
+      → Allows (Rule k) slots id m size_place (λ _. t.len) (λ _. store_size_told t (step slots size_place t.len 0 none) m t.len)
   stores_size slots id m t holds under_way some_share ready s r1 deep here small =
       let v : View = m.0 in let r = resizing_rule k s r1 (Some t) (resizing_known k s r1 id v (Some t) here some_share holds under_way) in let live = lt-ltb 0 v.share.shares some_share in
-      let p = r.parts in let g = r.state in let a = account k g in let q = r.qdisc in let W = words_of k s.words in let w : View = restarted t v in
+      let p = r.parts in let g = r.state in let a = account k g in let q = r.qdisc in let W = words_of k s.words in let w : View = store_size_view t v in
       let at_ = p.station.lends.knows id v here live holds in let mach = stays k s r id v w here live refl refl refl refl in
       let res = p.station.rings.half_resized t refl in let ends' : Three Ends = all_three at_start in let g' : State = record g { ends = ends'; resizing = None } in let D' : HolderPart = holders g' a t.len in (
         w,

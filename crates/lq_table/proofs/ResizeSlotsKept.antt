@@ -26,8 +26,8 @@ use Rattle.lq_band_laws.proofs.StoredKept.{stored_as}
 use Rattle.lq_band_laws.proofs.HalfResizedKept.{clears, clears_other, fills}
 use Rattle.lq_table.specs.Views.{View, Setup, State, HolderPart, HalfResize, Work, Left}
 use Rattle.lq_table.specs.Rule.{words_of, slot_word, account, holders, owes, waiting_of, unstored, FatesStored, bands_now, Leaves, IsResizing, locks_at, Settled, Parts, Rule}
-use Rattle.lq_table.specs.Told.{Sat}
-use Rattle.lq_table.specs.Resizes.{is_word, is_member, hand_with, out_of, into, with_work, with_resizing, slot_cleared, slot_filled}
+use Rattle.lq_table.specs.Moves.{Sat}
+use Rattle.lq_table.specs.Resizes.{is_word, is_member, hand_with, out_of, into, with_work, with_resizing, clear_slot_told, fill_slot_told}
 use Rattle.lq_table.proofs.ByName.{slots_long, set_slot, slot_of}
 use Rattle.lq_table.proofs.SettledKept.{settled_same}
 use Rattle.lq_table.proofs.Frames.{none_some, packets_same, locks_same, control_same, rule_after, stays, lends_held, holder_now}
@@ -163,7 +163,7 @@ module _ (k : Setup) where
     word = slot_word k b i
 
     -- any slot is emptied
-    pub clears_slot : length k.infos ≤ 1000000 → Allows (Rule k) slots id m word (λ _. 0) (slot_cleared b i t (step slots word 0 0 none) m)
+    pub clears_slot : length k.infos ≤ 1000000 → Allows (Rule k) slots id m word (λ _. 0) (clear_slot_told b i t (step slots word 0 0 none) m)
     clears_slot few s r1 deep here small =
         let v : View = m.0 in let r = resizing_rule k s r1 (Some t) (resizing_known k s r1 id v (Some t) here some_share holds under_way) in let p = r.parts in let g = r.state in let W = words_of k s.words in
         let a = account k g in let res = p.station.rings.half_resized t refl in let old = res.ring b below in let x : Work = at b t.works in let f : ℕ = get_or x.slots i 0 in
@@ -186,7 +186,7 @@ module _ (k : Setup) where
         )
 
     -- a packet in hand is put into an empty slot
-    pub fills_slot : (n : ℕ) (hand : List ℕ) → (at b t.works).hand ≡ n ∷ hand → get_or (at b t.works).slots i 0 ≡ 0 → Allows (Rule k) slots id m word (λ _. n + 1) (λ _. slot_filled b i n hand t (step slots word (n + 1) 0 none) m (n + 1))
+    pub fills_slot : (n : ℕ) (hand : List ℕ) → (at b t.works).hand ≡ n ∷ hand → get_or (at b t.works).slots i 0 ≡ 0 → Allows (Rule k) slots id m word (λ _. n + 1) (λ _. fill_slot_told b i n hand t (step slots word (n + 1) 0 none) m (n + 1))
     fills_slot n hand has_it empty_ s r1 deep here small =
         let v : View = m.0 in let r = resizing_rule k s r1 (Some t) (resizing_known k s r1 id v (Some t) here some_share holds under_way) in let p = r.parts in let g = r.state in let W = words_of k s.words in let a = account k g in
         let y : Work = at b t.works in

@@ -15,7 +15,7 @@ use Rattle.lq_band_laws.specs.Ring.{Ends, is_emptying}
 use Rattle.lq_band_laws.proofs.Kept.{finds_none, takes}
 use Rattle.lq_table.proofs.ByName.{slot_of}
 use Rattle.lq_table.proofs.Facts.{calm_rule}
-use Rattle.lq_table.proofs.HeadKept.{sees_head}
+use Rattle.lq_table.proofs.HeadSlotKept.{sees_head}
 use Rattle.lq_table.proofs.KnownPackets.{knows_held}
 use mathlib.Core.Option.{some, none}
 use prog.Atomic.{either}
@@ -26,15 +26,18 @@ use Rattle.std.specs.Prelude.{slice_index}
 use Rattle.lq_table.specs.Places.{state_place, lock_place}
 use Rattle.lq_table.specs.Views.{View, Setup, State, HolderPart, machine_packet}
 use Rattle.lq_table.specs.Rule.{words_of, slot_word, account, xoff_word, Rule}
-use Rattle.lq_table.specs.Told.{Sat, at_rest, loads_state, misses, schedules, tries_lock, loads_stop, stop_queue, looked, checked, rechecked, missed_now, scheduled_now, stop_loaded, woken, tried}
-use Rattle.lq_table.specs.Rings.{head_seen}
-use Rattle.lq_table.specs.Solo.{IsSole, SeesState, SeesChecked, SeesStop, account_of, looked_all, checked_all, rechecked_all, missed_all, scheduled_all, stop_loaded_all, stop_looked_all, woken_all, tried_all, TellsHead, head_seen_all}
+use Rattle.lq_table.specs.Moves.{Sat, at_rest}
+use Rattle.lq_table.specs.States.{load_state_at, miss_at, set_sched_at, load_state_told, check_told, recheck_told, miss_told, set_sched_told, SeesState, SeesChecked, load_state_told_all, check_told_all, recheck_told_all, miss_told_all, set_sched_told_all}
+use Rattle.lq_table.specs.Locks.{try_lock_at, try_lock_told, try_lock_told_all}
+use Rattle.lq_table.specs.Stops.{load_xoff_at, load_xoff_queue, load_xoff_told, wake_told, SeesXoff, load_xoff_told_all, look_stop_told_all, wake_told_all}
+use Rattle.lq_table.specs.Consumers.{head_slot_told, TellsHead, head_slot_told_all}
+use Rattle.lq_table.specs.Solo.{IsSole, account_of}
 use Rattle.lq_table.proofs.Loads.{also}
 use Rattle.lq_table.proofs.SoleFacts.{knows_account, knows_state, sees_down, sees_state, sees_lock, sees_stop, holds_accounts, holds_sent}
-use Rattle.lq_table.proofs.QuietKept.{looks_all, misses_kept, schedules_kept}
-use Rattle.lq_table.proofs.RefuseKept.{checks}
-use Rattle.lq_table.proofs.DirectKept.{rechecks}
-use Rattle.lq_table.proofs.LoadKept.{loads_stop_word}
+use Rattle.lq_table.proofs.StatesKept.{looks_all, misses_kept, schedules_kept}
+use Rattle.lq_table.proofs.CheckKept.{checks}
+use Rattle.lq_table.proofs.RecheckKept.{rechecks}
+use Rattle.lq_table.proofs.LoadXoffKept.{loads_stop_word}
 use Rattle.lq_table.proofs.LocksKept.{tries_all}
 use Rattle.lq_table.proofs.WakeKept.{wakes}
 use Rattle.lq_table.proofs.AllAtRest.{unlocked}
@@ -46,28 +49,28 @@ module _ (k : Setup) (slots id : ℕ) (m : Sat) where
   abbrev sees : ℕ → Type 0
   sees x = IsSole m.0 → SeesState m.0 x
 
-  pub looks_sole : loads_state m.0.place.position ≡ true → 0 < m.0.share.shares → Allows (Rule k) slots id m state_place (λ n. n) (looked_all (step slots state_place 0 0 none) m)
-  looks_sole at some_share = also k slots id m state_place (λ n. n) (looked (step slots state_place 0 0 none) m) sees (λ s r here sole. sees_state k s r id m.0 here some_share sole) (looks_all k slots id m at some_share)
+  pub looks_sole : load_state_at m.0.place.position ≡ true → 0 < m.0.share.shares → Allows (Rule k) slots id m state_place (λ n. n) (load_state_told_all (step slots state_place 0 0 none) m)
+  looks_sole at some_share = also k slots id m state_place (λ n. n) (load_state_told (step slots state_place 0 0 none) m) sees (λ s r here sole. sees_state k s r id m.0 here some_share sole) (looks_all k slots id m at some_share)
 
-  pub checks_sole : (n : ℕ) → m.0.place.position ≡ Check (machine_packet k.infos n) → m.0.packets.fresh ≡ Some n → m.0.packets.owed ≡ None → 0 < m.0.share.shares → Allows (Rule k) slots id m state_place (λ x. x) (checked_all n (step slots state_place 0 0 none) m)
-  checks_sole n at fresh owed some_share = also k slots id m state_place (λ x. x) (checked n (step slots state_place 0 0 none) m) (SeesChecked m.0) (λ s r here. (λ sole. sees_state k s r id m.0 here some_share sole, λ first. sees_down k s r id m.0 here first)) (checks k slots id n m at fresh owed some_share)
+  pub checks_sole : (n : ℕ) → m.0.place.position ≡ Check (machine_packet k.infos n) → m.0.packets.fresh ≡ Some n → m.0.packets.owed ≡ None → 0 < m.0.share.shares → Allows (Rule k) slots id m state_place (λ x. x) (check_told_all n (step slots state_place 0 0 none) m)
+  checks_sole n at fresh owed some_share = also k slots id m state_place (λ x. x) (check_told n (step slots state_place 0 0 none) m) (SeesChecked m.0) (λ s r here. (λ sole. sees_state k s r id m.0 here some_share sole, λ first. sees_down k s r id m.0 here first)) (checks k slots id n m at fresh owed some_share)
 
-  pub rechecks_sole : (n : ℕ) → m.0.place.position ≡ Recheck (machine_packet k.infos n) → m.0.packets.fresh ≡ Some n → 0 < m.0.share.shares → Allows (Rule k) slots id m state_place (λ x. x) (rechecked_all n (step slots state_place 0 0 none) m)
-  rechecks_sole n at fresh some_share = also k slots id m state_place (λ x. x) (rechecked n (step slots state_place 0 0 none) m) sees (λ s r here sole. sees_state k s r id m.0 here some_share sole) (rechecks k slots id n m at fresh some_share)
+  pub rechecks_sole : (n : ℕ) → m.0.place.position ≡ Recheck (machine_packet k.infos n) → m.0.packets.fresh ≡ Some n → 0 < m.0.share.shares → Allows (Rule k) slots id m state_place (λ x. x) (recheck_told_all n (step slots state_place 0 0 none) m)
+  rechecks_sole n at fresh some_share = also k slots id m state_place (λ x. x) (recheck_told n (step slots state_place 0 0 none) m) sees (λ s r here sole. sees_state k s r id m.0 here some_share sole) (rechecks k slots id n m at fresh some_share)
 
-  pub misses_sole : misses m.0.place.position ≡ true → 0 < m.0.share.shares → Allows (Rule k) slots id m state_place (λ n. bit_or n 4) (missed_all (step slots state_place 4 0 none) m)
-  misses_sole at some_share = also k slots id m state_place (λ n. bit_or n 4) (missed_now (step slots state_place 4 0 none) m) sees (λ s r here sole. sees_state k s r id m.0 here some_share sole) (misses_kept k slots id m at some_share)
+  pub misses_sole : miss_at m.0.place.position ≡ true → 0 < m.0.share.shares → Allows (Rule k) slots id m state_place (λ n. bit_or n 4) (miss_told_all (step slots state_place 4 0 none) m)
+  misses_sole at some_share = also k slots id m state_place (λ n. bit_or n 4) (miss_told (step slots state_place 4 0 none) m) sees (λ s r here sole. sees_state k s r id m.0 here some_share sole) (misses_kept k slots id m at some_share)
 
-  pub schedules_sole : schedules m.0.place.position ≡ true → 0 < m.0.share.shares → Allows (Rule k) slots id m state_place (λ n. bit_or n 1) (scheduled_all (step slots state_place 1 0 none) m)
-  schedules_sole at some_share = also k slots id m state_place (λ n. bit_or n 1) (scheduled_now (step slots state_place 1 0 none) m) sees (λ s r here sole. sees_state k s r id m.0 here some_share sole) (schedules_kept k slots id m at some_share)
+  pub schedules_sole : set_sched_at m.0.place.position ≡ true → 0 < m.0.share.shares → Allows (Rule k) slots id m state_place (λ n. bit_or n 1) (set_sched_told_all (step slots state_place 1 0 none) m)
+  schedules_sole at some_share = also k slots id m state_place (λ n. bit_or n 1) (set_sched_told (step slots state_place 1 0 none) m) sees (λ s r here sole. sees_state k s r id m.0 here some_share sole) (schedules_kept k slots id m at some_share)
 
-  pub tries_sole : tries_lock m.0.place.position ≡ true → 0 < m.0.share.shares → Allows (Rule k) slots id m lock_place (λ n. either (eqb n 0) 1 n) (tried_all (step slots lock_place 0 1 none) m)
-  tries_sole at some_share = also k slots id m lock_place (λ n. either (eqb n 0) 1 n) (tried (step slots lock_place 0 1 none) m) (λ x. IsSole m.0 → x ≡ bit m.0.whole.qdisc.locked) (λ s r here sole. sees_lock k s r id m.0 here some_share sole) (tries_all k slots id m at some_share)
+  pub tries_sole : try_lock_at m.0.place.position ≡ true → 0 < m.0.share.shares → Allows (Rule k) slots id m lock_place (λ n. either (eqb n 0) 1 n) (try_lock_told_all (step slots lock_place 0 1 none) m)
+  tries_sole at some_share = also k slots id m lock_place (λ n. either (eqb n 0) 1 n) (try_lock_told (step slots lock_place 0 1 none) m) (λ x. IsSole m.0 → x ≡ bit m.0.whole.qdisc.locked) (λ s r here sole. sees_lock k s r id m.0 here some_share sole) (tries_all k slots id m at some_share)
 
-  pub loads_stop_sole : (queue : ℕ) → loads_stop m.0.place.position ≡ true → stop_queue k.infos m.0.holder.slot m.0.place.position queue ≡ queue → queue < k.queues → length k.infos ≤ 1000000 → 0 < m.0.share.shares
-      → Allows (Rule k) slots id m (xoff_word k queue) (λ x. x) (stop_loaded_all queue (step slots (xoff_word k queue) 0 0 none) m)
-  loads_stop_sole queue at of_queue below few some_share = also k slots id m (xoff_word k queue) (λ x. x) (stop_loaded (step slots (xoff_word k queue) 0 0 none) m)
-      (SeesStop queue m.0)
+  pub loads_stop_sole : (queue : ℕ) → load_xoff_at m.0.place.position ≡ true → load_xoff_queue k.infos m.0.holder.slot m.0.place.position queue ≡ queue → queue < k.queues → length k.infos ≤ 1000000 → 0 < m.0.share.shares
+      → Allows (Rule k) slots id m (xoff_word k queue) (λ x. x) (load_xoff_told_all queue (step slots (xoff_word k queue) 0 0 none) m)
+  loads_stop_sole queue at of_queue below few some_share = also k slots id m (xoff_word k queue) (λ x. x) (load_xoff_told (step slots (xoff_word k queue) 0 0 none) m)
+      (SeesXoff queue m.0)
       (λ s r here. ((λ sole no_shut. sees_stop k s r id m.0 here some_share sole no_shut queue), λ sole. holds_accounts k s r id m.0 here some_share sole, λ sole. holds_sent k s r id m.0 here some_share sole))
       (loads_stop_word k slots id queue m at of_queue below few some_share)
 
@@ -76,11 +79,11 @@ module _ (k : Setup) (slots id : ℕ) (m : Sat) where
   none_shut at some_share s r here sole = ap (λ (g : State). g.shut) (knows_state k s r id m.0 here some_share sole)
       ∙ free_none r.qdisc.phase r.qdisc.locked r.qdisc.xoff (account k r.state).stops r.state.shut (unlocked k s r (rests k s r id m.0 here sole.0 (ap at_rest at))) r.parts.station.stops
 
-  pub looks_stop_sole : (queue : ℕ) → m.0.place.position ≡ Idle → 0 < m.0.share.shares → Allows (Rule k) slots id m (xoff_word k queue) (λ n. n) (stop_looked_all queue (step slots (xoff_word k queue) 0 0 none) m)
+  pub looks_stop_sole : (queue : ℕ) → m.0.place.position ≡ Idle → 0 < m.0.share.shares → Allows (Rule k) slots id m (xoff_word k queue) (λ n. n) (look_stop_told_all queue (step slots (xoff_word k queue) 0 0 none) m)
   looks_stop_sole queue at some_share s r deep here small = (m.0, keeps, tt, rule_same k s r (xoff_word k queue) id m.0 here, (refl, λ sole. sees_stop k s r id m.0 here some_share sole (none_shut at some_share s r here sole) queue))
 
-  pub wakes_sole : (queue : ℕ) → queue < k.queues → m.0.place.position ≡ Idle → 0 < m.0.share.shares → Allows (Rule k) slots id m (xoff_word k queue) (λ n. either (eqb n 1) 0 n) (woken_all queue (step slots (xoff_word k queue) 1 0 none) m)
-  wakes_sole queue below at some_share = also k slots id m (xoff_word k queue) (λ n. either (eqb n 1) 0 n) (woken queue (step slots (xoff_word k queue) 1 0 none) m) (λ x. IsSole m.0 → x ≡ slice_index (account_of m.0).stops queue)
+  pub wakes_sole : (queue : ℕ) → queue < k.queues → m.0.place.position ≡ Idle → 0 < m.0.share.shares → Allows (Rule k) slots id m (xoff_word k queue) (λ n. either (eqb n 1) 0 n) (wake_told_all queue (step slots (xoff_word k queue) 1 0 none) m)
+  wakes_sole queue below at some_share = also k slots id m (xoff_word k queue) (λ n. either (eqb n 1) 0 n) (wake_told queue (step slots (xoff_word k queue) 1 0 none) m) (λ x. IsSole m.0 → x ≡ slice_index (account_of m.0).stops queue)
       (λ s r here sole. sees_stop k s r id m.0 here some_share sole (none_shut at some_share s r here sole) queue) (wakes k slots id queue m below at some_share)
 
   -- what stands in the slot at the head of a band whose consumer rests
@@ -102,6 +105,6 @@ module _ (k : Setup) (slots id : ℕ) (m : Sat) where
       )
 
   pub sees_head_sole : (b i : ℕ) (second : Bool) → b < 3 → i < k.max_len → m.0.place.position ≡ Scan b second → m.0.holder.resizing ≡ None → is_emptying m.0.holder.size (at b m.0.holder.ends) ≡ false → i ≡ (at b m.0.holder.ends).head → 0 < m.0.share.shares → length k.infos ≤ 1000000
-      → Allows (Rule k) slots id m (slot_word k b i) (λ x. x) (head_seen_all b (step slots (slot_word k b i) 0 0 none) m)
-  sees_head_sole b i second below inside position no_resizing rests is_head some_share few = also k slots id m (slot_word k b i) (λ x. x) (head_seen b (step slots (slot_word k b i) 0 0 none) m) (TellsHead b m.0)
+      → Allows (Rule k) slots id m (slot_word k b i) (λ x. x) (head_slot_told_all b (step slots (slot_word k b i) 0 0 none) m)
+  sees_head_sole b i second below inside position no_resizing rests is_head some_share few = also k slots id m (slot_word k b i) (λ x. x) (head_slot_told b (step slots (slot_word k b i) 0 0 none) m) (TellsHead b m.0)
       (sees_first b i second below inside position no_resizing rests is_head some_share) (sees_head k slots id m b i second below inside position no_resizing rests is_head some_share few)

@@ -22,8 +22,8 @@ use Rattle.lq_table.specs.Places.{line_of}
 use Rattle.lq_table.specs.Views.{View, Setup, State, HolderPart, machine_packet, first_account}
 use Rattle.lq_table.specs.Rule.{HasServed, IsCallOf, IsDevice, latest_unit, Opening, AreStops, xoff_word, station_count, words_of, account, holders, last_sent, units_of, Holder, Rule}
 use Rattle.lq_table.proofs.UnitsKept.{fewer, unit_is_latest, BringsNone, gone_swap}
-use Rattle.lq_table.specs.Told.{Sat}
-use Rattle.lq_table.specs.Controls.{IsSwap, shut_after, swapping, swapped, opening_next, next_opened, GoesAway}
+use Rattle.lq_table.specs.Moves.{Sat}
+use Rattle.lq_table.specs.Controls.{IsSwap, shut_after, swap_view, swap_told, open_xoff_view, open_xoff_told, GoesAway}
 use Rattle.lq_table.proofs.StopsKept.{agree, after_open, no_two}
 use Rattle.lq_table.proofs.Frames.{is_locked, moves}
 use Rattle.lq_model.specs.declared.fate.Info.{Info}
@@ -32,7 +32,7 @@ use Rattle.lq_table.proofs.Middle.{middle, controls_in}
 use Rattle.lq_table.proofs.Facts.{map_none}
 use Rattle.lq_table.proofs.Accounts.{with_at_other}
 use Rattle.lq_table.proofs.Frames.{leaves_same, firsts_same, firsts_as, rule_after, opened, closed, lends_held}
-use Rattle.lq_table.proofs.UpKept.{purged_idle}
+use Rattle.lq_table.proofs.ClearDeactivatedKept.{purged_idle}
 use Rattle.lq_table.proofs.SeatFrames.{seats_same, seats_by_control, packets_heard}
 use Rattle.lq_table.proofs.StationFrames.{station_kept, ties_same, account_after}
 
@@ -89,11 +89,11 @@ module _ (k : Setup) where
   -- it stores the stop word 0, with a device that has accepted nothing and whose unit is new
   pub swaps : (slots id : ℕ) (m : Sat) (st : StationState) → 0 < k.queues → m.0.holder.shut ≡ None → m.0.place.position ≡ Control true → m.0.control.phase ≡ Purged → m.0.control.purge ≡ None
       → IsSwap m.0.share.about.infos m.0.share.about.station m.0.holder.units st → 0 < m.0.share.shares
-      → Allows (Rule k) slots id m (line_of 3) (λ _. 0) (swapped st (step slots (line_of 3) 0 0 none) m)
+      → Allows (Rule k) slots id m (line_of 3) (λ _. 0) (swap_told st (step slots (line_of 3) 0 0 none) m)
   swaps slots id m st some_queue no_shut position purged no_purge is_new some_share s r deep here small =
       let v : View = m.0 in
       let q = r.qdisc in let p = r.parts in let g = r.state in let a = account k g in let W = words_of k s.words in let live = lt-ltb 0 v.share.shares some_share in let mid = middle s.views id v here live in let holds : holds_lock v.place.position ≡ true = ap holds_lock position in
-      let D : HolderPart = holders g a W.size in let w : View = swapping st v in let e : Event = Swap st.unit in let a' : Account = after e a in
+      let D : HolderPart = holders g a W.size in let w : View = swap_view st v in let e : Event = Swap st.unit in let a' : Account = after e a in
       let at_ : Holder k.infos W.xoff g.past D (Control true) v.holder = subst (λ (z : Position). Holder k.infos W.xoff g.past D z v.holder) position (p.station.lends.knows id v here live holds) in
       let first : v.control.first ≡ true = p.machine.firsts.control id v here live (ap is_control position) in let knows = p.machine.firsts.knows id v here first in
       let phase : q.phase ≡ Purged = sym knows.0 ∙ purged in let purge : q.purge ≡ None = sym knows.1 ∙ no_purge in
@@ -145,11 +145,11 @@ module _ (k : Setup) where
 
   -- it stores the next queue's
   pub opens_next : (slots id queue : ℕ) (m : Sat) → queue < k.queues → m.0.holder.shut ≡ Some queue → m.0.place.position ≡ Control true → m.0.control.phase ≡ Purged → m.0.control.purge ≡ None → 0 < m.0.share.shares
-      → Allows (Rule k) slots id m (xoff_word k queue) (λ _. 0) (next_opened queue (step slots (xoff_word k queue) 0 0 none) m)
+      → Allows (Rule k) slots id m (xoff_word k queue) (λ _. 0) (open_xoff_told queue (step slots (xoff_word k queue) 0 0 none) m)
   opens_next slots id queue m below is_shut position purged no_purge some_share s r deep here small =
       let v : View = m.0 in
       let q = r.qdisc in let p = r.parts in let g = r.state in let a = account k g in let W = words_of k s.words in let live = lt-ltb 0 v.share.shares some_share in let mid = middle s.views id v here live in let holds : holds_lock v.place.position ≡ true = ap holds_lock position in
-      let D : HolderPart = holders g a W.size in let w : View = opening_next queue v in let n : ℕ = v.share.about.queues in let shut : Option ℕ = shut_after queue n in
+      let D : HolderPart = holders g a W.size in let w : View = open_xoff_view queue v in let n : ℕ = v.share.about.queues in let shut : Option ℕ = shut_after queue n in
       let at_ : Holder k.infos W.xoff g.past D (Control true) v.holder = subst (λ (z : Position). Holder k.infos W.xoff g.past D z v.holder) position (p.station.lends.knows id v here live holds) in
       let first : v.control.first ≡ true = p.machine.firsts.control id v here live (ap is_control position) in let knows = p.machine.firsts.knows id v here first in
       let phase : q.phase ≡ Purged = sym knows.0 ∙ purged in let purge : q.purge ≡ None = sym knows.1 ∙ no_purge in

@@ -17,8 +17,9 @@ use Rattle.lq_model.specs.Steps.{step_at, goes_to, gives_up, lock_got}
 use Rattle.lq_table.specs.Marks.{marks_of}
 use Rattle.lq_table.specs.Views.{View, HolderPart}
 use Rattle.lq_table.specs.Rule.{holders}
-use Rattle.lq_table.specs.Told.{Sat, seen_by, seen_lock, tries_lock, got, got_in_call, got_in_control, finding_locked, tried, lock_looked}
-use Rattle.lq_table.specs.Solo.{IsAccounts, SeesLock, account_of, solo, locked_to}
+use Rattle.lq_table.specs.Moves.{Sat, seen_by}
+use Rattle.lq_table.specs.Locks.{seen_lock, try_lock_at, try_lock_view, try_lock_view_in_call, try_lock_view_in_control, look_lock_view, try_lock_told, look_lock_told, SeesLock}
+use Rattle.lq_table.specs.Solo.{IsAccounts, account_of, solo, locked_to}
 use Rattle.atomic_table.specs.Table.{Step}
 
 -- A STEP OF THE MACHINE THAT TRIES THE LOCK
@@ -41,14 +42,14 @@ either_words : (b : Bool) (a : Attempt) (q : Qdisc) (s : Seat) (y : Position) �
 either_words true a q s y e = λ j. record q { locked = e j }
 either_words false a q s y e = got_words a (record q { locked = true }) s
 
-raised : (y : Position) → tries_lock y ≡ true → (q : Qdisc) (s : Seat) → (step_at y Plain q s).seat.raised ≡ s.raised
+raised : (y : Position) → try_lock_at y ≡ true → (q : Qdisc) (s : Seat) → (step_at y Plain q s).seat.raised ≡ s.raised
 raised (at.Try1 a) h q s = either_raised q.locked a q (record q { locked = true }) s (at.Miss a)
 raised (at.Try2 a) h q s = either_raised q.locked a q (record q { locked = true }) s (gives_up a)
 raised (at.Control holds) h q s = refl
 raised _ h q s = absurd (false≢true h)
 
 -- a call takes the lock in the machine, or it is taken already
-words : (y : Position) → tries_lock y ≡ true → (q : Qdisc) (s : Seat) → (is_control y ≡ true → q.locked ≡ true)
+words : (y : Position) → try_lock_at y ≡ true → (q : Qdisc) (s : Seat) → (is_control y ≡ true → q.locked ≡ true)
     → (step_at y Plain q s).qdisc ≡ record q { locked = true }
 words (at.Try1 a) h q s held = either_words q.locked a q s (at.Miss a) refl
 words (at.Try2 a) h q s held = either_words q.locked a q s (gives_up a) refl
@@ -62,46 +63,46 @@ at_lock y q d v = record v {
   whole = record v.whole { qdisc = (step_at y Plain v.whole.qdisc v.place).qdisc };
 }
 
-solo_at : (y : Position) → tries_lock y ≡ true → (q : Qdisc) (d : HolderPart) (v : View)
+solo_at : (y : Position) → try_lock_at y ≡ true → (q : Qdisc) (d : HolderPart) (v : View)
     → (is_control y ≡ true → v.whole.qdisc.locked ≡ true) → solo (at_lock y q d v) ≡ locked_to true (solo v)
 solo_at y h q d v held = let a = raised y h q v.place in let b = words y h v.whole.qdisc v.place held in λ j. record (solo v) {
   raised = a j;
   whole = record (solo v).whole { missed = (b j).missed; draining = (b j).draining; scheduled = (b j).sched; locked = (b j).locked };
 }
 
-marks_at : (y : Position) → tries_lock y ≡ true → (q : Qdisc) (d : HolderPart) (v : View) → marks_of (at_lock y q d v) ≡ marks_of v
+marks_at : (y : Position) → try_lock_at y ≡ true → (q : Qdisc) (d : HolderPart) (v : View) → marks_of (at_lock y q d v) ≡ marks_of v
 marks_at y h q d v = let a = raised y h q v.place in λ j. record (marks_of v) { raised = a j }
 
 -- IT IS HELD
 
-pub finds_solo : (v : View) → tries_lock v.place.position ≡ true → v.whole.qdisc.locked ≡ true
-    → solo (finding_locked v) ≡ locked_to true (solo v)
+pub finds_solo : (v : View) → try_lock_at v.place.position ≡ true → v.whole.qdisc.locked ≡ true
+    → solo (look_lock_view v) ≡ locked_to true (solo v)
 finds_solo v h locked = solo_at v.place.position h (seen_lock (seen_by v) true) v.holder v (λ _. locked)
 
-finds_marks : (v : View) → tries_lock v.place.position ≡ true → marks_of (finding_locked v) ≡ marks_of v
+finds_marks : (v : View) → try_lock_at v.place.position ≡ true → marks_of (look_lock_view v) ≡ marks_of v
 finds_marks v h = marks_at v.place.position h (seen_lock (seen_by v) true) v.holder v
 
 -- IT IS GOT
 
 abbrev got_at : Position → HolderPart → View → View
-got_at y d v = if is_control y then got_in_control d v else at_lock y (seen_lock (seen_by (record v { holder = d })) false) d v
+got_at y d v = if is_control y then try_lock_view_in_control d v else at_lock y (seen_lock (seen_by (record v { holder = d })) false) d v
 
-gets_solo : (y : Position) → tries_lock y ≡ true → (d : HolderPart) (v : View) → solo (got_at y d v) ≡ locked_to true (solo v)
+gets_solo : (y : Position) → try_lock_at y ≡ true → (d : HolderPart) (v : View) → solo (got_at y d v) ≡ locked_to true (solo v)
 gets_solo (at.Try1 a) h d v = solo_at (at.Try1 a) h (seen_lock (seen_by (record v { holder = d })) false) d v (λ e. absurd (false≢true e))
 gets_solo (at.Try2 a) h d v = solo_at (at.Try2 a) h (seen_lock (seen_by (record v { holder = d })) false) d v (λ e. absurd (false≢true e))
 gets_solo (at.Control holds) h d v = refl
 gets_solo _ h d v = absurd (false≢true h)
 
-gets_marks : (y : Position) → tries_lock y ≡ true → (d : HolderPart) (v : View) → marks_of (got_at y d v) ≡ marks_of v
+gets_marks : (y : Position) → try_lock_at y ≡ true → (d : HolderPart) (v : View) → marks_of (got_at y d v) ≡ marks_of v
 gets_marks (at.Try1 a) h d v = marks_at (at.Try1 a) h (seen_lock (seen_by (record v { holder = d })) false) d v
 gets_marks (at.Try2 a) h d v = marks_at (at.Try2 a) h (seen_lock (seen_by (record v { holder = d })) false) d v
 gets_marks (at.Control holds) h d v = refl
 gets_marks _ h d v = absurd (false≢true h)
 
-pub gets_accounts : (d : HolderPart) (v : View) → d ≡ holders v.whole.state (account_of v) d.size → IsAccounts (got d v)
+pub gets_accounts : (d : HolderPart) (v : View) → d ≡ holders v.whole.state (account_of v) d.size → IsAccounts (try_lock_view d v)
 gets_accounts d v e = by (is_control v.place.position)
   where
-    by : (b : Bool) → IsAccounts (if b then got_in_control d v else got_in_call d v)
+    by : (b : Bool) → IsAccounts (if b then try_lock_view_in_control d v else try_lock_view_in_call d v)
     by true = e
     by false = e
 
@@ -111,19 +112,19 @@ is_locked : (b : Bool) (n : ℕ) → suc n ≡ bit b → b ≡ true
 is_locked true n e = refl
 is_locked false n e = absurd (omega arith)
 
-pub try_solo : (s : Step (Option StationState)) (found : ℕ) (m m' : Sat) → tries_lock m.0.place.position ≡ true
-    → tried s m found m' → found ≡ bit m.0.whole.qdisc.locked → solo m'.0 ≡ locked_to true (solo m.0)
+pub try_solo : (s : Step (Option StationState)) (found : ℕ) (m m' : Sat) → try_lock_at m.0.place.position ≡ true
+    → try_lock_told s m found m' → found ≡ bit m.0.whole.qdisc.locked → solo m'.0 ≡ locked_to true (solo m.0)
 try_solo s zero m m' h t e = let d = t.0 refl in ap (λ (z : Sat). solo z.0) d.1 ∙ gets_solo m.0.place.position h d.0 m.0
 try_solo s (suc n) m m' h t e = ap (λ (z : Sat). solo z.0) (t.1 (omega arith)) ∙ finds_solo m.0 h (is_locked m.0.whole.qdisc.locked n e)
 
-pub try_marks : (s : Step (Option StationState)) (found : ℕ) (m m' : Sat) → tries_lock m.0.place.position ≡ true
-    → tried s m found m' → marks_of m'.0 ≡ marks_of m.0
+pub try_marks : (s : Step (Option StationState)) (found : ℕ) (m m' : Sat) → try_lock_at m.0.place.position ≡ true
+    → try_lock_told s m found m' → marks_of m'.0 ≡ marks_of m.0
 try_marks s zero m m' h t = let d = t.0 refl in ap (λ (z : Sat). marks_of z.0) d.1 ∙ gets_marks m.0.place.position h d.0 m.0
 try_marks s (suc n) m m' h t = ap (λ (z : Sat). marks_of z.0) (t.1 (omega arith)) ∙ finds_marks m.0 h
 
 -- a look answers whether the lock is held
-pub look_marks : (s : Step (Option StationState)) (found : ℕ) (m m' : Sat) → tries_lock m.0.place.position ≡ true
-    → lock_looked s m found m' → marks_of m'.0 ≡ marks_of m.0
+pub look_marks : (s : Step (Option StationState)) (found : ℕ) (m m' : Sat) → try_lock_at m.0.place.position ≡ true
+    → look_lock_told s m found m' → marks_of m'.0 ≡ marks_of m.0
 look_marks s zero m m' h t = ap (λ (z : Sat). marks_of z.0) (t.0 refl)
 look_marks s (suc n) m m' h t = ap (λ (z : Sat). marks_of z.0) (t.1 (omega arith)) ∙ finds_marks m.0 h
 
@@ -135,15 +136,15 @@ held_bit : (found : ℕ) (b : Bool) → found ≡ bit b → not (eqb found 0) �
 held_bit found true e = ap (λ (n : ℕ). not (eqb n 0)) e
 held_bit found false e = ap (λ (n : ℕ). not (eqb n 0)) e
 
-pub look_solo : (s : Step (Option StationState)) (found : ℕ) (m m' : Sat) → tries_lock m.0.place.position ≡ true
-    → lock_looked s m found m' → found ≡ bit m.0.whole.qdisc.locked → SeesLock (not (eqb found 0)) m.0 m'.0
+pub look_solo : (s : Step (Option StationState)) (found : ℕ) (m m' : Sat) → try_lock_at m.0.place.position ≡ true
+    → look_lock_told s m found m' → found ≡ bit m.0.whole.qdisc.locked → SeesLock (not (eqb found 0)) m.0 m'.0
 look_solo s zero m m' h t e = (held_bit 0 m.0.whole.qdisc.locked e, λ held. absurd (false≢true held))
 look_solo s (suc n) m m' h t e = (
   held_bit (suc n) m.0.whole.qdisc.locked e,
   λ _. ap (λ (z : Sat). solo z.0) (t.1 (omega arith)) ∙ finds_solo m.0 h (is_locked m.0.whole.qdisc.locked n e),
 )
 
-pub look_slots : (s : Step (Option StationState)) (found : ℕ) (m m' : Sat) → lock_looked s m found m' → m'.1 ≡ m.1
+pub look_slots : (s : Step (Option StationState)) (found : ℕ) (m m' : Sat) → look_lock_told s m found m' → m'.1 ≡ m.1
 look_slots s zero m m' t = ap (λ (z : Sat). z.1) (t.0 refl)
 look_slots s (suc n) m m' t = ap (λ (z : Sat). z.1) (t.1 (omega arith))
 

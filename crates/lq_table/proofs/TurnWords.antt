@@ -18,7 +18,7 @@ use Rattle.lq_table.specs.Views.{View, Setup, PacketPart, machine_packet}
 use Rattle.lq_table.specs.Rule.{words_of, is_live, has_turn, Rule}
 use Rattle.lq_table.specs.Between.{AreTurns, IsTransmitting, IsTurnOf}
 use Rattle.lq_table.proofs.Frames.{none_some}
-use Rattle.lq_table.proofs.UpKept.{one_of}
+use Rattle.lq_table.proofs.ClearDeactivatedKept.{one_of}
 
 -- a turn that counts at an owner is of one of its packets
 turn_of : (infos : List Info) (o : ℕ) (busy : Option ℕ) → 0 < has_turn infos o busy → (n : ℕ) × (busy ≡ Some n) × (owner_in infos n ≡ o)

@@ -23,7 +23,8 @@ use Rattle.lq_table.specs.Views.{View, Setup, SharePart, HolderPart}
 use Rattle.lq_table.specs.Comes.{IsFresh}
 use Rattle.lq_table.specs.Rule.{words_of, times, is_live, account, holders, Holder, KnowsPackets, KnowsTurn, KnowsWords, has_turn, Given, Turns, Rule}
 use Rattle.lq_table.proofs.UnitsKept.{gone_same}
-use Rattle.lq_table.specs.Told.{Sat, at_rest, bringing, turn_taken, giving_turn, turn_given, turn_seen}
+use Rattle.lq_table.specs.Moves.{Sat, at_rest}
+use Rattle.lq_table.specs.Turns.{take_turn_view, take_turn_told, give_turn_view, give_turn_told, load_turn_told}
 use Rattle.lq_table.proofs.ByName.{set_turn, turn_of_word}
 use Rattle.lq_table.proofs.Accounts.{owners_apart}
 use Rattle.lq_table.proofs.Facts.{none_if, rest_owns}
@@ -99,11 +100,11 @@ none_owned k s r id v here live idle = none_if (own_packet v.place.position) (λ
 module _ (k : Setup) where
   pub takes_turn : (slots id : ℕ) (m : Sat) (n : ℕ) → n < length k.infos → station_in k.infos n ≡ k.station → 0 < times (owner_in k.infos n) m.0.share.owners → m.0.packets.busy ≡ None → 0 < m.0.share.shares
       → Allows (Rule k) slots id m (turn_place (owner_in k.infos n)) (λ x. either (eqb x (2 * rank_in k.infos n)) (2 * rank_in k.infos n + 1) x)
-      (turn_taken n (owner_in k.infos n) (rank_in k.infos n) (step slots (turn_place (owner_in k.infos n)) (2 * rank_in k.infos n) (2 * rank_in k.infos n + 1) none) m)
+      (take_turn_told n (owner_in k.infos n) (rank_in k.infos n) (step slots (turn_place (owner_in k.infos n)) (2 * rank_in k.infos n) (2 * rank_in k.infos n + 1) none) m)
   takes_turn slots id m n inside here_station mine idle some_share s r deep here small =
       let v : View = m.0 in let live = lt-ltb 0 v.share.shares some_share in let p = r.parts in let g = r.state in let a = account k g in let W = words_of k s.words in let o : ℕ = owner_in k.infos n in let rank : ℕ = rank_in k.infos n in let t = p.seats.turns in
       let q = p.seats.packets id v here in let o_in = q.own o mine in let word = turn_of_word k s.words o o_in in let known = (p.seats.given.words_are id v here live).1 o mine in
-      let w : View = bringing n o rank v in let x : ℕ = 2 * rank + 1 in let gv = p.seats.given in
+      let w : View = take_turn_view n o rank v in let x : ℕ = 2 * rank + 1 in let gv = p.seats.given in
       dite (ℕ_discrete (get_or s.words (turn_place o) 0) (2 * rank))
       (λ free. let is : get_or W.turns o 0 ≡ 2 * rank = sym word ∙ free in let here_new = same_word k s r id v w here live o o_in mine x in let else_new = other_word k s r id v w here live o o_in mine x in
       let nobody : total (λ u. has_turn k.infos o u.packets.busy) s.views ≡ 0 = (let z = gv.turn o o_in in let e = z.1 in let one = gv.one o o_in in omega arith) in
@@ -169,10 +170,10 @@ module _ (k : Setup) where
 
   pub gives_turn : (slots id : ℕ) (m : Sat) (n : ℕ) → at_rest m.0.place.position ≡ true → m.0.packets.busy ≡ Some n → m.0.packets.fresh ≡ None → 0 < m.0.share.shares
       → Allows (Rule k) slots id m (turn_place (owner_in k.infos n)) (λ _. 2 * rank_in k.infos n + 2)
-      (turn_given (owner_in k.infos n) (rank_in k.infos n) (step slots (turn_place (owner_in k.infos n)) (2 * rank_in k.infos n + 2) 0 none) m)
+      (give_turn_told (owner_in k.infos n) (rank_in k.infos n) (step slots (turn_place (owner_in k.infos n)) (2 * rank_in k.infos n + 2) 0 none) m)
   gives_turn slots id m n rests busy none_fresh some_share s r deep here small =
       let v : View = m.0 in let live = lt-ltb 0 v.share.shares some_share in let p = r.parts in let g = r.state in let a = account k g in let W = words_of k s.words in let o : ℕ = owner_in k.infos n in let rank : ℕ = rank_in k.infos n in let t = p.seats.turns in
-      let q = p.seats.packets id v here in let know = (t.knows id v here).busy n busy in let mine = know.0 in let o_in = q.own o mine in let w : View = giving_turn o rank v in let x : ℕ = 2 * rank + 2 in let gv = p.seats.given in
+      let q = p.seats.packets id v here in let know = (t.knows id v here).busy n busy in let mine = know.0 in let o_in = q.own o mine in let w : View = give_turn_view o rank v in let x : ℕ = 2 * rank + 2 in let gv = p.seats.given in
       let is : get_or W.turns o 0 ≡ 2 * rank + 1 = know.1 in let here_new = same_word k s r id v w here live o o_in mine x in let else_new = other_word k s r id v w here live o o_in mine x in
       let came : Contains (brought_by g.past) n = gv.now id v here n busy none_fresh in let of_n = p.account.accounted.brought.packets n came in
       let mine_now : (y : ℕ) → total (λ u. has_turn k.infos y u.packets.busy) (set s.views id w) + has_turn k.infos y (Some n) ≡ total (λ u. has_turn k.infos y u.packets.busy) s.views =
@@ -213,6 +214,6 @@ module _ (k : Setup) where
         refl,
       )
 
-  pub loads_turn : (slots id o : ℕ) (m : Sat) → o < k.senders → 0 < m.0.share.shares → Allows (Rule k) slots id m (turn_place o) (λ x. x) (turn_seen o (step slots (turn_place o) 0 0 none) m)
+  pub loads_turn : (slots id o : ℕ) (m : Sat) → o < k.senders → 0 < m.0.share.shares → Allows (Rule k) slots id m (turn_place o) (λ x. x) (load_turn_told o (step slots (turn_place o) 0 0 none) m)
   loads_turn slots id o m below some_share s r deep here small =
       let v : View = m.0 in (v, keeps, tt, rule_same k s r (turn_place o) id v here, (refl, λ mine. turn_of_word k s.words o below ∙ sym ((r.parts.seats.given.words_are id v here (lt-ltb 0 v.share.shares some_share)).1 o mine)))

@@ -1,19 +1,16 @@
 -- What a seat that has the table alone, and is in no call, knows of what is left at its station.
-use Rattle.std.specs.Prelude.{◌≡◌, ◌⊎◌, ℕ, ◌+◌, ◌*◌, ◌<◌, ◌≤◌, true, false, [], length, slice_index, Contains, Option, Some, None, is_some}
-use Rattle.lq_device.specs.Station.{StationState}
+use Rattle.std.specs.Prelude.{◌≡◌, true, ◌⊎◌, ℕ, Contains, Some, ◌+◌, ◌*◌, ◌<◌, ◌≤◌, false, [], length, slice_index, None, is_some}
+use Rattle.lq_band_laws.specs.Ring.{unlocked}
+use Rattle.lq_band_laws.specs.Three.{all_three}
 use Rattle.lq_model.specs.Account.{Account, held}
 use Rattle.lq_model.specs.Machine.{Qdisc, is_closed}
 use Rattle.lq_model.specs.Plan.{owner_in, station_in, rank_in}
 use Rattle.lq_model.specs.declared.fate.Fate.{Fate}
 use Rattle.lq_model.specs.declared.machine.Phase.TheVariants.{Purged}
-use Rattle.lq_band_laws.specs.Ring.{unlocked}
-use Rattle.lq_band_laws.specs.Three.{all_three}
-use Rattle.lq_table.specs.Views.{View, Setup, State, no_packets}
+use Rattle.lq_table.specs.Moves.{at_rest}
 use Rattle.lq_table.specs.Rule.{times}
-use Rattle.lq_table.specs.Told.{Sat, at_rest}
-use Rattle.lq_table.specs.Controls.{unchanged}
 use Rattle.lq_table.specs.Solo.{IsSole, account_of}
-use Rattle.atomic_table.specs.Table.{Step}
+use Rattle.lq_table.specs.Views.{View, no_packets, Setup, State}
 
 -- it has the table alone, is in no call, and has no packet of its own and no producer lock
 abbrev pub IsSoleAtRest : View → Type 0
@@ -42,7 +39,3 @@ pub record IsRest (k : Setup) (v : View) (q : Qdisc) (g : State) (a : Account) :
 
 abbrev pub KnowsRest : View → Type 0
 KnowsRest v = IsRest v.share.about v v.whole.qdisc v.whole.state (account_of v)
-
--- a load of the run lock
-abbrev pub lock_seen : Step (Option StationState) → Sat → ℕ → Sat → Type 0
-lock_seen step m found m' = unchanged step m found m' × (IsSoleAtRest m.0 → KnowsRest m.0)

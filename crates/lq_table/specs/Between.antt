@@ -17,7 +17,7 @@ use Rattle.lq_band_laws.specs.Three.{at, all_three}
 use Rattle.lq_band_laws.specs.Ring.{unlocked}
 use Rattle.lq_table.specs.Views.{View, Setup, State, first_account, machine_packet, no_packets}
 use Rattle.lq_table.specs.Rule.{words_of, machine_of, account, bands_now, holders, is_live, AreStops, FatesStored, IsDevice, Lends, Rings, IsPresentUnit, Stands, Ties}
-use Rattle.lq_table.specs.Told.{at_rest}
+use Rattle.lq_table.specs.Moves.{at_rest}
 use Rattle.lq_table.specs.Closes.{AreQuiet, AreSlotsEmpty, IsEmptied}
 use Rattle.atomic_table.specs.Table as table
 

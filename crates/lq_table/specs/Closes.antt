@@ -1,23 +1,28 @@
 -- What the words and the station say when a table is closed.
-use Rattle.std.specs.Prelude.{◌≡◌, ℕ, ◌+◌, ◌*◌, ◌<◌, ◌≤◌, true, false, ◌⊎◌, List, [], length, slice_index, slice_get, Option, Some, None, Contains}
-use Rattle.lq_device.specs.Station.{StationState}
-use Rattle.lq_model.specs.Device.{DeviceState}
-use Rattle.lq_model.specs.declared.fate.Info.{Info}
-use Rattle.lq_model.specs.Account.{Account, Event, held}
-use Rattle.lq_model.specs.Machine.{Qdisc}
-use Rattle.lq_model.specs.Plan.{owner_in, station_in, rank_in}
-use Rattle.lq_model.specs.Words.{IsWordOf, word_of}
-use Rattle.lq_model.specs.declared.fate.Fate.{Fate}
-use Rattle.lq_ring_core.specs.Slots.{round, slot_at}
-use Rattle.lq_model.specs.Numbers.{greatest}
+use Rattle.std.specs.Prelude.{◌≡◌, ℕ, ◌+◌, ◌*◌, ◌<◌, ◌≤◌, true, false, ◌⊎◌, List, [], length, slice_index, slice_get, Option, Some, None, Contains, ◌∷◌}
+use Rattle.lq_account_laws.specs.Trail.{IsOrderly, trail_of}
+use Rattle.lq_band_laws.specs.Ring.{unlocked}
 use Rattle.lq_band_laws.specs.Seats.{Each}
 use Rattle.lq_band_laws.specs.Stored.{FateWords}
 use Rattle.lq_band_laws.specs.Three.{at, all_three}
-use Rattle.lq_band_laws.specs.Ring.{unlocked}
+use Rattle.lq_device.specs.Station.{StationState}
+use Rattle.lq_device.specs.declared.device.TxDevice.{Ghosts}
+use Rattle.lq_model.specs.Account.{Account, Event, held}
+use Rattle.lq_model.specs.Device.{DeviceState}
+use Rattle.lq_model.specs.Machine.{Qdisc}
+use Rattle.lq_model.specs.Numbers.{greatest}
+use Rattle.lq_model.specs.Plan.{owner_in, station_in, rank_in}
+use Rattle.lq_model.specs.Words.{IsWordOf, word_of}
+use Rattle.lq_model.specs.declared.fate.Fate.{Fate}
+use Rattle.lq_model.specs.declared.fate.Info.{Info}
+use Rattle.lq_ring_core.specs.Slots.{round, slot_at}
+use Rattle.lq_table.specs.Moves.{is_set}
+use Rattle.lq_table.specs.Rule.{Words, words_of, holders, shown, waits, bands_now, AreHung, HasServed, IsDevice, Accounted, Rings, IsPresentUnit, Stands, Ties, account}
+use Rattle.lq_table.specs.Sees.{view, setup, closed_words, closed_stops, closed_fates, closed_home}
 use Rattle.lq_table.specs.Views.{View, Setup, State, FirstPart, first_account}
-use Rattle.lq_account_laws.specs.Trail.{IsOrderly, trail_of}
-use Rattle.lq_table.specs.Told.{is_set}
-use Rattle.lq_table.specs.Rule.{Words, words_of, holders, shown, waits, bands_now, AreHung, HasServed, IsDevice, Accounted, Rings, IsPresentUnit, Stands, Ties}
+use Rattle.lq_table.specs.declared.ended.Closed.{Closed}
+use Rattle.lq_table.specs.declared.shared.Cpu.{Cpu}
+use Rattle.lq_table.specs.declared.shared.Shared.{Shared}
 
 -- SCHED and DEACTIVATED are clear, and the greatest stop word is 0: each queue is open
 pub record AreQuiet (w : Words) : Type 0 where
@@ -90,3 +95,28 @@ pub record Ending (k : Setup) (words : List ℕ) (slots : List (Option StationSt
   pub quiet : AreQuiet (words_of k words) → (held a ≡ []) × (g.left ≡ None)
   -- where nothing is held nothing is left
   pub emptied : held a ≡ [] → g.left ≡ None → IsEmptied k (words_of k words) (shown (holders g a (words_of k words).size))
+
+-- OF A CLOSED TABLE
+
+module _ {D : Type 0} where
+  -- the account of the table as the seat knows it
+  abbrev pub known_account : Shared D → Cpu D → Account
+  known_account t c = account (setup t) (view c).whole.state
+
+module _ {D : Type 0} {g : Ghosts D} where
+  -- it names the table's station, its plan and how many packets there are, and has the table's fate words and stop words
+  abbrev pub IsClosedOf : Shared D → Closed D g → Type 0
+  IsClosedOf t c = (c.ended.number ≡ t.station) × (c.ended.plan ≡ t.plan) × (c.ended.packets ≡ length t.infos.now) × (closed_fates c ≡ (words_of (setup t) (closed_words c)).fates)
+      × (closed_stops c ≡ (words_of (setup t) (closed_words c)).xoff)
+
+  -- where its words are quiet nothing is left at its station
+  abbrev pub IsEmptiedIfQuiet : Shared D → Closed D g → Type 0
+  IsEmptiedIfQuiet t c = EmptiedIfQuiet (setup t) (closed_words c) (closed_home c ∷ [])
+
+  -- the station is at home, and the device that came as `origin` has served it
+  abbrev pub EndsServedBy : Shared D → DeviceState → Closed D g → Type 0
+  EndsServedBy t origin c = IsServedBy t.infos.now t.station origin (closed_home c)
+
+  -- its words and its station are as this seat knew them
+  abbrev pub EndsAsKnown : Shared D → Cpu D → Closed D g → Type 0
+  EndsAsKnown t cpu c = Ending (setup t) (closed_words c) (closed_home c ∷ []) (view cpu).whole.qdisc (view cpu).whole.state (known_account t cpu) (view cpu).control (view cpu).trail

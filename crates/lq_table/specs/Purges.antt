@@ -1,32 +1,35 @@
--- What the steps of a purge tell. In the account the purge is one event at its beginning; what control does from there on is to
--- take the packets from the bands and to store their fates.
-use Rattle.std.specs.Prelude.{◌≡◌, ◌≢◌, ℕ, ◌+◌, ◌-◌, ◌*◌, ◌<◌, ◌≤◌, true, false, not, nat_lt, List, [], ◌∷◌, Contains, Option, Some, None, length, slice_set}
-use Rattle.std.specs.List.{slice_get}
+-- The steps of a purge. In the account the purge is one event at its beginning; what control does from there on is to take the packets from
+-- the bands and to store their fates.
 use Rattle.std.specs.Option.{option_map}
+use Rattle.std.specs.Prelude.{false, ◌∷◌, Some, None, ℕ, ◌<◌, ◌≤◌, length, List, Contains, ◌≡◌, ◌+◌, ◌*◌, Option, true, slice_set, [], slice_get, ◌≢◌, ◌-◌, not, nat_lt, if◌then◌else◌}
+use Rattle.lq_account_laws.specs.Trail.{down_of}
+use Rattle.lq_band_laws.specs.Ring.{taken_on}
+use Rattle.lq_band_laws.specs.Three.{Three, at, put}
 use Rattle.lq_device.specs.Station.{StationState}
 use Rattle.lq_model.specs.Account.{Purge as PurgeEvent}
 use Rattle.lq_model.specs.Band.{Band, held_of, taken_by}
-use Rattle.lq_model.specs.Machine.{Purge}
-use Rattle.lq_account_laws.specs.Trail.{down_of}
-use Rattle.lq_model.specs.declared.fate.Cause.{Cause}
-use Rattle.lq_model.specs.declared.fate.Info.{Info}
+use Rattle.lq_model.specs.Control.{after_purge}
+use Rattle.lq_model.specs.Machine.{Purge, Qdisc}
 use Rattle.lq_model.specs.declared.fate.Cause.TheVariants as cause
+use Rattle.lq_model.specs.declared.fate.Cause.{Cause}
 use Rattle.lq_model.specs.declared.fate.Fate.TheVariants as fate
-use Rattle.lq_band_laws.specs.Three.{Three, at, put}
-use Rattle.lq_band_laws.specs.Ring.{taken_on}
-use Rattle.lq_table.specs.Views.{View, Left, machine_packets}
-use Rattle.lq_table.specs.Told.{Sat}
-use Rattle.lq_table.specs.Solo.{IsSole, account_of}
+use Rattle.lq_model.specs.declared.fate.Info.{Info}
+use Rattle.lq_model.specs.declared.machine.Position.TheVariants.{Control}
 use Rattle.atomic_table.specs.Table.{Step}
+use Rattle.lq_table.specs.Moves.{Sat}
+use Rattle.lq_table.specs.Sees.{view, position}
+use Rattle.lq_table.specs.Solo.{IsSole, account_of}
+use Rattle.lq_table.specs.Views.{View, Left, machine_packets}
+use Rattle.lq_table.specs.declared.shared.Cpu.{Cpu}
 
--- THE BEGINNING
+-- begin_purge: a load of the state begins the purge. In the log it is a load of the state.
 
 abbrev pub first_purge : Purge
 first_purge = record { band = 0; missed = false; draining = false }
 
 -- the purge begins: in the account it is done; the seat owes the fate of the packet in the requeue slot, and has the bands before it
-abbrev pub purging : Cause → Three Band → View → View
-purging c bands v = record v {
+abbrev pub begin_purge_view : Cause → Three Band → View → View
+begin_purge_view c bands v = record v {
   packets = record v.packets { owed = option_map (λ n. (n, fate.Purged c)) v.holder.slot };
   holder = record v.holder { slot = None; left = Some (record { cause = c; bands = bands }) };
   control = record v.control { purge = Some first_purge };
@@ -51,28 +54,40 @@ AreKnown v bands = IsSole v → (b : ℕ) → b < 3 → at b bands ≡ (account_
 
 -- a purge of this cause began, with these bands before it
 abbrev pub BeginsPurge : Cause → View → View → Type 0
-BeginsPurge c v w = (bands : Three Band) × (w ≡ purging c bands v) × HoldsAtMost v.holder.size bands × HoldPackets v.share.about.infos bands × AreKnown v bands
+BeginsPurge c v w = (bands : Three Band) × (w ≡ begin_purge_view c bands v) × HoldsAtMost v.holder.size bands × HoldPackets v.share.about.infos bands × AreKnown v bands
 
 -- for the event that deactivated the station, which the word tells, and with it the trail
-abbrev pub purge_begun : Step (Option StationState) → Sat → ℕ → Sat → Type 0
-purge_begun _ m found m' = (e : ℕ) × (bits : ℕ) × (bands : Three Band) × (e < 4294967296) × (bits < 16) × (found ≡ bits + 256 * (e + 1)) × HoldsAtMost m.0.holder.size bands × HoldPackets m.0.share.about.infos bands × AreKnown m.0 bands × (down_of m.0.trail ≡ Some e) × (m' ≡ (purging (cause.Event e) bands m.0, m.1))
+abbrev pub begin_purge_told : Step (Option StationState) → Sat → ℕ → Sat → Type 0
+begin_purge_told _ m found m' = (e : ℕ) × (bits : ℕ) × (bands : Three Band) × (e < 4294967296) × (bits < 16) × (found ≡ bits + 256 * (e + 1)) × HoldsAtMost m.0.holder.size bands × HoldPackets m.0.share.about.infos bands × AreKnown m.0 bands × (down_of m.0.trail ≡ Some e) × (m' ≡ (begin_purge_view (cause.Event e) bands m.0, m.1))
+
+-- begin_hung_purge: the same for a hung device.
+
+module _ {D : Type 0} where
+  -- control that has all shares and the run lock, while the device hangs
+  abbrev pub MayPurgeHung : Cpu D → Type 0
+  MayPurgeHung c = (position c ≡ Control true) × ((view c).share.shares ≡ 1024) × ((view c).holder.station.device.hung ≡ true)
 
 -- for the hung device
-abbrev pub hung_purge_begun : Step (Option StationState) → Sat → ℕ → Sat → Type 0
-hung_purge_begun _ m found m' = (bands : Three Band) × HoldsAtMost m.0.holder.size bands × HoldPackets m.0.share.about.infos bands × AreKnown m.0 bands × (m' ≡ (purging (cause.Hung m.0.holder.station.unit) bands m.0, m.1))
+abbrev pub begin_hung_purge_told : Step (Option StationState) → Sat → ℕ → Sat → Type 0
+begin_hung_purge_told _ m found m' = (bands : Three Band) × HoldsAtMost m.0.holder.size bands × HoldPackets m.0.share.about.infos bands × AreKnown m.0 bands × (m' ≡ (begin_purge_view (cause.Hung m.0.holder.station.unit) bands m.0, m.1))
 
--- THE TAKES
+-- purge_slot: the slot at the head of a band is loaded, and its packet is taken. In the log it is a load of a slot.
 
 -- this holds of the purge that is half done, and of what it leaves
 abbrev pub OfPurge : View → (Purge → Left → Type 0) → Type 0
 OfPurge v holds = (u : Purge) (l : Left) → v.control.purge ≡ Some u → v.holder.left ≡ Some l → holds u l
 
+module _ {D : Type 0} where
+  -- control that has come to this band in a purge
+  abbrev pub IsPurgingBand : ℕ → Cpu D → Type 0
+  IsPurgingBand band c = (u : Purge) × (l : Left) × (position c ≡ Control true) × ((view c).control.purge ≡ Some u) × (u.band ≡ band) × ((view c).holder.left ≡ Some l)
+
 -- control took the first packet from the band b
 abbrev pub purged_one : ℕ → Left → Left
 purged_one b l = record l { bands = put b (taken_by (at b l.bands) 1) l.bands }
 
-abbrev pub taking_purged : ℕ → ℕ → Left → View → View
-taking_purged b n l v = record v {
+abbrev pub purge_slot_view : ℕ → ℕ → Left → View → View
+purge_slot_view b n l v = record v {
   packets = record v.packets { owed = Some (n, fate.Purged l.cause) };
   holder = record v.holder { ends = put b (taken_on (at b v.holder.ends)) v.holder.ends; left = Some (purged_one b l) };
   whole = record v.whole {
@@ -85,18 +100,82 @@ taking_purged b n l v = record v {
 abbrev pub next_band : Purge → Purge
 next_band u = record u { band = u.band + 1 }
 
-abbrev pub passing_band : Purge → View → View
-passing_band u v = record v {
+abbrev pub purge_slot_view_empty : Purge → View → View
+purge_slot_view_empty u v = record v {
   control = record v.control { purge = Some (next_band u) };
   whole = record v.whole { qdisc = record v.whole.qdisc { purge = Some (next_band u) } };
 }
 
-abbrev pub purge_seen : ℕ → Purge → Left → Step (Option StationState) → Sat → ℕ → Sat → Type 0
-purge_seen b u l _ m found m' =
-    (found ≡ 0 → (held_of (at b l.bands) ≡ []) × (m' ≡ (passing_band u m.0, m.1)))
-    × (found ≢ 0 → (slice_get (held_of (at b l.bands)) 0 ≡ Some (found - 1)) × (m' ≡ (taking_purged b (found - 1) l m.0, m.1)))
+module _ {D : Type 0} where
+  -- the purge leaves nothing of the band, and goes on with the next
+  abbrev pub PassesEmptyBand : ℕ → Purge → Left → Cpu D → Cpu D → Type 0
+  PassesEmptyBand band u l b a = (held_of (at band l.bands) ≡ []) × (view a ≡ purge_slot_view_empty u (view b))
+
+  -- the packet n is the first that the purge leaves of the band, and it is taken
+  abbrev pub TakesFirstLeft : ℕ → ℕ → Left → Cpu D → Cpu D → Type 0
+  TakesFirstLeft band n l b a = (slice_get (held_of (at band l.bands)) 0 ≡ Some n) × (view a ≡ purge_slot_view band n l (view b))
+
+abbrev pub purge_slot_told : ℕ → Purge → Left → Step (Option StationState) → Sat → ℕ → Sat → Type 0
+purge_slot_told b u l _ m found m' =
+    (found ≡ 0 → (held_of (at b l.bands) ≡ []) × (m' ≡ (purge_slot_view_empty u m.0, m.1)))
+    × (found ≢ 0 → (slice_get (held_of (at b l.bands)) 0 ≡ Some (found - 1)) × (m' ≡ (purge_slot_view b (found - 1) l m.0, m.1)))
     × (found ≤ 1000000)
 
 -- the purge has passed the last band, and no resize is half done
 abbrev pub HasPassedBands : View → Type 0
 HasPassedBands v = (u : Purge) × (l : Left) × (v.control.purge ≡ Some u) × (not (nat_lt u.band 3) ≡ true) × (v.holder.left ≡ Some l) × (v.holder.resizing ≡ None)
+
+-- reset_missed, reset_draining: control clears the bits after the last packet, and the purge ends with the second. In the log they are as
+-- clear_missed and clear_draining.
+
+-- a purge ends as MISSED or DRAINING is cleared: nothing is left of it
+abbrev pub purge_ending : (Qdisc → Qdisc) → View → View
+purge_ending bit v = record v {
+  holder = record v.holder { left = None };
+  control = record v.control { phase = after_purge v.control.phase; purge = None };
+  whole = record v.whole {
+    qdisc = record (bit v.whole.qdisc) { phase = after_purge v.whole.qdisc.phase; purge = None };
+    state = record v.whole.state { left = None };
+  };
+}
+
+-- or it goes on to the other of these bits
+abbrev pub purge_going : (Qdisc → Qdisc) → Purge → View → View
+purge_going bit u v = record v {
+  control = record v.control { purge = Some u };
+  whole = record v.whole { qdisc = record (bit v.whole.qdisc) { purge = Some u } };
+}
+
+abbrev pub no_missed : Qdisc → Qdisc
+no_missed q = record q { missed = false }
+
+abbrev pub no_draining : Qdisc → Qdisc
+no_draining q = record q { draining = false }
+
+abbrev pub purge_ending_told : (Qdisc → Qdisc) → Step (Option StationState) → Sat → ℕ → Sat → Type 0
+purge_ending_told bit _ m found m' = m' ≡ (purge_ending bit m.0, m.1)
+
+abbrev pub purge_going_told : (Qdisc → Qdisc) → Purge → Step (Option StationState) → Sat → ℕ → Sat → Type 0
+purge_going_told bit u _ m found m' = m' ≡ (purge_going bit u m.0, m.1)
+
+-- control clears MISSED after the last packet of a purge
+abbrev pub reset_missed_view_in : Option Purge → View → View
+reset_missed_view_in (Some u) v = if u.draining then purge_ending no_missed v else purge_going no_missed (record u { missed = true }) v
+reset_missed_view_in None v = v
+
+abbrev pub reset_missed_view : View → View
+reset_missed_view v = reset_missed_view_in v.control.purge v
+
+abbrev pub reset_missed_told : Step (Option StationState) → Sat → ℕ → Sat → Type 0
+reset_missed_told _ m found m' = m' ≡ (reset_missed_view m.0, m.1)
+
+-- and DRAINING
+abbrev pub reset_draining_view_in : Option Purge → View → View
+reset_draining_view_in (Some u) v = if u.missed then purge_ending no_draining v else purge_going no_draining (record u { draining = true }) v
+reset_draining_view_in None v = v
+
+abbrev pub reset_draining_view : View → View
+reset_draining_view v = reset_draining_view_in v.control.purge v
+
+abbrev pub reset_draining_told : Step (Option StationState) → Sat → ℕ → Sat → Type 0
+reset_draining_told _ m found m' = m' ≡ (reset_draining_view m.0, m.1)

@@ -1,21 +1,26 @@
--- What the steps of a resize tell. In the account the resize is one event at its beginning; what control does from there on is
--- to bring the slots to what each band keeps, and to store the fates of what it dropped.
-use Rattle.std.specs.Prelude.{◌≡◌, ℕ, ◌+◌, ◌-◌, ◌<◌, ◌≤◌, ◌==◌, ◌||◌, ◌++◌, if◌then◌else◌, Bool, true, false, List, [], ◌∷◌, Option, Some, None, map, slice_set, take, drop, length, slice_index, Contains}
+-- The steps of a resize. In the account the resize is one event at its beginning; what control does from there on is to bring the slots to
+-- what each band keeps, and to store the fates of what it dropped.
+use Rattle.std.specs.Prelude.{ℕ, ◌+◌, ◌==◌, ◌||◌, Bool, false, List, [], ◌∷◌, ◌++◌, ◌-◌, if◌then◌else◌, slice_set, slice_index, drop, Option, ◌≡◌, Some, true, None, take, map, ◌<◌, length, Contains, ◌≤◌, ◌*◌}
+use Rattle.lq_band_laws.specs.HalfResized.{IsBeforeResize, IsRefilled}
+use Rattle.lq_band_laws.specs.Ring.{locked_at, at_start}
+use Rattle.lq_band_laws.specs.Three.{put, Three, at, all_three}
 use Rattle.lq_device.specs.Station.{StationState}
+use Rattle.lq_log.specs.Made.{Made, swap, store}
 use Rattle.lq_model.specs.Account.{Resize, held_in}
 use Rattle.lq_model.specs.Plan.{band_in}
 use Rattle.lq_model.specs.declared.fate.Info.{Info}
-use Rattle.lq_model.specs.declared.machine.Phase.{Phase}
 use Rattle.lq_model.specs.declared.machine.Phase.TheVariants.{Active, Closing, Quiet, Purged}
-use Rattle.lq_band_laws.specs.Three.{Three, at, put, all_three}
-use Rattle.lq_band_laws.specs.Ring.{at_start, locked_at}
-use Rattle.lq_band_laws.specs.HalfResized.{IsBeforeResize}
-use Rattle.lq_table.specs.Views.{View, HalfResize, Work}
-use Rattle.lq_table.specs.Rule.{IsResting}
-use Rattle.lq_table.specs.Told.{Sat}
-use Rattle.lq_table.specs.Rings.{with_lock_at}
-use Rattle.lq_table.specs.Solo.{IsSole, account_of}
+use Rattle.lq_model.specs.declared.machine.Phase.{Phase}
+use Rattle.lq_ring_core.specs.Slots.{round}
 use Rattle.atomic_table.specs.Table.{Step}
+use Rattle.lq_table.specs.Moves.{Sat}
+use Rattle.lq_table.specs.Places.{slot_word, producer_place, size_place}
+use Rattle.lq_table.specs.Producers.{with_lock_at}
+use Rattle.lq_table.specs.Rule.{IsResting}
+use Rattle.lq_table.specs.Sees.{view, lock_at}
+use Rattle.lq_table.specs.Solo.{IsSole, account_of}
+use Rattle.lq_table.specs.Views.{Work, HalfResize, View, Setup}
+use Rattle.lq_table.specs.declared.shared.Cpu.{Cpu}
 
 -- THE WORK ON A BAND
 
@@ -50,23 +55,13 @@ with_work b w t = record t { works = put b w t.works }
 abbrev pub with_resizing : Option HalfResize → View → View
 with_resizing o v = record v { holder = record v.holder { resizing = o }; whole = record v.whole { state = record v.whole.state { resizing = o } } }
 
--- the slot i of a band was emptied
-abbrev pub clearing : ℕ → ℕ → HalfResize → View → View
-clearing b i t v = with_resizing (Some (with_work b (out_of i (at b t.works)) t)) v
-
--- the packet n was put into the slot i of a band, and these stay in the hand
-abbrev pub filling : ℕ → ℕ → ℕ → List ℕ → HalfResize → View → View
-filling b i n hand t v = with_resizing (Some (with_work b (into i n hand (at b t.works)) t)) v
-
 -- a resize is half done
 abbrev pub HasHalfResize : View → Type 0
 HasHalfResize v = (t : HalfResize) × (v.holder.resizing ≡ Some t)
 
--- control has the packet n of a band in hand as the latest, and the slot i is empty
-abbrev pub MayFill : ℕ → ℕ → ℕ → View → Type 0
-MayFill b i n v = (t : HalfResize) × (hand : List ℕ) × (v.holder.resizing ≡ Some t) × ((at b t.works).hand ≡ n ∷ hand) × (slice_index (at b t.works).slots i ≡ 0)
+-- THE STEPS
 
--- THE BEGINNING
+-- begin_resize: a load of the size word begins it. In the log it is a load of the size.
 
 -- it may begin while the station is active, and while it is deactivated once the purge has ended, when nothing is held
 abbrev pub may_resize : Phase → Bool
@@ -74,6 +69,10 @@ may_resize Active = true
 may_resize Closing = false
 may_resize Quiet = false
 may_resize Purged = true
+
+-- no purge, no resize and no take is half done
+abbrev pub HasNothingHalfDone : View → Type 0
+HasNothingHalfDone v = (v.control.purge ≡ None) × (v.holder.resizing ≡ None) × IsResting v.holder.size v.holder.ends
 
 -- something for each band
 abbrev pub each_band : {A : Type 0} → (ℕ → A) → Three A
@@ -84,8 +83,8 @@ abbrev pub resizing_of : ℕ → ℕ → (ℕ → List ℕ) → Three (List ℕ)
 resizing_of len event held slots = record { len = len; event = event; works = each_band (λ b. record { kept = take len (held b); waiting = drop len (held b); slots = at b slots; hand = [] }) }
 
 -- the resize began
-abbrev pub beginning : HalfResize → View → View
-beginning t v = record v {
+abbrev pub begin_resize_view : HalfResize → View → View
+begin_resize_view t v = record v {
   holder = record v.holder { resizing = Some t };
   whole = record v.whole {
     qdisc = record v.whole.qdisc { bands = map (λ band. take t.len band) v.whole.qdisc.bands; len = t.len };
@@ -94,45 +93,83 @@ beginning t v = record v {
   trail = Resize t.len t.event ∷ v.trail;
 }
 
--- no purge, no resize and no take is half done
-abbrev pub HasNothingHalfDone : View → Type 0
-HasNothingHalfDone v = (v.control.purge ≡ None) × (v.holder.resizing ≡ None) × IsResting v.holder.size v.holder.ends
-
 -- The resize to this length began, for this event: control knows what each band held, and the slots, in which the held packets stand
 -- from the head on; after a purge none was held.
 abbrev pub BeginsResize : List Info → ℕ → ℕ → ℕ → View → View → Type 0
-BeginsResize infos limit len event v w = (held : ℕ → List ℕ) × (slots : Three (List ℕ)) × (w ≡ beginning (resizing_of len event held slots) v)
+BeginsResize infos limit len event v w = (held : ℕ → List ℕ) × (slots : Three (List ℕ)) × (w ≡ begin_resize_view (resizing_of len event held slots) v)
     × ((b : ℕ) → b < 3 → IsBeforeResize v.holder.size limit (at b slots) (held b) (at b v.holder.ends))
     × ((b n : ℕ) → b < 3 → Contains (held b) n → (band_in infos n ≡ b) × (n < length infos))
     × (v.control.phase ≡ Purged → (b : ℕ) → b < 3 → held b ≡ [])
     × (IsSole v → (b : ℕ) → b < 3 → held b ≡ held_in (account_of v) b)
 
 -- the load of the size word that begins it
-abbrev pub resize_begun : List Info → ℕ → ℕ → ℕ → Step (Option StationState) → Sat → ℕ → Sat → Type 0
-resize_begun infos limit len event _ m found m' = (held : ℕ → List ℕ) × (slots : Three (List ℕ)) × (m' ≡ (beginning (resizing_of len event held slots) m.0, m.1))
+abbrev pub begin_resize_told : List Info → ℕ → ℕ → ℕ → Step (Option StationState) → Sat → ℕ → Sat → Type 0
+begin_resize_told infos limit len event _ m found m' = (held : ℕ → List ℕ) × (slots : Three (List ℕ)) × (m' ≡ (begin_resize_view (resizing_of len event held slots) m.0, m.1))
     × ((b : ℕ) → b < 3 → IsBeforeResize m.0.holder.size limit (at b slots) (held b) (at b m.0.holder.ends))
     × ((b n : ℕ) → b < 3 → Contains (held b) n → (band_in infos n ≡ b) × (n < length infos))
     × (m.0.control.phase ≡ Purged → (b : ℕ) → b < 3 → held b ≡ [])
     × (IsSole m.0 → (b : ℕ) → b < 3 → held b ≡ held_in (account_of m.0) b)
 
--- THE STEPS
+-- clear_slot: a slot is emptied, and a packet that its band has comes into the hand.
 
-abbrev pub slot_cleared : ℕ → ℕ → HalfResize → Step (Option StationState) → Sat → ℕ → Sat → Type 0
-slot_cleared b i t _ m found m' =
-    (found ≡ slice_index (at b t.works).slots i) × (m' ≡ (clearing b i t m.0, m.1)) × (is_member found (at b t.works) ≡ true → found ≤ 1000000)
+abbrev pub clear_slot_log : Setup → ℕ → ℕ → ℕ → Made
+clear_slot_log k band i found = swap (slot_word k band i) 0 found
 
-abbrev pub slot_filled : ℕ → ℕ → ℕ → List ℕ → HalfResize → Step (Option StationState) → Sat → ℕ → Sat → Type 0
-slot_filled b i n hand t _ m found m' = m' ≡ (filling b i n hand t m.0, m.1)
+-- the slot i of a band was emptied
+abbrev pub clear_slot_view : ℕ → ℕ → HalfResize → View → View
+clear_slot_view b i t v = with_resizing (Some (with_work b (out_of i (at b t.works)) t)) v
 
-abbrev pub producer_set : ℕ → ℕ → Step (Option StationState) → Sat → ℕ → Sat → Type 0
-producer_set b i _ m found m' = m' ≡ (with_lock_at b (locked_at i) m.0, m.1)
+module _ {D : Type 0} where
+  -- the slot i of the band is emptied in the resize t, and this stood there
+  abbrev pub ClearsSlot : ℕ → ℕ → HalfResize → ℕ → Cpu D → Cpu D → Type 0
+  ClearsSlot band i t found b a = (found ≡ slice_index (at band t.works).slots i) × (view a ≡ clear_slot_view band i t (view b)) × (is_member found (at band t.works) ≡ true → found ≤ 1000000)
+
+abbrev pub clear_slot_told : ℕ → ℕ → HalfResize → Step (Option StationState) → Sat → ℕ → Sat → Type 0
+clear_slot_told b i t _ m found m' =
+    (found ≡ slice_index (at b t.works).slots i) × (m' ≡ (clear_slot_view b i t m.0, m.1)) × (is_member found (at b t.works) ≡ true → found ≤ 1000000)
+
+-- fill_slot: a packet is put from the hand into an empty slot. In the log it is a store of a slot.
+
+-- control has the packet n of a band in hand as the latest, and the slot i is empty
+abbrev pub MayFill : ℕ → ℕ → ℕ → View → Type 0
+MayFill b i n v = (t : HalfResize) × (hand : List ℕ) × (v.holder.resizing ≡ Some t) × ((at b t.works).hand ≡ n ∷ hand) × (slice_index (at b t.works).slots i ≡ 0)
+
+-- the packet n was put into the slot i of a band, and these stay in the hand
+abbrev pub fill_slot_view : ℕ → ℕ → ℕ → List ℕ → HalfResize → View → View
+fill_slot_view b i n hand t v = with_resizing (Some (with_work b (into i n hand (at b t.works)) t)) v
+
+module _ {D : Type 0} where
+  -- of the resize half done the packet n, in hand as the latest, is put into the slot i of the band
+  abbrev pub FillsSlot : ℕ → ℕ → ℕ → Cpu D → Cpu D → Type 0
+  FillsSlot band i n b a = (t : HalfResize) (hand : List ℕ) → (view b).holder.resizing ≡ Some t → (at band t.works).hand ≡ n ∷ hand → view a ≡ fill_slot_view band i n hand t (view b)
+
+abbrev pub fill_slot_told : ℕ → ℕ → ℕ → List ℕ → HalfResize → Step (Option StationState) → Sat → ℕ → Sat → Type 0
+fill_slot_told b i n hand t _ m found m' = m' ≡ (fill_slot_view b i n hand t m.0, m.1)
+
+-- set_producer: a producer word is stored as locked, with the index behind what the band keeps.
+
+abbrev pub set_producer_log : ℕ → ℕ → Made
+set_producer_log band index = store (producer_place band) (2 * index + 1)
+
+abbrev pub set_producer_told : ℕ → ℕ → Step (Option StationState) → Sat → ℕ → Sat → Type 0
+set_producer_told b i _ m found m' = m' ≡ (with_lock_at b (locked_at i) m.0, m.1)
+
+-- store_size: the new length is stored, and the rings start again.
+
+module _ {D : Type 0} where
+  -- in each band what it keeps stands from slot 0 on, its producer is set behind that, and no fate is owed
+  abbrev pub AreRefilled : HalfResize → Cpu D → Type 0
+  AreRefilled t c = (b : ℕ) → b < 3 → IsRefilled (at b t.works).slots (at b t.works).kept t.len × (lock_at b c ≡ locked_at (round t.len (length (at b t.works).kept))) × ((at b t.works).waiting ≡ [])
+
+abbrev pub store_size_log : ℕ → Made
+store_size_log len = store size_place len
 
 -- the rings start again, at the new length
-abbrev pub restarted : HalfResize → View → View
-restarted t v = record v {
+abbrev pub store_size_view : HalfResize → View → View
+store_size_view t v = record v {
   holder = record v.holder { size = t.len; ends = all_three at_start; resizing = None };
   whole = record v.whole { state = record v.whole.state { ends = all_three at_start; resizing = None } };
 }
 
-abbrev pub size_stored : HalfResize → Step (Option StationState) → Sat → ℕ → Sat → Type 0
-size_stored t _ m found m' = m' ≡ (restarted t m.0, m.1)
+abbrev pub store_size_told : HalfResize → Step (Option StationState) → Sat → ℕ → Sat → Type 0
+store_size_told t _ m found m' = m' ≡ (store_size_view t m.0, m.1)

@@ -2,11 +2,10 @@
 ghost use Rattle.std.specs.Prelude.{◌≡◌, ◌<◌, true, is_some, ◌∷◌};
 ghost use Rattle.lq_model.specs.declared.machine.Position.TheVariants.{Leave as AtLeave};
 ghost use Rattle.lq_table.specs.Marks.{marks_of};
-ghost use Rattle.lq_table.specs.Sees.{view, position, IsSeatOf, IsElseSame, steps};
-ghost use Rattle.lq_table.specs.Seats.{ComesToKnow};
-ghost use Rattle.lq_table.specs.Told.{at_rest, bringing_packet, entering, passing, MayEnter};
-ghost use Rattle.lq_table.specs.Solo.{solo, entered_as};
-ghost use Rattle.lq_table.specs.Made.{did_enter, did_leave};
+ghost use Rattle.lq_table.specs.Sees.{view, position, IsSeatOf, IsElseSame, steps, ComesToKnow};
+ghost use Rattle.lq_table.specs.Moves.{at_rest, pass_view};
+ghost use Rattle.lq_table.specs.Inside.{bringing_packet, enter_view, MayEnter, enter_alone, enter_log, leave_log};
+ghost use Rattle.lq_table.specs.Solo.{solo};
 
 use crate::marks::Marks;
 use crate::places::INSIDE;
@@ -23,9 +22,9 @@ impl<'a, D: TxDevice> Shared<'a, D> {
         requires at { at_rest seat.old.me.0.view.place.position ≡ true }
         requires call { MayEnter seat.old.me.0.view }
         requires told { marks.old ≡ marks_of seat.old.me.0.view }
-        ensures seat { ComesToKnow (entering seat.old.me.0.view) seat.old seat.new }
+        ensures seat { ComesToKnow (enter_view seat.old.me.0.view) seat.old seat.new }
         ensures told { marks.new ≡ marks_of seat.new.me.0.view }
-        ensures made { seat.new.me.0.steps ≡ did_enter ∷ seat.old.me.0.steps }
+        ensures made { seat.new.me.0.steps ≡ enter_log ∷ seat.old.me.0.steps }
     {
         self.table.fetch_add::<Brand, _>(seat, INSIDE, 1, &());
         marks.raised = marks.raised && marks.busy;
@@ -39,9 +38,9 @@ impl<'a, D: TxDevice> Shared<'a, D> {
         requires at { at_rest (position cpu.old) ≡ true }
         requires call { MayEnter (view cpu.old) }
         ensures same { IsElseSame cpu.old cpu.new }
-        ensures view { view cpu.new ≡ entering (view cpu.old) }
-        ensures step { solo (view cpu.new) ≡ entered_as (is_some (bringing_packet (view cpu.old))) (solo (view cpu.old)) }
-        ensures made { steps cpu.new ≡ did_enter ∷ steps cpu.old }
+        ensures view { view cpu.new ≡ enter_view (view cpu.old) }
+        ensures step { solo (view cpu.new) ≡ enter_alone (is_some (bringing_packet (view cpu.old))) (solo (view cpu.old)) }
+        ensures made { steps cpu.new ≡ enter_log ∷ steps cpu.old }
     {
         self.enter_seat(&mut cpu.known.seat, &mut cpu.known.marks);
     }
@@ -51,9 +50,9 @@ impl<'a, D: TxDevice> Shared<'a, D> {
         requires seat { IsSeatOf self.now cpu.old }
         requires at { position cpu.old ≡ AtLeave }
         ensures same { IsElseSame cpu.old cpu.new }
-        ensures view { view cpu.new ≡ passing (view cpu.old) }
+        ensures view { view cpu.new ≡ pass_view (view cpu.old) }
         ensures step { solo (view cpu.new) ≡ solo (view cpu.old) }
-        ensures made { steps cpu.new ≡ did_leave ∷ steps cpu.old }
+        ensures made { steps cpu.new ≡ leave_log ∷ steps cpu.old }
     {
         self.table
             .fetch_sub::<Brand, _>(&mut cpu.known.seat, INSIDE, 1, &());

@@ -4,11 +4,15 @@ ghost use Rattle.lq_model.specs.declared.machine.Phase.TheVariants.{Purged};
 ghost use Rattle.lq_model.specs.declared.machine.Position.TheVariants.{Idle as AtIdle, Control as AtControl};
 ghost use Rattle.lq_table.specs.Rule.{HasServed, latest_unit};
 ghost use Rattle.lq_table.specs.Sees.{view, position, carried, IsSeatOf, IsElseSame, steps, setup};
-ghost use Rattle.lq_table.specs.Purges.{HasPassedBands};
+ghost use Rattle.lq_table.specs.Purges.{HasPassedBands, reset_missed_view, reset_draining_view};
 ghost use Rattle.lq_table.specs.AtRest.{IsSoleAtRest, KnowsRest};
-ghost use Rattle.lq_table.specs.Told.{at_rest};
-ghost use Rattle.lq_table.specs.Controls.{beginning_control, returning, closing, finding, opening, resetting_missed, resetting_draining, swapping, opening_next, IsSwapFor, MayDeactivate};
-ghost use Rattle.lq_table.specs.Made.{did_load_inside, did_load_lock, did_store_stop, did_clear_deactivated, did_clear_draining, did_clear_missed, did_load_base, did_set_deactivated};
+ghost use Rattle.lq_table.specs.Moves.{at_rest};
+ghost use Rattle.lq_table.specs.Controls.{begin_control_view, end_control_view, set_deactivated_view, clear_deactivated_view, swap_view, open_xoff_view, IsSwapFor, MayDeactivate, clear_deactivated_log, set_deactivated_log};
+ghost use Rattle.lq_table.specs.Inside.{load_inside_view, load_inside_log};
+ghost use Rattle.lq_table.specs.Locks.{load_lock_log};
+ghost use Rattle.lq_table.specs.Stops.{store_xoff_log};
+ghost use Rattle.lq_table.specs.States.{clear_draining_log, clear_missed_log};
+ghost use Rattle.lq_table.specs.Made.{load_base_log};
 
 use crate::places::{BASE, INSIDE, LOCK, STATE, XOFF};
 use crate::shared::{Cpu, Shared};
@@ -22,8 +26,8 @@ impl<'a, D: TxDevice> Shared<'a, D> {
         requires seat { IsSeatOf self.now cpu.old }
         requires at { (position cpu.old ≡ AtIdle) × ((view cpu.old).control.first ≡ true) }
         ensures same { IsElseSame cpu.old cpu.new }
-        ensures view { view cpu.new ≡ beginning_control (view cpu.old) }
-        ensures made { (found : ℕ) × (steps cpu.new ≡ did_load_base found ∷ steps cpu.old) }
+        ensures view { view cpu.new ≡ begin_control_view (view cpu.old) }
+        ensures made { (found : ℕ) × (steps cpu.new ≡ load_base_log found ∷ steps cpu.old) }
     {
         self.table.load::<Brand, _>(&mut cpu.known.seat, BASE, &());
     }
@@ -33,8 +37,8 @@ impl<'a, D: TxDevice> Shared<'a, D> {
         requires seat { IsSeatOf self.now cpu.old }
         requires at { position cpu.old ≡ AtControl false }
         ensures same { IsElseSame cpu.old cpu.new }
-        ensures view { view cpu.new ≡ returning (view cpu.old) }
-        ensures made { (found : ℕ) × (steps cpu.new ≡ did_load_base found ∷ steps cpu.old) }
+        ensures view { view cpu.new ≡ end_control_view (view cpu.old) }
+        ensures made { (found : ℕ) × (steps cpu.new ≡ load_base_log found ∷ steps cpu.old) }
     {
         self.table.load::<Brand, _>(&mut cpu.known.seat, BASE, &());
     }
@@ -46,8 +50,8 @@ impl<'a, D: TxDevice> Shared<'a, D> {
         requires at { at_rest (position cpu.old) ≡ true }
         requires active { MayDeactivate (view cpu.old) }
         ensures same { IsElseSame cpu.old cpu.new }
-        ensures view { view cpu.new ≡ closing event (view cpu.old) }
-        ensures made { (was : Bool) × (steps cpu.new ≡ did_set_deactivated event was ∷ steps cpu.old) }
+        ensures view { view cpu.new ≡ set_deactivated_view event (view cpu.old) }
+        ensures made { (was : Bool) × (steps cpu.new ≡ set_deactivated_log event was ∷ steps cpu.old) }
     {
         self.table.fetch_or::<Brand, _>(
             &mut cpu.known.seat,
@@ -63,8 +67,8 @@ impl<'a, D: TxDevice> Shared<'a, D> {
         requires seat { IsSeatOf self.now cpu.old }
         requires at { (holds : Bool) × (position cpu.old ≡ AtControl holds) }
         ensures same { IsElseSame cpu.old cpu.new }
-        ensures view { view cpu.new ≡ finding result (view cpu.old) }
-        ensures made { steps cpu.new ≡ did_load_inside result ∷ steps cpu.old }
+        ensures view { view cpu.new ≡ load_inside_view result (view cpu.old) }
+        ensures made { steps cpu.new ≡ load_inside_log result ∷ steps cpu.old }
     {
         self.table
             .load::<Brand, _>(&mut cpu.known.seat, INSIDE, &())
@@ -77,7 +81,7 @@ impl<'a, D: TxDevice> Shared<'a, D> {
         ensures same { IsElseSame cpu.old cpu.new }
         ensures view { view cpu.new ≡ view cpu.old }
         ensures alone { IsSoleAtRest (view cpu.old) → KnowsRest (view cpu.old) }
-        ensures made { steps cpu.new ≡ did_load_lock result ∷ steps cpu.old }
+        ensures made { steps cpu.new ≡ load_lock_log result ∷ steps cpu.old }
     {
         self.table.load::<Brand, _>(&mut cpu.known.seat, LOCK, &())
     }
@@ -88,8 +92,8 @@ impl<'a, D: TxDevice> Shared<'a, D> {
         requires at { position cpu.old ≡ AtControl false }
         requires purged { ((view cpu.old).control.phase ≡ Purged) × ((view cpu.old).control.purge ≡ None) }
         ensures same { IsElseSame cpu.old cpu.new }
-        ensures view { view cpu.new ≡ opening (view cpu.old) }
-        ensures made { steps cpu.new ≡ did_clear_deactivated ∷ steps cpu.old }
+        ensures view { view cpu.new ≡ clear_deactivated_view (view cpu.old) }
+        ensures made { steps cpu.new ≡ clear_deactivated_log ∷ steps cpu.old }
     {
         self.table
             .fetch_and::<Brand, _>(&mut cpu.known.seat, STATE, ACTIVE_BITS, &());
@@ -102,8 +106,8 @@ impl<'a, D: TxDevice> Shared<'a, D> {
         requires at { position cpu.old ≡ AtControl true }
         requires purge { HasPassedBands (view cpu.old) }
         ensures same { IsElseSame cpu.old cpu.new }
-        ensures view { view cpu.new ≡ resetting_missed (view cpu.old) }
-        ensures made { steps cpu.new ≡ did_clear_missed ∷ steps cpu.old }
+        ensures view { view cpu.new ≡ reset_missed_view (view cpu.old) }
+        ensures made { steps cpu.new ≡ clear_missed_log ∷ steps cpu.old }
     {
         self.table
             .fetch_and::<Brand, _>(&mut cpu.known.seat, STATE, ALL_BUT_MISSED, &());
@@ -116,8 +120,8 @@ impl<'a, D: TxDevice> Shared<'a, D> {
         requires at { position cpu.old ≡ AtControl true }
         requires purge { HasPassedBands (view cpu.old) }
         ensures same { IsElseSame cpu.old cpu.new }
-        ensures view { view cpu.new ≡ resetting_draining (view cpu.old) }
-        ensures made { steps cpu.new ≡ did_clear_draining ∷ steps cpu.old }
+        ensures view { view cpu.new ≡ reset_draining_view (view cpu.old) }
+        ensures made { steps cpu.new ≡ clear_draining_log ∷ steps cpu.old }
     {
         self.table
             .fetch_and::<Brand, _>(&mut cpu.known.seat, STATE, ALL_BUT_DRAINING, &());
@@ -133,10 +137,10 @@ impl<'a, D: TxDevice> Shared<'a, D> {
         requires purged { ((view cpu.old).control.phase ≡ Purged) × ((view cpu.old).control.purge ≡ None) }
         requires station { (is_some cpu.old.station ≡ true) × IsSwapFor (view cpu.old) (carried cpu.old) }
         ensures same { IsElseSame cpu.old cpu.new }
-        ensures view { view cpu.new ≡ swapping (carried cpu.old) (view cpu.old) }
+        ensures view { view cpu.new ≡ swap_view (carried cpu.old) (view cpu.old) }
         ensures served { HasServed self.now.infos.now self.now.station (view cpu.old).control.origin (view cpu.old).holder.station.device }
         ensures unit { (view cpu.old).holder.station.unit ≡ latest_unit self.now.station (view cpu.old).holder.units }
-        ensures made { steps cpu.new ≡ did_store_stop (setup self.now) 0 0 ∷ steps cpu.old }
+        ensures made { steps cpu.new ≡ store_xoff_log (setup self.now) 0 0 ∷ steps cpu.old }
     {
         self.table
             .store::<Brand, _>(&mut cpu.known.seat, XOFF, 0, &cpu.station);
@@ -150,8 +154,8 @@ impl<'a, D: TxDevice> Shared<'a, D> {
         requires at { (position cpu.old ≡ AtControl true) × ((view cpu.old).holder.shut ≡ Some queue) }
         requires purged { ((view cpu.old).control.phase ≡ Purged) × ((view cpu.old).control.purge ≡ None) }
         ensures same { IsElseSame cpu.old cpu.new }
-        ensures view { view cpu.new ≡ opening_next queue (view cpu.old) }
-        ensures made { steps cpu.new ≡ did_store_stop (setup self.now) queue 0 ∷ steps cpu.old }
+        ensures view { view cpu.new ≡ open_xoff_view queue (view cpu.old) }
+        ensures made { steps cpu.new ≡ store_xoff_log (setup self.now) queue 0 ∷ steps cpu.old }
     {
         let word = self.stop_word(queue);
         self.table

@@ -2,9 +2,8 @@
 ghost use Rattle.std.specs.Prelude.{◌≡◌, ◌<◌, length, ◌∷◌};
 ghost use Rattle.lq_model.specs.Words.{HasWord, word_of};
 ghost use Rattle.lq_table.specs.Sees.{view, carried, IsSeatOf, IsElseSame, steps, setup, packet_band};
-ghost use Rattle.lq_table.specs.Settled.{MaySettle, fated};
-ghost use Rattle.lq_table.specs.Solo.{solo, fated_as};
-ghost use Rattle.lq_table.specs.Made.{did_store_fate};
+ghost use Rattle.lq_table.specs.Fates.{MaySettle, settle_view, settle_alone, settle_log};
+ghost use Rattle.lq_table.specs.Solo.{solo};
 
 use crate::shared::{Cpu, Shared};
 use lq_device::TxDevice;
@@ -21,9 +20,9 @@ impl<'a, D: TxDevice> Shared<'a, D> {
         requires packet { (n < length self.now.infos.now) × HasWord fate }
         requires may { MaySettle (packet_band self.now n) n fate (carried cpu.old) (view cpu.old) }
         ensures same { IsElseSame cpu.old cpu.new }
-        ensures settled { view cpu.new ≡ fated (carried cpu.old) (packet_band self.now n) n fate (view cpu.old) }
-        ensures step { solo (view cpu.new) ≡ fated_as (carried cpu.old) fate (solo (view cpu.old)) }
-        ensures made { steps cpu.new ≡ did_store_fate (setup self.now) n (word_of fate) ∷ steps cpu.old }
+        ensures settled { view cpu.new ≡ settle_view (carried cpu.old) (packet_band self.now n) n fate (view cpu.old) }
+        ensures step { solo (view cpu.new) ≡ settle_alone (carried cpu.old) fate (solo (view cpu.old)) }
+        ensures made { steps cpu.new ≡ settle_log (setup self.now) n (word_of fate) ∷ steps cpu.old }
     {
         let word = self.fate_word_of(n);
         self.table.store::<Brand, _>(

@@ -7,9 +7,10 @@ ghost use Rattle.lq_model.specs.declared.fate.Cause.TheVariants as cause;
 ghost use Rattle.lq_model.specs.declared.machine.Position.TheVariants.{Control};
 ghost use Rattle.lq_table.specs.Views.{Left};
 ghost use Rattle.lq_table.specs.Sees.{view, position, ends_at, IsSeatOf, IsElseSame, steps, setup};
-ghost use Rattle.lq_table.specs.Seats.{CarriesHead, IsBetweenTakes, IsPurgingBand, MayPurgeHung, PassesEmptyBand, TakesFirstLeft};
-ghost use Rattle.lq_table.specs.Purges.{BeginsPurge, OfPurge};
-ghost use Rattle.lq_table.specs.Made.{did_load_slot, did_load_state};
+ghost use Rattle.lq_table.specs.Consumers.{CarriesHead, IsBetweenTakes};
+ghost use Rattle.lq_table.specs.Purges.{IsPurgingBand, MayPurgeHung, PassesEmptyBand, TakesFirstLeft, BeginsPurge, OfPurge};
+ghost use Rattle.lq_table.specs.Producers.{load_slot_log};
+ghost use Rattle.lq_table.specs.States.{load_state_log};
 
 use crate::places::STATE;
 use crate::shared::{Cpu, Shared};
@@ -29,7 +30,7 @@ impl<'a, D: TxDevice> Shared<'a, D> {
         ensures same { IsElseSame cpu.old cpu.new }
         ensures begun { BeginsPurge (cause.Event result) (view cpu.old) (view cpu.new) }
         ensures event { down_of (view cpu.old).trail ≡ Some result }
-        ensures made { (found : ℕ) × (steps cpu.new ≡ did_load_state found ∷ steps cpu.old) }
+        ensures made { (found : ℕ) × (steps cpu.new ≡ load_state_log found ∷ steps cpu.old) }
     {
         let word = self.table.load::<Brand, _>(&mut cpu.known.seat, STATE, &());
         (word / 256 - 1) as u32
@@ -44,7 +45,7 @@ impl<'a, D: TxDevice> Shared<'a, D> {
         requires packets { ((view cpu.old).packets.owed ≡ None) × ((view cpu.old).packets.fresh ≡ None) }
         ensures same { IsElseSame cpu.old cpu.new }
         ensures begun { BeginsPurge (cause.Hung (view cpu.old).holder.station.unit) (view cpu.old) (view cpu.new) }
-        ensures made { (found : ℕ) × (steps cpu.new ≡ did_load_state found ∷ steps cpu.old) }
+        ensures made { (found : ℕ) × (steps cpu.new ≡ load_state_log found ∷ steps cpu.old) }
     {
         self.table.load::<Brand, _>(&mut cpu.known.seat, STATE, &());
     }
@@ -64,7 +65,7 @@ impl<'a, D: TxDevice> Shared<'a, D> {
         ensures none { OfPurge (view cpu.old) (λ u l. result ≡ 0 → PassesEmptyBand band u l cpu.old cpu.new) }
         ensures taken { (l : Left) → (view cpu.old).holder.left ≡ Some l → result ≢ 0
             → TakesFirstLeft band (result - 1) l cpu.old cpu.new }
-        ensures made { steps cpu.new ≡ did_load_slot (setup self.now) band (ends_at band cpu.old).head result ∷ steps cpu.old }
+        ensures made { steps cpu.new ≡ load_slot_log (setup self.now) band (ends_at band cpu.old).head result ∷ steps cpu.old }
     {
         let Some(station) = &cpu.station else {
             unreachable!()

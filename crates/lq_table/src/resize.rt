@@ -8,10 +8,8 @@ ghost use Rattle.lq_band_laws.specs.Three.{at};
 ghost use Rattle.lq_band_laws.specs.Ring.{locked_at};
 ghost use Rattle.lq_table.specs.Views.{HalfResize};
 ghost use Rattle.lq_table.specs.Sees.{view, position, lock_at, IsSeatOf, IsElseSame, steps, setup};
-ghost use Rattle.lq_table.specs.Seats.{AreRefilled, ClearsSlot, FillsSlot};
-ghost use Rattle.lq_table.specs.Rings.{with_lock_at};
-ghost use Rattle.lq_table.specs.Resizes.{may_resize, restarted, BeginsResize, HasNothingHalfDone, HasHalfResize, MayFill};
-ghost use Rattle.lq_table.specs.Made.{did_load_size, did_set_producer, did_store_size, did_store_slot, did_swap_slot};
+ghost use Rattle.lq_table.specs.Resizes.{AreRefilled, ClearsSlot, FillsSlot, may_resize, store_size_view, BeginsResize, HasNothingHalfDone, HasHalfResize, MayFill, set_producer_log, store_size_log, clear_slot_log};
+ghost use Rattle.lq_table.specs.Producers.{with_lock_at, load_size_log, store_slot_log};
 
 use crate::places::{SIZE, producer_word};
 use crate::shared::{Cpu, Shared};
@@ -32,7 +30,7 @@ impl<'a, D: TxDevice> Shared<'a, D> {
         requires locks { (b : ℕ) → b < 3 → ((lock_at b cpu.old).holds ≡ true) × ((lock_at b cpu.old).stored ≡ false) }
         ensures same { IsElseSame cpu.old cpu.new }
         ensures begun { BeginsResize self.now.infos.now self.now.max_len len event (view cpu.old) (view cpu.new) }
-        ensures made { (found : ℕ) × (steps cpu.new ≡ did_load_size found ∷ steps cpu.old) }
+        ensures made { (found : ℕ) × (steps cpu.new ≡ load_size_log found ∷ steps cpu.old) }
     {
         self.table
             .load::<Brand, _>(&mut cpu.known.seat, SIZE, &(len, event));
@@ -46,7 +44,7 @@ impl<'a, D: TxDevice> Shared<'a, D> {
         requires holder { (holds_lock (position cpu.old) ≡ true) × HasHalfResize (view cpu.old) }
         ensures same { IsElseSame cpu.old cpu.new }
         ensures cleared { (t : HalfResize) → (view cpu.old).holder.resizing ≡ Some t → ClearsSlot band i t result cpu.old cpu.new }
-        ensures made { steps cpu.new ≡ did_swap_slot (setup self.now) band i result ∷ steps cpu.old }
+        ensures made { steps cpu.new ≡ clear_slot_log (setup self.now) band i result ∷ steps cpu.old }
     {
         let word = self.slot_word(band, i);
         self.table
@@ -62,7 +60,7 @@ impl<'a, D: TxDevice> Shared<'a, D> {
         requires hand { MayFill band i n (view cpu.old) }
         ensures same { IsElseSame cpu.old cpu.new }
         ensures filled { FillsSlot band i n cpu.old cpu.new }
-        ensures made { steps cpu.new ≡ did_store_slot (setup self.now) band i (n + 1) ∷ steps cpu.old }
+        ensures made { steps cpu.new ≡ store_slot_log (setup self.now) band i (n + 1) ∷ steps cpu.old }
     {
         let word = self.slot_word(band, i);
         self.table
@@ -77,7 +75,7 @@ impl<'a, D: TxDevice> Shared<'a, D> {
         requires holder { (holds_lock (position cpu.old) ≡ true) × HasHalfResize (view cpu.old) × ((lock_at band cpu.old).holds ≡ true) }
         ensures same { IsElseSame cpu.old cpu.new }
         ensures set { view cpu.new ≡ with_lock_at band (locked_at index) (view cpu.old) }
-        ensures made { steps cpu.new ≡ did_set_producer band index ∷ steps cpu.old }
+        ensures made { steps cpu.new ≡ set_producer_log band index ∷ steps cpu.old }
     {
         let word = producer_word(band);
         self.table.store::<Brand, _>(
@@ -96,8 +94,8 @@ impl<'a, D: TxDevice> Shared<'a, D> {
         requires holder { holds_lock (position cpu.old) ≡ true }
         requires ready { (t : HalfResize) × ((view cpu.old).holder.resizing ≡ Some t) × (len ≡ t.len) × AreRefilled t cpu.old }
         ensures same { IsElseSame cpu.old cpu.new }
-        ensures restarted { (t : HalfResize) → (view cpu.old).holder.resizing ≡ Some t → view cpu.new ≡ restarted t (view cpu.old) }
-        ensures made { steps cpu.new ≡ did_store_size len ∷ steps cpu.old }
+        ensures restarted { (t : HalfResize) → (view cpu.old).holder.resizing ≡ Some t → view cpu.new ≡ store_size_view t (view cpu.old) }
+        ensures made { steps cpu.new ≡ store_size_log len ∷ steps cpu.old }
     {
         self.table
             .store::<Brand, _>(&mut cpu.known.seat, SIZE, len as u64, &());

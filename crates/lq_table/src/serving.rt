@@ -1,9 +1,9 @@
 //! The sets and clears of MISSED and DRAINING by the holder of the run lock.
 ghost use Rattle.std.specs.Prelude.{◌≡◌, true, false, ◌∷◌, Bool};
 ghost use Rattle.lq_table.specs.Sees.{view, position, IsSeatOf, IsElseSame, steps};
-ghost use Rattle.lq_table.specs.Told.{clears_missed, clears_draining, sets_missed, sets_draining, passing, setting};
-ghost use Rattle.lq_table.specs.Solo.{solo, missed_to, draining_to, laid};
-ghost use Rattle.lq_table.specs.Made.{did_clear_draining, did_clear_missed, did_set_draining, did_set_missed};
+ghost use Rattle.lq_table.specs.States.{clear_missed_at, clear_draining_at, set_missed_at, set_draining_at, set_bit_view, set_bit_alone, clear_draining_log, clear_missed_log, set_draining_log, set_missed_log};
+ghost use Rattle.lq_table.specs.Moves.{pass_view};
+ghost use Rattle.lq_table.specs.Solo.{solo, missed_to, draining_to};
 
 use crate::places::STATE;
 use crate::shared::{Cpu, Shared};
@@ -16,11 +16,11 @@ impl<'a, D: TxDevice> Shared<'a, D> {
     /// (`qdisc_maybe_clear_missed`, both in net/sched/sch_generic.c).
     pub fn clear_missed(&self, cpu: &mut Cpu<D>)
         requires seat { IsSeatOf self.now cpu.old }
-        requires at { clears_missed (position cpu.old) ≡ true }
+        requires at { clear_missed_at (position cpu.old) ≡ true }
         ensures same { IsElseSame cpu.old cpu.new }
-        ensures view { view cpu.new ≡ passing (view cpu.old) }
+        ensures view { view cpu.new ≡ pass_view (view cpu.old) }
         ensures step { solo (view cpu.new) ≡ missed_to false (solo (view cpu.old)) }
-        ensures made { steps cpu.new ≡ did_clear_missed ∷ steps cpu.old }
+        ensures made { steps cpu.new ≡ clear_missed_log ∷ steps cpu.old }
     {
         self.table
             .fetch_and::<Brand, _>(&mut cpu.known.seat, STATE, ALL_BUT_MISSED, &());
@@ -29,11 +29,11 @@ impl<'a, D: TxDevice> Shared<'a, D> {
     /// Clears DRAINING before the bands are looked through once more (`pfifo_fast_dequeue`).
     pub fn clear_draining(&self, cpu: &mut Cpu<D>)
         requires seat { IsSeatOf self.now cpu.old }
-        requires at { clears_draining (position cpu.old) ≡ true }
+        requires at { clear_draining_at (position cpu.old) ≡ true }
         ensures same { IsElseSame cpu.old cpu.new }
-        ensures view { view cpu.new ≡ passing (view cpu.old) }
+        ensures view { view cpu.new ≡ pass_view (view cpu.old) }
         ensures step { solo (view cpu.new) ≡ draining_to false (solo (view cpu.old)) }
-        ensures made { steps cpu.new ≡ did_clear_draining ∷ steps cpu.old }
+        ensures made { steps cpu.new ≡ clear_draining_log ∷ steps cpu.old }
     {
         self.table
             .fetch_and::<Brand, _>(&mut cpu.known.seat, STATE, ALL_BUT_DRAINING, &());
@@ -43,11 +43,11 @@ impl<'a, D: TxDevice> Shared<'a, D> {
     /// queue is open by now (`qdisc_maybe_clear_missed`); there a packet in hand goes to the requeue slot with this step.
     pub fn set_missed(&self, cpu: &mut Cpu<D>)
         requires seat { IsSeatOf self.now cpu.old }
-        requires at { sets_missed (position cpu.old) ≡ true }
+        requires at { set_missed_at (position cpu.old) ≡ true }
         ensures same { IsElseSame cpu.old cpu.new }
-        ensures view { view cpu.new ≡ setting (view cpu.old) }
-        ensures step { solo (view cpu.new) ≡ laid (view cpu.old) (missed_to true (solo (view cpu.old))) }
-        ensures made { (was : Bool) × (steps cpu.new ≡ did_set_missed was ∷ steps cpu.old) }
+        ensures view { view cpu.new ≡ set_bit_view (view cpu.old) }
+        ensures step { solo (view cpu.new) ≡ set_bit_alone (view cpu.old) (missed_to true (solo (view cpu.old))) }
+        ensures made { (was : Bool) × (steps cpu.new ≡ set_missed_log was ∷ steps cpu.old) }
     {
         self.table
             .fetch_or::<Brand, _>(&mut cpu.known.seat, STATE, MISSED, &());
@@ -57,11 +57,11 @@ impl<'a, D: TxDevice> Shared<'a, D> {
     /// second load of the stop word. A packet in hand goes to the requeue slot with this step.
     pub fn set_draining(&self, cpu: &mut Cpu<D>)
         requires seat { IsSeatOf self.now cpu.old }
-        requires at { sets_draining (position cpu.old) ≡ true }
+        requires at { set_draining_at (position cpu.old) ≡ true }
         ensures same { IsElseSame cpu.old cpu.new }
-        ensures view { view cpu.new ≡ setting (view cpu.old) }
-        ensures step { solo (view cpu.new) ≡ laid (view cpu.old) (draining_to true (solo (view cpu.old))) }
-        ensures made { (was : Bool) × (steps cpu.new ≡ did_set_draining was ∷ steps cpu.old) }
+        ensures view { view cpu.new ≡ set_bit_view (view cpu.old) }
+        ensures step { solo (view cpu.new) ≡ set_bit_alone (view cpu.old) (draining_to true (solo (view cpu.old))) }
+        ensures made { (was : Bool) × (steps cpu.new ≡ set_draining_log was ∷ steps cpu.old) }
     {
         self.table
             .fetch_or::<Brand, _>(&mut cpu.known.seat, STATE, DRAINING, &());

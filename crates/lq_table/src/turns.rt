@@ -6,9 +6,8 @@ ghost use Rattle.lq_band_laws.specs.Three.{all_three};
 ghost use Rattle.lq_table.specs.Rule.{times};
 ghost use Rattle.lq_table.specs.Marks.{marks_of};
 ghost use Rattle.lq_table.specs.Sees.{view, position, IsSeatOf, IsElseSame, steps, packet_owner, packet_rank};
-ghost use Rattle.lq_table.specs.Seats.{FindsTurnWord, IsRankedPacket, TakesTurn};
-ghost use Rattle.lq_table.specs.Told.{at_rest, bringing, giving_turn};
-ghost use Rattle.lq_table.specs.Made.{did_give_turn, did_load_turn, did_take_turn};
+ghost use Rattle.lq_table.specs.Turns.{FindsTurnWord, IsRankedPacket, TakesTurn, take_turn_view, give_turn_view, give_turn_log, load_turn_log, take_turn_log};
+ghost use Rattle.lq_table.specs.Moves.{at_rest};
 
 use crate::marks::Marks;
 use crate::places::turn_word;
@@ -35,10 +34,10 @@ impl<'a, D: TxDevice> Shared<'a, D> {
         requires told { marks.old ≡ marks_of seat.old.me.0.view }
         ensures same { (seat.new.table_id ≡ seat.old.table_id) × (seat.new.id ≡ seat.old.id) × (seat.new.me.1 ≡ seat.old.me.1) }
         ensures found { result ≡ slice_index seat.old.me.0.view.turns owner }
-        ensures taken { result ≡ 2 * rank → seat.new.me.0.view ≡ bringing n owner rank seat.old.me.0.view }
+        ensures taken { result ≡ 2 * rank → seat.new.me.0.view ≡ take_turn_view n owner rank seat.old.me.0.view }
         ensures other { result ≢ 2 * rank → seat.new.me.0.view ≡ seat.old.me.0.view }
         ensures told { marks.new ≡ marks_of seat.new.me.0.view }
-        ensures made { seat.new.me.0.steps ≡ did_take_turn owner rank (result == 2 * rank) ∷ seat.old.me.0.steps }
+        ensures made { seat.new.me.0.steps ≡ take_turn_log owner rank (result == 2 * rank) ∷ seat.old.me.0.steps }
     {
         let free = 2 * rank as u64;
         let word = turn_word(owner);
@@ -59,7 +58,7 @@ impl<'a, D: TxDevice> Shared<'a, D> {
         requires idle { (view cpu.old).packets.busy ≡ None }
         ensures same { IsElseSame cpu.old cpu.new }
         ensures turn { MatchResult result (λ _. TakesTurn self.now n cpu.old cpu.new) (FindsTurnWord self.now n cpu.old cpu.new) }
-        ensures made { steps cpu.new ≡ did_take_turn (packet_owner self.now n) (packet_rank self.now n) (is_ok result) ∷ steps cpu.old }
+        ensures made { steps cpu.new ≡ take_turn_log (packet_owner self.now n) (packet_rank self.now n) (is_ok result) ∷ steps cpu.old }
     {
         let owner = self.infos[n as usize].owner as u32;
         let rank = self.infos[n as usize].rank;
@@ -85,9 +84,9 @@ impl<'a, D: TxDevice> Shared<'a, D> {
         requires rests { at_rest seat.old.me.0.view.place.position ≡ true }
         requires told { marks.old ≡ marks_of seat.old.me.0.view }
         ensures same { (seat.new.table_id ≡ seat.old.table_id) × (seat.new.id ≡ seat.old.id) × (seat.new.me.1 ≡ seat.old.me.1) }
-        ensures given { seat.new.me.0.view ≡ giving_turn owner rank seat.old.me.0.view }
+        ensures given { seat.new.me.0.view ≡ give_turn_view owner rank seat.old.me.0.view }
         ensures told { marks.new ≡ marks_of seat.new.me.0.view }
-        ensures made { seat.new.me.0.steps ≡ did_give_turn owner rank ∷ seat.old.me.0.steps }
+        ensures made { seat.new.me.0.steps ≡ give_turn_log owner rank ∷ seat.old.me.0.steps }
     {
         let next = 2 * rank as u64 + 2;
         let word = turn_word(owner);
@@ -104,8 +103,8 @@ impl<'a, D: TxDevice> Shared<'a, D> {
         requires busy { ((view cpu.old).packets.busy ≡ Some n) × ((view cpu.old).packets.fresh ≡ None) }
         requires left { (at_rest (position cpu.old) ≡ true) × ((view cpu.old).locks ≡ all_three unlocked) }
         ensures same { IsElseSame cpu.old cpu.new }
-        ensures given { view cpu.new ≡ giving_turn (packet_owner self.now n) (packet_rank self.now n) (view cpu.old) }
-        ensures made { steps cpu.new ≡ did_give_turn (packet_owner self.now n) (packet_rank self.now n) ∷ steps cpu.old }
+        ensures given { view cpu.new ≡ give_turn_view (packet_owner self.now n) (packet_rank self.now n) (view cpu.old) }
+        ensures made { steps cpu.new ≡ give_turn_log (packet_owner self.now n) (packet_rank self.now n) ∷ steps cpu.old }
     {
         let owner = self.infos[n as usize].owner as u32;
         let rank = self.infos[n as usize].rank;
@@ -118,7 +117,7 @@ impl<'a, D: TxDevice> Shared<'a, D> {
         requires owner { owner < self.now.senders }
         ensures same { IsElseSame cpu.old cpu.new × (view cpu.new ≡ view cpu.old) }
         ensures word { 0 < times owner (view cpu.old).share.owners → result ≡ slice_index (view cpu.old).turns owner }
-        ensures made { steps cpu.new ≡ did_load_turn owner result ∷ steps cpu.old }
+        ensures made { steps cpu.new ≡ load_turn_log owner result ∷ steps cpu.old }
     {
         let word = turn_word(owner);
         self.table

@@ -18,10 +18,11 @@ use Rattle.lq_run_core.specs.Progress.{step_cost}
 use Rattle.lq_table.specs.Places.{state_place}
 use Rattle.lq_table.specs.Views.{View, Setup, machine_packet}
 use Rattle.lq_table.specs.Rule.{Words, words_of, account, event_word, is_live, machine_of, Stands, Rule}
-use Rattle.lq_table.specs.Told.{clears_draining, clears_missed, clears_sched, is_set, looking, misses, missing, passing, schedules, scheduling, seen_by, seen_state, sets_draining, sets_missed}
+use Rattle.lq_table.specs.States.{clear_draining_at, clear_missed_at, clear_sched_at, load_state_view, miss_at, miss_view, set_sched_at, set_sched_view, seen_state, set_draining_at, set_missed_at}
+use Rattle.lq_table.specs.Moves.{is_set, pass_view, seen_by}
 use Rattle.lq_table.proofs.Bits.{and_draining, and_missed, and_sched, event_small, has_missed, has_sched, or_draining, or_missed, or_sched}
 use Rattle.lq_table.proofs.ByName.{set_state}
-use Rattle.lq_table.proofs.DirectKept.{bits_only, seen}
+use Rattle.lq_table.proofs.RecheckKept.{bits_only, seen}
 use Rattle.lq_table.proofs.Frames.{Fits, holds_kept}
 use Rattle.lq_table.proofs.Shows.{holder_shows}
 use Rattle.lq_table_laws.specs.Stands.{Table}
@@ -147,7 +148,7 @@ module _ (k : Setup) (s : Table) (r : Rule k s) (x id : ℕ) (v : View) (homes :
   n = get_or s.words state_place 0
 
   -- a load of the state, in a call
-  pub looks : (w told : View) (r' : Next w) → w ≡ told → x ≡ n → looks_in_call v.place.position ≡ true → told.place ≡ (looking n v).place → is_live told ≡ true → Beside v told
+  pub looks : (w told : View) (r' : Next w) → w ≡ told → x ≡ n → looks_in_call v.place.position ≡ true → told.place ≡ (load_state_view n v).place → is_live told ≡ true → Beside v told
       → Leads 1 0 (machine_of q s.views) (machine_of r'.qdisc (set s.views id w))
   looks w told r' is word at to lives b =
       let same_seen : seen_state (seen_by v) v.share.about.bypass n ≡ bits_only (seen_by v) q = seen k s r (seen_by v) v.share.about.bypass (ap (λ (z : Setup). z.bypass) (r.parts.seats.shares.about id v here live)) in
@@ -155,59 +156,59 @@ module _ (k : Setup) (s : Table) (r : Rule k s) (x id : ℕ) (v : View) (homes :
       (subst (λ (z : Qdisc). Fits q z Plain v.place.position v.place q) (sym same_seen) (look_fits (seen_by v) q v.place.position v.place (holder_shows k s r id v here live) at))
       to lives (word ∙ r.parts.station.stands.state) refl b
 
-  pub clears_missed_move : (w : View) (r' : Next w) → w ≡ passing v → x ≡ bit_and n 18446744073709551611 → n < 18446744073709551616 → clears_missed v.place.position ≡ true
+  pub clears_missed_move : (w : View) (r' : Next w) → w ≡ pass_view v → x ≡ bit_and n 18446744073709551611 → n < 18446744073709551616 → clear_missed_at v.place.position ≡ true
       → Leads 1 0 (machine_of q s.views) (machine_of r'.qdisc (set s.views id w))
-  clears_missed_move w r' is word small at = bits_told w (passing v) r' is (seen_by v) (record q { missed = false }) (clear_missed_fits (seen_by v) q v.place.position v.place at) refl live
+  clears_missed_move w r' is word small at = bits_told w (pass_view v) r' is (seen_by v) (record q { missed = false }) (clear_missed_fits (seen_by v) q v.place.position v.place at) refl live
       (word ∙ (ap (λ (z : ℕ). bit_and z 18446744073709551611) r.parts.station.stands.state ∙ and_missed q.sched q.deactivated q.missed q.draining e (below small))) refl
       (record { part = record { ends = refl; slot = refl; resizing = refl }; first = refl; phase = refl; purge = refl })
 
-  pub clears_draining_move : (w : View) (r' : Next w) → w ≡ passing v → x ≡ bit_and n 18446744073709551607 → n < 18446744073709551616 → clears_draining v.place.position ≡ true
+  pub clears_draining_move : (w : View) (r' : Next w) → w ≡ pass_view v → x ≡ bit_and n 18446744073709551607 → n < 18446744073709551616 → clear_draining_at v.place.position ≡ true
       → Leads 1 0 (machine_of q s.views) (machine_of r'.qdisc (set s.views id w))
-  clears_draining_move w r' is word small at = bits_told w (passing v) r' is (seen_by v) (record q { draining = false }) (clear_draining_fits (seen_by v) q v.place.position v.place at) refl live
+  clears_draining_move w r' is word small at = bits_told w (pass_view v) r' is (seen_by v) (record q { draining = false }) (clear_draining_fits (seen_by v) q v.place.position v.place at) refl live
       (word ∙ (ap (λ (z : ℕ). bit_and z 18446744073709551607) r.parts.station.stands.state ∙ and_draining q.sched q.deactivated q.missed q.draining e (below small))) refl
       (record { part = record { ends = refl; slot = refl; resizing = refl }; first = refl; phase = refl; purge = refl })
 
-  pub clears_sched_move : (w : View) (r' : Next w) → w ≡ passing v → x ≡ bit_and n 18446744073709551614 → n < 18446744073709551616 → clears_sched v.place.position ≡ true
+  pub clears_sched_move : (w : View) (r' : Next w) → w ≡ pass_view v → x ≡ bit_and n 18446744073709551614 → n < 18446744073709551616 → clear_sched_at v.place.position ≡ true
       → Leads 1 0 (machine_of q s.views) (machine_of r'.qdisc (set s.views id w))
-  clears_sched_move w r' is word small at = bits_told w (passing v) r' is (seen_by v) (record q { sched = false }) (clear_sched_fits (seen_by v) q v.place.position v.place at) refl live
+  clears_sched_move w r' is word small at = bits_told w (pass_view v) r' is (seen_by v) (record q { sched = false }) (clear_sched_fits (seen_by v) q v.place.position v.place at) refl live
       (word ∙ (ap (λ (z : ℕ). bit_and z 18446744073709551614) r.parts.station.stands.state ∙ and_sched q.sched q.deactivated q.missed q.draining e (below small))) refl
       (record { part = record { ends = refl; slot = refl; resizing = refl }; first = refl; phase = refl; purge = refl })
 
   -- a holder with nothing in hand sets a bit
-  pub sets_missed_move : (w : View) (r' : Next w) → w ≡ passing v → x ≡ bit_or n 4 → sets_missed v.place.position ≡ true → in_hand v.place.position ≡ None
+  pub sets_missed_move : (w : View) (r' : Next w) → w ≡ pass_view v → x ≡ bit_or n 4 → set_missed_at v.place.position ≡ true → in_hand v.place.position ≡ None
       → Leads 1 0 (machine_of q s.views) (machine_of r'.qdisc (set s.views id w))
-  sets_missed_move w r' is word at bare = bits_told w (passing v) r' is (seen_by v) (record q { missed = true }) (set_missed_fits (seen_by v) q v.place.position v.place at bare) refl live
+  sets_missed_move w r' is word at bare = bits_told w (pass_view v) r' is (seen_by v) (record q { missed = true }) (set_missed_fits (seen_by v) q v.place.position v.place at bare) refl live
       (word ∙ (ap (λ (z : ℕ). bit_or z 4) r.parts.station.stands.state ∙ or_missed q.sched q.deactivated q.missed q.draining e)) refl
       (record { part = record { ends = refl; slot = refl; resizing = refl }; first = refl; phase = refl; purge = refl })
 
-  pub sets_draining_move : (w : View) (r' : Next w) → w ≡ passing v → x ≡ bit_or n 8 → sets_draining v.place.position ≡ true → in_hand v.place.position ≡ None
+  pub sets_draining_move : (w : View) (r' : Next w) → w ≡ pass_view v → x ≡ bit_or n 8 → set_draining_at v.place.position ≡ true → in_hand v.place.position ≡ None
       → Leads 1 0 (machine_of q s.views) (machine_of r'.qdisc (set s.views id w))
-  sets_draining_move w r' is word at bare = bits_told w (passing v) r' is (seen_by v) (record q { draining = true }) (set_draining_fits (seen_by v) q v.place.position v.place at bare) refl live
+  sets_draining_move w r' is word at bare = bits_told w (pass_view v) r' is (seen_by v) (record q { draining = true }) (set_draining_fits (seen_by v) q v.place.position v.place at bare) refl live
       (word ∙ (ap (λ (z : ℕ). bit_or z 8) r.parts.station.stands.state ∙ or_draining q.sched q.deactivated q.missed q.draining e)) refl
       (record { part = record { ends = refl; slot = refl; resizing = refl }; first = refl; phase = refl; purge = refl })
 
   -- MISSED is set, and was set before or not; a look that finds it set is the same
-  pub misses_move : (w : View) (r' : Next w) (was : Bool) → w ≡ missing was v → was ≡ is_set 4 n → x ≡ bit_or n 4 → misses v.place.position ≡ true
+  pub misses_move : (w : View) (r' : Next w) (was : Bool) → w ≡ miss_view was v → was ≡ is_set 4 n → x ≡ bit_or n 4 → miss_at v.place.position ≡ true
       → Leads 1 0 (machine_of q s.views) (machine_of r'.qdisc (set s.views id w))
   misses_move w r' was is found word at = let t = r.parts.station.stands in
-      bits_told w (missing was v) r' is (record (seen_by v) { missed = was }) (record q { missed = true })
+      bits_told w (miss_view was v) r' is (record (seen_by v) { missed = was }) (record q { missed = true })
       (miss_fits _ q (found ∙ (ap (is_set 4) t.state ∙ has_missed q.sched q.deactivated q.missed q.draining e)) v.place.position v.place at) refl live
       (word ∙ (ap (λ (z : ℕ). bit_or z 4) t.state ∙ or_missed q.sched q.deactivated q.missed q.draining e)) refl
       (record { part = record { ends = refl; slot = refl; resizing = refl }; first = refl; phase = refl; purge = refl })
 
   -- a look that finds MISSED set
-  pub finds_missed_move : (w : View) (r' : Next w) → w ≡ missing true v → is_set 4 n ≡ true → x ≡ n → misses v.place.position ≡ true
+  pub finds_missed_move : (w : View) (r' : Next w) → w ≡ miss_view true v → is_set 4 n ≡ true → x ≡ n → miss_at v.place.position ≡ true
       → Leads 1 0 (machine_of q s.views) (machine_of r'.qdisc (set s.views id w))
   finds_missed_move w r' is found word at = let t = r.parts.station.stands in
       let missed : q.missed ≡ true = sym (ap (is_set 4) t.state ∙ has_missed q.sched q.deactivated q.missed q.draining e) ∙ found in
-      bits_told w (missing true v) r' is (record (seen_by v) { missed = true }) (record q { missed = true }) (miss_fits _ q (sym missed) v.place.position v.place at) refl live
+      bits_told w (miss_view true v) r' is (record (seen_by v) { missed = true }) (record q { missed = true }) (miss_fits _ q (sym missed) v.place.position v.place at) refl live
       (word ∙ (t.state ∙ (λ j. state_word (record q { missed = missed j }) + 256 * e))) refl
       (record { part = record { ends = refl; slot = refl; resizing = refl }; first = refl; phase = refl; purge = refl })
 
-  pub schedules_move : (w : View) (r' : Next w) → w ≡ scheduling (is_set 1 n) v → x ≡ bit_or n 1 → schedules v.place.position ≡ true
+  pub schedules_move : (w : View) (r' : Next w) → w ≡ set_sched_view (is_set 1 n) v → x ≡ bit_or n 1 → set_sched_at v.place.position ≡ true
       → Leads 1 0 (machine_of q s.views) (machine_of r'.qdisc (set s.views id w))
   schedules_move w r' is word at = let t = r.parts.station.stands in
-      bits_told w (scheduling (is_set 1 n) v) r' is (record (seen_by v) { sched = is_set 1 n }) (record q { sched = true })
+      bits_told w (set_sched_view (is_set 1 n) v) r' is (record (seen_by v) { sched = is_set 1 n }) (record q { sched = true })
       (schedule_fits _ q (ap (is_set 1) t.state ∙ has_sched q.sched q.deactivated q.missed q.draining e) v.place.position v.place at) refl live
       (word ∙ (ap (λ (z : ℕ). bit_or z 1) t.state ∙ or_sched q.sched q.deactivated q.missed q.draining e)) refl
       (record { part = record { ends = refl; slot = refl; resizing = refl }; first = refl; phase = refl; purge = refl })

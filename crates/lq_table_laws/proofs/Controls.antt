@@ -17,11 +17,13 @@ use Rattle.lq_model.specs.Control.{after_purge, control_at, found_inside, holds_
 use Rattle.lq_model.specs.Machine.{Purge, Qdisc, bit, idle_seat, is_closed, state_word}
 use Rattle.lq_model.specs.Positions.{holds_lock}
 use Rattle.lq_model.specs.Steps.{is_idle}
-use Rattle.lq_table.specs.Controls.{MayDeactivate, beginning_control, closing, finding, no_draining, no_missed, opening, purge_ending, purge_going, resetting_draining, resetting_draining_in, resetting_missed, resetting_missed_in, returning}
+use Rattle.lq_table.specs.Controls.{MayDeactivate, begin_control_view, set_deactivated_view, clear_deactivated_view, end_control_view}
+use Rattle.lq_table.specs.Inside.{load_inside_view}
+use Rattle.lq_table.specs.Purges.{no_draining, no_missed, purge_ending, purge_going, reset_draining_view, reset_draining_view_in, reset_missed_view, reset_missed_view_in}
 use Rattle.lq_table.specs.Places.{inside_place, lock_place, state_place}
 use Rattle.lq_table.specs.Views.{FirstPart, HolderPart, Setup, View}
 use Rattle.lq_table.specs.Rule.{Words, words_of, account, event_word, holders, is_live, machine_of, seats_of, shown, IsResting, Rule, Stands}
-use Rattle.lq_table.specs.Told.{got_in_control, unlocking_control}
+use Rattle.lq_table.specs.Locks.{try_lock_view_in_control, unlock_view_in_control}
 use Rattle.lq_table.proofs.Bits.{and_draining, and_event, and_missed, event_small, or_event}
 use Rattle.lq_table.proofs.ByName.{set_back, set_lock, set_state}
 use Rattle.lq_table_laws.specs.Stands.{Table}
@@ -84,14 +86,14 @@ module _ (k : Setup) (s : Table) (r : Rule k s) (i x id : ℕ) (v w : View) (hom
 
   -- A CALL OF CONTROL BEGINS, AND ENDS
 
-  pub begin_move : w ≡ beginning_control v → homes ≡ s.homes → x ≡ get_or s.words i 0 → v.place.position ≡ Idle → Leads 1 1 (machine_of q s.views) (machine_of r'.qdisc (set s.views id w))
+  pub begin_move : w ≡ begin_control_view v → homes ≡ s.homes → x ≡ get_or s.words i 0 → v.place.position ≡ Idle → Leads 1 1 (machine_of q s.views) (machine_of r'.qdisc (set s.views id w))
   begin_move is same word at =
       leads_by s.views id v w here live live' q r'.qdisc (record { qdisc = q; seat = record v.place { position = Control false } }) 1
       (by_start q (seats_of s.views) (place s.views id v w here live live') v.place (inside s.views id v w here live live') (there s.views id v w here live live') Controls (ap is_idle at) tt) (ap (λ (u : View). u.place) is)
       (alike_still k s r i x id v w homes r' here live live' q W (account k r.state).down (back word) (record { slots = refl; size = refl }) r.parts.station.stands refl (record { bands = refl; len = refl; slot = refl; phase = refl; purge = refl }) same
       (ap (λ (u : View). holds_lock u.place.position) is ∙ sym (ap holds_lock at)) (subst (Beside v) (sym is) record { part = record { ends = refl; slot = refl; resizing = refl }; first = refl; phase = refl; purge = refl })) r.parts.machine.invariant.kept.one_holder
 
-  pub return_move : w ≡ returning v → homes ≡ s.homes → x ≡ get_or s.words i 0 → v.place.position ≡ Control false → Leads 1 18 (machine_of q s.views) (machine_of r'.qdisc (set s.views id w))
+  pub return_move : w ≡ end_control_view v → homes ≡ s.homes → x ≡ get_or s.words i 0 → v.place.position ≡ Control false → Leads 1 18 (machine_of q s.views) (machine_of r'.qdisc (set s.views id w))
   return_move is same word at =
       control_move Return false at refl (ap (λ (u : View). u.place) is)
       (alike_still k s r i x id v w homes r' here live live' q W (account k r.state).down (back word) (record { slots = refl; size = refl }) r.parts.station.stands refl (record { bands = refl; len = refl; slot = refl; phase = refl; purge = refl }) same
@@ -99,7 +101,7 @@ module _ (k : Setup) (s : Table) (r : Rule k s) (i x id : ℕ) (v w : View) (hom
 
   -- THE CALLS INSIDE
 
-  pub find_move : (holds : Bool) → w ≡ finding (get_or s.words i 0) v → homes ≡ s.homes → x ≡ get_or s.words i 0 → i ≡ inside_place → v.place.position ≡ Control holds → Leads 1 18 (machine_of q s.views) (machine_of r'.qdisc (set s.views id w))
+  pub find_move : (holds : Bool) → w ≡ load_inside_view (get_or s.words i 0) v → homes ≡ s.homes → x ≡ get_or s.words i 0 → i ≡ inside_place → v.place.position ≡ Control holds → Leads 1 18 (machine_of q s.views) (machine_of r'.qdisc (set s.views id w))
   find_move holds is same word at_place at =
       let first = is_first holds at in let t = r.parts.station.stands in let q' : Qdisc = record q { phase = found_inside q.inside q.phase } in
       let found : get_or s.words i 0 ≡ q.inside = ap (λ (z : ℕ). get_or s.words z 0) at_place ∙ t.inside in
@@ -115,11 +117,11 @@ either_live : (b : Bool) (v w w' : View) → is_live w ≡ is_live v → is_live
 either_live true v w w' e e' = e
 either_live false v w w' e e' = e'
 
-pub reset_missed_live : (o : Option Purge) (v : View) → is_live (resetting_missed_in o v) ≡ is_live v
+pub reset_missed_live : (o : Option Purge) (v : View) → is_live (reset_missed_view_in o v) ≡ is_live v
 reset_missed_live None v = refl
 reset_missed_live (Some u) v = either_live u.draining v (purge_ending no_missed v) (purge_going no_missed (record u { missed = true }) v) refl refl
 
-pub reset_draining_live : (o : Option Purge) (v : View) → is_live (resetting_draining_in o v) ≡ is_live v
+pub reset_draining_live : (o : Option Purge) (v : View) → is_live (reset_draining_view_in o v) ≡ is_live v
 reset_draining_live None v = refl
 reset_draining_live (Some u) v = either_live u.missed v (purge_ending no_draining v) (purge_going no_draining (record u { draining = true }) v) refl refl
 
@@ -150,7 +152,7 @@ module _ (k : Setup) (s : Table) (r : Rule k s) (x id : ℕ) (v w : View) (homes
       same (ap (λ (z : Qdisc). z.locked) rest) holds mine (ap (λ (z : Qdisc). z.bands) rest) (ap (λ (z : Qdisc). z.len) rest) (ap (λ (z : Qdisc). z.slot) rest) phase purge
 
   -- DEACTIVATED is set
-  deactivates : (event : ℕ) → w ≡ closing event v → x ≡ bit_or n (2 + 256 * (event + 1)) → MayDeactivate v → holds_lock v.place.position ≡ false
+  deactivates : (event : ℕ) → w ≡ set_deactivated_view event v → x ≡ bit_or n (2 + 256 * (event + 1)) → MayDeactivate v → holds_lock v.place.position ≡ false
       → (r.qdisc.deactivated ≡ false) × (r.qdisc.purge ≡ None) × Alike r'.qdisc (record r.qdisc { deactivated = true; phase = Closing })
   deactivates event is word may free =
       let q = r.qdisc in let phase : q.phase ≡ Active = sym (phase_is k s r state_place x id v w homes r' here live live' may.0) ∙ may.1 in
@@ -170,12 +172,12 @@ module _ (k : Setup) (s : Table) (r : Rule k s) (x id : ℕ) (v w : View) (homes
       none_down None e = refl
       none_down (Some y) e = absurd (true≢false e)
 
-  pub deactivate_move : (event : ℕ) → w ≡ closing event v → x ≡ bit_or n (2 + 256 * (event + 1)) → MayDeactivate v → v.place.position ≡ Control false → Goal 1 18
+  pub deactivate_move : (event : ℕ) → w ≡ set_deactivated_view event v → x ≡ bit_or n (2 + 256 * (event + 1)) → MayDeactivate v → v.place.position ≡ Control false → Goal 1 18
   deactivate_move event is word may at = let d = deactivates event is word may (ap holds_lock at) in
       control_move k s r state_place x id v w homes r' here live live' SetDeactivated false at (ap₂ (λ (b : Bool) (p : Option Purge). not b && is_none p) d.0 d.1) (ap (λ (u : View). u.place) is) d.2
 
   -- it is cleared after the purge
-  pub activate_move : w ≡ opening v → x ≡ bit_and n 13 → v.place.position ≡ Control false → v.control.phase ≡ Purged → v.control.purge ≡ None → Goal 1 18
+  pub activate_move : w ≡ clear_deactivated_view v → x ≡ bit_and n 13 → v.place.position ≡ Control false → v.control.phase ≡ Purged → v.control.purge ≡ None → Goal 1 18
   activate_move is word at purged calm =
       let q = r.qdisc in let first = r.parts.machine.firsts.control id v here live (ap is_control at) in let q' : Qdisc = record q { deactivated = false; phase = Active } in
       let phase : q.phase ≡ Purged = sym (phase_is k s r state_place x id v w homes r' here live live' first) ∙ purged in let no_purge : q.purge ≡ None = sym (purge_is k s r state_place x id v w homes r' here live live' first) ∙ calm in
@@ -186,7 +188,7 @@ module _ (k : Setup) (s : Table) (r : Rule k s) (x id : ℕ) (v w : View) (homes
       (ap (λ (u : View). u.control.phase) is) (ap (λ (u : View). u.control.purge) is ∙ (calm ∙ sym no_purge)))
 
   -- from no call: the call of control begins with it
-  pub deactivate_moves : (event : ℕ) → w ≡ closing event v → x ≡ bit_or n (2 + 256 * (event + 1)) → MayDeactivate v → v.place.position ≡ Idle → Goal 2 19
+  pub deactivate_moves : (event : ℕ) → w ≡ set_deactivated_view event v → x ≡ bit_or n (2 + 256 * (event + 1)) → MayDeactivate v → v.place.position ≡ Idle → Goal 2 19
   deactivate_moves event is word may at =
       let d = deactivates event is word may (ap holds_lock at) in let i = place s.views id v w here live live' in let seats : List Seat = seats_of s.views in let inside_ = inside s.views id v w here live live' in
       let begun_ : Seat = record v.place { position = Control false } in let q = r.qdisc in
@@ -198,15 +200,15 @@ module _ (k : Setup) (s : Table) (r : Rule k s) (x id : ℕ) (v w : View) (homes
 
   -- A PURGE CLEARS THE BITS
 
-  pub reset_missed_move : (u : Purge) → w ≡ resetting_missed v → x ≡ bit_and n 18446744073709551611 → n < 18446744073709551616 → v.place.position ≡ Control true → v.control.purge ≡ Some u → not (nat_lt u.band 3) ≡ true → Goal 1 18
+  pub reset_missed_move : (u : Purge) → w ≡ reset_missed_view v → x ≡ bit_and n 18446744073709551611 → n < 18446744073709551616 → v.place.position ≡ Control true → v.control.purge ≡ Some u → not (nat_lt u.band 3) ≡ true → Goal 1 18
   reset_missed_move u is word small at under_way passed =
       let q = r.qdisc in let first = r.parts.machine.firsts.control id v here live (ap is_control at) in let phase = phase_is k s r state_place x id v w homes r' here live live' first in
       let purge : q.purge ≡ Some u = sym (purge_is k s r state_place x id v w homes r' here live live' first) ∙ under_way in
-      let told : w ≡ resetting_missed_in (Some u) v = is ∙ ap (λ (o : Option Purge). resetting_missed_in o v) under_way in
+      let told : w ≡ reset_missed_view_in (Some u) v = is ∙ ap (λ (o : Option Purge). reset_missed_view_in o v) under_way in
       let bits : x ≡ state_word (record q { missed = false }) + 256 * e = word ∙ (ap (λ (z : ℕ). bit_and z 18446744073709551611) r.parts.station.stands.state ∙ and_missed q.sched q.deactivated q.missed q.draining e (below small)) in
       by u.draining refl told bits purge phase first
     where
-      by : (b : Bool) → u.draining ≡ b → w ≡ resetting_missed_in (Some u) v → x ≡ state_word (record r.qdisc { missed = false }) + 256 * e → r.qdisc.purge ≡ Some u → v.control.phase ≡ r.qdisc.phase → v.control.first ≡ true → Goal 1 18
+      by : (b : Bool) → u.draining ≡ b → w ≡ reset_missed_view_in (Some u) v → x ≡ state_word (record r.qdisc { missed = false }) + 256 * e → r.qdisc.purge ≡ Some u → v.control.phase ≡ r.qdisc.phase → v.control.first ≡ true → Goal 1 18
       by true both told bits purge phase first = let q = r.qdisc in let is' : w ≡ purge_ending no_missed v = told ∙ ap (λ (b : Bool). if b then purge_ending no_missed v else purge_going no_missed (record u { missed = true }) v) both in
           let q' : Qdisc = record q { missed = false; purge = None; phase = after_purge q.phase } in
           let leads : purge_missed q.purge q ≡ q' = ap (λ (o : Option Purge). purge_missed o q) purge ∙ ap (λ (b : Bool). if b then q' else record q { missed = false; purge = Some (record u { missed = true }) }) both in
@@ -220,11 +222,11 @@ module _ (k : Setup) (s : Table) (r : Rule k s) (x id : ℕ) (v w : View) (homes
           (subst (Alike r'.qdisc) (sym leads) (alike_state q' (account k r.state).down first (ap (λ (y : View). y.control.first) is') bits refl (ap (λ (y : View). holds_lock y.place.position) is')
           (subst (λ (y : View). SamePart y.holder v.holder) (sym is') record { ends = refl; slot = refl; resizing = refl }) (ap (λ (y : View). y.control.phase) is' ∙ phase) (ap (λ (y : View). y.control.purge) is')))
 
-  pub reset_draining_move : (u : Purge) → w ≡ resetting_draining v → x ≡ bit_and n 18446744073709551607 → n < 18446744073709551616 → v.place.position ≡ Control true → v.control.purge ≡ Some u → not (nat_lt u.band 3) ≡ true → Goal 1 18
+  pub reset_draining_move : (u : Purge) → w ≡ reset_draining_view v → x ≡ bit_and n 18446744073709551607 → n < 18446744073709551616 → v.place.position ≡ Control true → v.control.purge ≡ Some u → not (nat_lt u.band 3) ≡ true → Goal 1 18
   reset_draining_move u is word small at under_way passed =
       let q = r.qdisc in let first = r.parts.machine.firsts.control id v here live (ap is_control at) in let phase = phase_is k s r state_place x id v w homes r' here live live' first in
       let purge : q.purge ≡ Some u = sym (purge_is k s r state_place x id v w homes r' here live live' first) ∙ under_way in
-      let told : w ≡ resetting_draining_in (Some u) v = is ∙ ap (λ (o : Option Purge). resetting_draining_in o v) under_way in
+      let told : w ≡ reset_draining_view_in (Some u) v = is ∙ ap (λ (o : Option Purge). reset_draining_view_in o v) under_way in
       let bits : x ≡ state_word (record q { draining = false }) + 256 * e = word ∙ (ap (λ (z : ℕ). bit_and z 18446744073709551607) r.parts.station.stands.state ∙ and_draining q.sched q.deactivated q.missed q.draining e (below small)) in
       by u.missed refl told bits purge phase first
     where
@@ -233,7 +235,7 @@ module _ (k : Setup) (s : Table) (r : Rule k s) (x id : ℕ) (v w : View) (homes
       leads_to true z e = ap (λ (b : Bool). if b && true then record z { purge = None; phase = after_purge z.phase } else record z { purge = Some (record u { draining = true }) }) e
       leads_to false z e = ap (λ (b : Bool). if b && true then record z { purge = None; phase = after_purge z.phase } else record z { purge = Some (record u { draining = true }) }) e
 
-      by : (b : Bool) → u.missed ≡ b → w ≡ resetting_draining_in (Some u) v → x ≡ state_word (record r.qdisc { draining = false }) + 256 * e → r.qdisc.purge ≡ Some u → v.control.phase ≡ r.qdisc.phase → v.control.first ≡ true → Goal 1 18
+      by : (b : Bool) → u.missed ≡ b → w ≡ reset_draining_view_in (Some u) v → x ≡ state_word (record r.qdisc { draining = false }) + 256 * e → r.qdisc.purge ≡ Some u → v.control.phase ≡ r.qdisc.phase → v.control.first ≡ true → Goal 1 18
       by true both told bits purge phase first = let q = r.qdisc in let is' : w ≡ purge_ending no_draining v = told ∙ ap (λ (b : Bool). if b then purge_ending no_draining v else purge_going no_draining (record u { draining = true }) v) both in
           let q' : Qdisc = record q { draining = false; purge = None; phase = after_purge q.phase } in
           let leads : purge_draining q.purge q ≡ q' = ap (λ (o : Option Purge). purge_draining o q) purge ∙ leads_to true (record q { draining = false }) both in
@@ -262,7 +264,7 @@ module _ (k : Setup) (s : Table) (r : Rule k s) (x id : ℕ) (v w : View) (homes
       (ap (λ (c : FirstPart). c.phase) control ∙ phase_is k s r lock_place x id v w homes r' here live live' first) (ap (λ (c : FirstPart). c.purge) control ∙ purge_is k s r lock_place x id v w homes r' here live live' first)
 
   -- control gets it, and with it the station
-  pub control_gets : (d : HolderPart) → w ≡ got_in_control d v → s.homes ≡ some (Some (shown d)) ∷ [] → IsResting d.size d.ends → d.resizing ≡ None → get_or s.words lock_place 0 ≡ 0 → x ≡ 1 → v.place.position ≡ Control false
+  pub control_gets : (d : HolderPart) → w ≡ try_lock_view_in_control d v → s.homes ≡ some (Some (shown d)) ∷ [] → IsResting d.size d.ends → d.resizing ≡ None → get_or s.words lock_place 0 ≡ 0 → x ≡ 1 → v.place.position ≡ Control false
       → Leads 1 18 (machine_of r.qdisc s.views) (machine_of r'.qdisc (set s.views id w))
   control_gets d is out rests calm found word at =
       let free : r.qdisc.locked ≡ false = bit_same r.qdisc.locked false (sym r.parts.station.stands.lock ∙ found) in let home = r.parts.station.lends.home free in
@@ -274,7 +276,7 @@ module _ (k : Setup) (s : Table) (r : Rule k s) (x id : ℕ) (v w : View) (homes
       (part_by _ w.holder D (has k s r lock_place x id v w homes r' here live live' (ap (λ (u : View). holds_lock u.place.position) is)) (part_by w.holder d D mine (shown_tells d D shows_d rests home.resting calm home.calm))))
 
   -- it releases it: of an active station it then looks at the state as after a run
-  pub control_releases : w ≡ unlocking_control v → homes ≡ some (Some (shown v.holder)) ∷ [] → IsResting v.holder.size v.holder.ends → v.holder.resizing ≡ None → x ≡ 0 → v.place.position ≡ Control true → v.control.purge ≡ None
+  pub control_releases : w ≡ unlock_view_in_control v → homes ≡ some (Some (shown v.holder)) ∷ [] → IsResting v.holder.size v.holder.ends → v.holder.resizing ≡ None → x ≡ 0 → v.place.position ≡ Control true → v.control.purge ≡ None
       → Leads 1 18 (machine_of r.qdisc s.views) (machine_of r'.qdisc (set s.views id w))
   control_releases is back rests calm word at no_purge =
       let free' : r'.qdisc.locked ≡ false = bit_same r'.qdisc.locked false (sym r'.parts.station.stands.lock ∙ (ap (λ (z : Words). z.lock) lock_is ∙ word)) in

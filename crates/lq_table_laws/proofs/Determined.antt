@@ -18,7 +18,7 @@ use Rattle.lq_band_laws.specs.Seats.{total}
 use Rattle.lq_band_laws.specs.Three.{Three, at}
 use Rattle.lq_table.specs.Views.{View, Setup, HolderPart, HalfResize, machine_packet, machine_packets}
 use Rattle.lq_table.specs.Rule.{Words, words_of, is_live, holding, account, bands_of, bands_now, holders, shown, event_word, Stands, Rings, IsResting, Rule}
-use Rattle.lq_table.specs.Told.{is_set}
+use Rattle.lq_table.specs.Moves.{is_set}
 use Rattle.lq_table.proofs.Bits.{has_sched, has_deactivated, has_missed, has_draining}
 use Rattle.lq_table.proofs.Facts.{at_within}
 use Rattle.lq_table.proofs.Frames.{total_holding}

@@ -25,9 +25,12 @@ use Rattle.lq_run_core.specs.Progress.{step_cost}
 use Rattle.lq_table.specs.Places.{fates_offset, state_place, xoff_word}
 use Rattle.lq_table.specs.Views.{HolderPart, Setup, View, machine_packet}
 use Rattle.lq_table.specs.Rule.{Words, words_of, account, event_word, holders, is_live, machine_of, seats_of, Holder, Rule}
-use Rattle.lq_table.specs.Told.{backing, loading, loading_from, machine_answer, requeuing, seen_by, settling, stop_value, waking}
+use Rattle.lq_table.specs.States.{backing, requeue_view}
+use Rattle.lq_table.specs.Stops.{load_xoff_view, load_xoff_view_from, stop_value, wake_view}
+use Rattle.lq_table.specs.Fates.{machine_answer, settle_view_sent}
+use Rattle.lq_table.specs.Moves.{seen_by}
 use Rattle.lq_table.proofs.Bits.{or_missed}
-use Rattle.lq_table.proofs.BackKept.{Backs}
+use Rattle.lq_table.proofs.SetBitKept.{Backs}
 use Rattle.lq_table.proofs.ByName.{set_back, set_fate, set_state, set_xoff, xoff_of, xoff_within}
 use Rattle.lq_table.proofs.Frames.{Fits}
 use Rattle.lq_table.proofs.Shows.{Shows, begins_alike, holder_shows}
@@ -104,19 +107,19 @@ module _ (k : Setup) (s : Table) (r : Rule k s) (x id : ℕ) (v w : View) (homes
       moves_beside k s r (xoff_word k queue) x id v w homes r' here live live' q Plain q W (account k r.state).down fits to (ap (λ (z : ℕ). words_of k (set s.words (xoff_word k queue) z)) word ∙ set_back k s.words (xoff_word k queue)) (record { slots = refl; size = refl })
       r.parts.station.stands refl (record { bands = refl; len = refl; slot = refl; phase = refl; purge = refl }) same b
 
-  pub gate_move : (p : Packet) (direct : Bool) (r' : AfterAt (xoff_word k p.queue)) → w ≡ loading (get_or s.words (xoff_word k p.queue) 0) v → x ≡ get_or s.words (xoff_word k p.queue) 0 → v.place.position ≡ Gate p direct
+  pub gate_move : (p : Packet) (direct : Bool) (r' : AfterAt (xoff_word k p.queue)) → w ≡ load_xoff_view (get_or s.words (xoff_word k p.queue) 0) v → x ≡ get_or s.words (xoff_word k p.queue) 0 → v.place.position ≡ Gate p direct
       → Leads 1 0 (machine_of q s.views) (machine_of r'.qdisc (set s.views id w))
   gate_move p direct r' is word at = let n : ℕ = get_or s.words (xoff_word k p.queue) 0 in
-      let told : loading n v ≡ record v { place = record v.place { position = if n == 0 then Xmit p direct else BlockedClear (InHand p direct) } } = ap (λ (z : Position). loading_from z v.holder.slot n v) at in
+      let told : load_xoff_view n v ≡ record v { place = record v.place { position = if n == 0 then Xmit p direct else BlockedClear (InHand p direct) } } = ap (λ (z : Position). load_xoff_view_from z v.holder.slot n v) at in
       let is' = is ∙ told in
       loads_only p.queue r' word (ap is_live is' ∙ live) (subst (λ (z : Position). Fits q q Plain z v.place q) (sym at) record { may = refl; seat = refl; words = refl })
       (ap (λ (u : View). u.place) is' ∙ sym (ap (λ (z : Position). (step_at z Plain q v.place).seat) at ∙ ap (λ (m : ℕ). record v.place { position = if m == 0 then Xmit p direct else BlockedClear (InHand p direct) }) (loaded p.queue)))
       (subst (Beside v) (sym is') record { part = record { ends = refl; slot = refl; resizing = refl }; first = refl; phase = refl; purge = refl })
 
-  pub blocked_move : (b : Blocked) (r' : AfterAt (xoff_word k (queue_of_blocked b))) → w ≡ loading (get_or s.words (xoff_word k (queue_of_blocked b)) 0) v → x ≡ get_or s.words (xoff_word k (queue_of_blocked b)) 0 → v.place.position ≡ BlockedLoad b
+  pub blocked_move : (b : Blocked) (r' : AfterAt (xoff_word k (queue_of_blocked b))) → w ≡ load_xoff_view (get_or s.words (xoff_word k (queue_of_blocked b)) 0) v → x ≡ get_or s.words (xoff_word k (queue_of_blocked b)) 0 → v.place.position ≡ BlockedLoad b
       → Leads 1 0 (machine_of q s.views) (machine_of r'.qdisc (set s.views id w))
   blocked_move b r' is word at = let n : ℕ = get_or s.words (xoff_word k (queue_of_blocked b)) 0 in
-      let told : loading n v ≡ record v { place = record v.place { position = if n == 0 then BlockedMiss b else BlockedDrain b } } = ap (λ (z : Position). loading_from z v.holder.slot n v) at in
+      let told : load_xoff_view n v ≡ record v { place = record v.place { position = if n == 0 then BlockedMiss b else BlockedDrain b } } = ap (λ (z : Position). load_xoff_view_from z v.holder.slot n v) at in
       let is' = is ∙ told in
       loads_only (queue_of_blocked b) r' word (ap is_live is' ∙ live) (subst (λ (z : Position). Fits q q Plain z v.place q) (sym at) record { may = refl; seat = refl; words = refl })
       (ap (λ (u : View). u.place) is' ∙ sym (ap (λ (z : Position). (step_at z Plain q v.place).seat) at ∙ ap (λ (m : ℕ). record v.place { position = if m == 0 then BlockedMiss b else BlockedDrain b }) (loaded (queue_of_blocked b))))
@@ -135,7 +138,7 @@ module _ (k : Setup) (s : Table) (r : Rule k s) (x id : ℕ) (v w : View) (homes
   -- THE DEVICE
 
   -- it accepted the packet, whose fate is stored
-  pub send_move : (n : ℕ) (st : StationState) (tx : Tx) (p : Packet) (direct : Bool) (r' : AfterAt (fates_offset k + n)) → n < length k.infos → w ≡ settling st v → v.place.position ≡ Xmit p direct → st.last ≡ Some tx → is_busy tx ≡ false
+  pub send_move : (n : ℕ) (st : StationState) (tx : Tx) (p : Packet) (direct : Bool) (r' : AfterAt (fates_offset k + n)) → n < length k.infos → w ≡ settle_view_sent st v → v.place.position ≡ Xmit p direct → st.last ≡ Some tx → is_busy tx ≡ false
       → Leads 1 0 (machine_of q s.views) (machine_of r'.qdisc (set s.views id w))
   send_move n st tx p direct r' within is at answered sent =
       let fits : Fits q (seen_by v) (machine_answer st.last) v.place.position v.place (accepted q) =
@@ -148,7 +151,7 @@ module _ (k : Setup) (s : Table) (r : Rule k s) (x id : ℕ) (v w : View) (homes
       (subst (Beside v) (sym is) record { part = record { ends = refl; slot = refl; resizing = refl }; first = refl; phase = refl; purge = refl }))
 
   -- it was busy: the packet goes to the requeue slot, and MISSED is set
-  pub requeue_moves : (st : StationState) (p : Packet) (direct : Bool) (r' : AfterAt state_place) → w ≡ requeuing st v → x ≡ bit_or (get_or s.words state_place 0) 4 → v.place.position ≡ Xmit p direct
+  pub requeue_moves : (st : StationState) (p : Packet) (direct : Bool) (r' : AfterAt state_place) → w ≡ requeue_view st v → x ≡ bit_or (get_or s.words state_place 0) 4 → v.place.position ≡ Xmit p direct
       → Leads 2 19 (machine_of q s.views) (machine_of r'.qdisc (set s.views id w))
   requeue_moves st p direct r' is word at =
       let live' : is_live w ≡ true = ap is_live is ∙ live in let holds : holds_lock v.place.position ≡ true = ap holds_lock at in
@@ -168,7 +171,7 @@ module _ (k : Setup) (s : Table) (r : Rule k s) (x id : ℕ) (v w : View) (homes
       (ap (λ (u : View). u.control.first) is) (ap (λ (u : View). u.control.phase) is) (ap (λ (u : View). u.control.purge) is) refl) r.parts.machine.invariant.kept.one_holder (λ before. record { serves = refl; queues_open = before.queues_open })
 
   -- a wake opens a stopped queue
-  pub wake_moves : (queue : ℕ) (r' : AfterAt (xoff_word k queue)) → queue < k.queues → w ≡ waking queue v → get_or s.words (xoff_word k queue) 0 ≡ 1 → x ≡ 0 → v.place.position ≡ Idle
+  pub wake_moves : (queue : ℕ) (r' : AfterAt (xoff_word k queue)) → queue < k.queues → w ≡ wake_view queue v → get_or s.words (xoff_word k queue) 0 ≡ 1 → x ≡ 0 → v.place.position ≡ Idle
       → Leads 2 18 (machine_of q s.views) (machine_of r'.qdisc (set s.views id w))
   wake_moves queue r' below is found word at =
       let live' : is_live w ≡ true = ap is_live is ∙ live in let q' : Qdisc = record q { xoff = slice_set q.xoff queue 0 } in

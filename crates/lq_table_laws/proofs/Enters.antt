@@ -23,7 +23,8 @@ use Rattle.lq_run_core.specs.Progress.{start_cost}
 use Rattle.lq_table.specs.Places.{inside_place}
 use Rattle.lq_table.specs.Views.{Setup, View}
 use Rattle.lq_table.specs.Rule.{Words, words_of, account, is_live, machine_of, seats_of, Rule}
-use Rattle.lq_table.specs.Told.{bringing_packet, call_of, entering, passing, seen_by, MayEnter}
+use Rattle.lq_table.specs.Inside.{bringing_packet, call_of, enter_view, MayEnter}
+use Rattle.lq_table.specs.Moves.{pass_view, seen_by}
 use Rattle.lq_table.proofs.ByName.{set_inside}
 use Rattle.lq_table.proofs.Frames.{Fits}
 use Rattle.lq_table_laws.specs.Stands.{Table}
@@ -90,7 +91,7 @@ module _ (k : Setup) (s : Table) (r : Rule k s) (x id : ℕ) (v w : View) (homes
   words_are = set_inside k s.words x (let wide = r.wide in omega arith)
 
   -- a call ends
-  pub leave_move : w ≡ passing v → v.place.position ≡ Leave → Leads 1 0 (machine_of q s.views) (machine_of r'.qdisc (set s.views id w))
+  pub leave_move : w ≡ pass_view v → v.place.position ≡ Leave → Leads 1 0 (machine_of q s.views) (machine_of r'.qdisc (set s.views id w))
   leave_move is at =
       let q' : Qdisc = record q { inside = q.inside - 1 } in let t = r.parts.station.stands in let gone : Seat = record v.place { position = Idle } in
       let to : w.place ≡ gone = ap (λ (u : View). u.place) is ∙ ap (λ (z : Position). (step_at z Plain (seen_by v) v.place).seat) at in
@@ -114,11 +115,11 @@ module _ (k : Setup) (s : Table) (r : Rule k s) (x id : ℕ) (v w : View) (homes
   abbrev enters : After
   enters = step_at starts.position Plain q starts
 
-  enters_to : w ≡ entering v → w.place ≡ enters.seat
+  enters_to : w ≡ enter_view v → w.place ≡ enters.seat
   enters_to is = ap (λ (u : View). u.place) is ∙ enter_seat (seen_by v) q hand v.place
 
   -- no other seat is in a transmit of the same owner, since none is after the step
-  free : w ≡ entering v → (other : List Seat) → ((j : ℕ) → j ≢ i → get_or other j idle_seat ≡ get_or seats j idle_seat) → IsFree (call_of hand) i (record { qdisc = q; seats = other })
+  free : w ≡ enter_view v → (other : List Seat) → ((j : ℕ) → j ≢ i → get_or other j idle_seat ≡ get_or seats j idle_seat) → IsFree (call_of hand) i (record { qdisc = q; seats = other })
   free is other same_others = by hand refl
     where
       by : (o : Option Packet) → hand ≡ o → IsFree (call_of o) i (record { qdisc = q; seats = other })
@@ -134,7 +135,7 @@ module _ (k : Setup) (s : Table) (r : Rule k s) (x id : ℕ) (v w : View) (homes
           r'.parts.machine.invariant.owners_differ i j p u apart mine theirs
 
   -- the machine after it
-  entered : w ≡ entering v → holds_lock v.place.position ≡ false → IsInductive (record { qdisc = enters.qdisc; seats = set seats i enters.seat }) → Alike r'.qdisc enters.qdisc
+  entered : w ≡ enter_view v → holds_lock v.place.position ≡ false → IsInductive (record { qdisc = enters.qdisc; seats = set seats i enters.seat }) → Alike r'.qdisc enters.qdisc
   entered is not_held kept =
       let q' : Qdisc = record q { inside = q.inside + 1 } in let t = r.parts.station.stands in let to = enters_to is in let words = enter_words q hand v.place in
       let count : x ≡ q'.inside = inside_is enters.qdisc enters.seat to kept ∙ ap (λ (z : Qdisc). z.inside) words in
@@ -149,7 +150,7 @@ module _ (k : Setup) (s : Table) (r : Rule k s) (x id : ℕ) (v w : View) (homes
   raised_or (inr h) = inr h.0
 
   -- from no call
-  pub enter_moves : w ≡ entering v → v.place.position ≡ Idle → MayEnter v → Leads 2 (start_cost (call_of hand)) (machine_of q s.views) (machine_of r'.qdisc (set s.views id w))
+  pub enter_moves : w ≡ enter_view v → v.place.position ≡ Idle → MayEnter v → Leads 2 (start_cost (call_of hand)) (machine_of q s.views) (machine_of r'.qdisc (set s.views id w))
   enter_moves is at may =
       let first = by_start q seats i v.place (inside s.views id v w here live live') (there s.views id v w here live live') (call_of hand) (enter_begins hand v.place at (raised_or may)) (free is seats (λ j apart. refl)) in
       let second = by_step q (set seats i starts) i starts (let l = length-set seats i starts in let z = inside s.views id v w here live live' in omega arith)
@@ -161,7 +162,7 @@ module _ (k : Setup) (s : Table) (r : Rule k s) (x id : ℕ) (v w : View) (homes
       r.parts.machine.invariant.kept.one_holder (still_serves q seats i v.place starts (inside s.views id v w here live live') (there s.views id v w here live live') (ap holds_lock at) (starts_free hand v.place)))
 
   -- from a call of control that has nothing in hand, which returns first
-  pub enter_returning : w ≡ entering v → v.place.position ≡ Control false → MayEnter v → Leads 3 (18 + start_cost (call_of hand)) (machine_of q s.views) (machine_of r'.qdisc (set s.views id w))
+  pub enter_returning : w ≡ enter_view v → v.place.position ≡ Control false → MayEnter v → Leads 3 (18 + start_cost (call_of hand)) (machine_of q s.views) (machine_of r'.qdisc (set s.views id w))
   enter_returning is at may =
       let at_idle : Seat = record v.place { position = Idle } in let inside_ = inside s.views id v w here live live' in let l = length-set seats i at_idle in
       let first : Costs (machine_of q s.views) (moved_to seats i (record { qdisc = q; seat = at_idle })) 18 = by_control q seats i v.place inside_ (there s.views id v w here live live') Return false (ap is_control at) (ap holds_as_control at) refl in

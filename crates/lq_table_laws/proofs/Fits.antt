@@ -10,9 +10,9 @@ use Rattle.lq_model.specs.declared.machine.Seat.{Seat}
 use Rattle.lq_model.specs.Machine.{Qdisc, is_non_empty}
 use Rattle.lq_model.specs.Positions.{holds_lock, in_hand}
 use Rattle.lq_model.specs.Steps.{After, call_ends, gives_up, goes_to, run_begins}
-use Rattle.lq_table.specs.Told.{clears_draining, clears_missed, clears_sched, misses, schedules, sets_draining, sets_missed}
+use Rattle.lq_table.specs.States.{clear_draining_at, clear_missed_at, clear_sched_at, miss_at, set_sched_at, set_draining_at, set_missed_at}
 use Rattle.lq_table_laws.specs.Stepped.{looks_in_call}
-use Rattle.lq_table.proofs.DirectKept.{bits_only}
+use Rattle.lq_table.proofs.RecheckKept.{bits_only}
 use Rattle.lq_table.proofs.Frames.{Fits}
 use Rattle.lq_table.proofs.Shows.{Shows, begins_alike}
 
@@ -39,33 +39,33 @@ look_fits base q (Check p) s shows h = record { may = refl; seat = refl; words =
 look_fits base q (Recheck p) s shows h = record { may = refl; seat = refl; words = refl }
 look_fits base q _ s shows h = absurd (false≢true h)
 
-pub clear_missed_fits : (seen q : Qdisc) (position : Position) (s : Seat) → clears_missed position ≡ true → Fits q seen Plain position s (record q { missed = false })
+pub clear_missed_fits : (seen q : Qdisc) (position : Position) (s : Seat) → clear_missed_at position ≡ true → Fits q seen Plain position s (record q { missed = false })
 clear_missed_fits seen q ClearMissed s h = record { may = refl; seat = refl; words = refl }
 clear_missed_fits seen q (BlockedClear b) s h = record { may = refl; seat = refl; words = refl }
 clear_missed_fits seen q _ s h = absurd (false≢true h)
 
-pub clear_draining_fits : (seen q : Qdisc) (position : Position) (s : Seat) → clears_draining position ≡ true → Fits q seen Plain position s (record q { draining = false })
+pub clear_draining_fits : (seen q : Qdisc) (position : Position) (s : Seat) → clear_draining_at position ≡ true → Fits q seen Plain position s (record q { draining = false })
 clear_draining_fits seen q ClearDraining s h = record { may = refl; seat = refl; words = refl }
 clear_draining_fits seen q _ s h = absurd (false≢true h)
 
-pub clear_sched_fits : (seen q : Qdisc) (position : Position) (s : Seat) → clears_sched position ≡ true → Fits q seen Plain position s (record q { sched = false })
+pub clear_sched_fits : (seen q : Qdisc) (position : Position) (s : Seat) → clear_sched_at position ≡ true → Fits q seen Plain position s (record q { sched = false })
 clear_sched_fits seen q (SoftClear deactivated) s h = record { may = refl; seat = refl; words = refl }
 clear_sched_fits seen q _ s h = absurd (false≢true h)
 
 -- a holder with nothing in hand sets MISSED or DRAINING
-pub set_missed_fits : (seen q : Qdisc) (position : Position) (s : Seat) → sets_missed position ≡ true → in_hand position ≡ None → Fits q seen Plain position s (record q { missed = true })
+pub set_missed_fits : (seen q : Qdisc) (position : Position) (s : Seat) → set_missed_at position ≡ true → in_hand position ≡ None → Fits q seen Plain position s (record q { missed = true })
 set_missed_fits seen q Again s h bare = record { may = refl; seat = refl; words = refl }
 set_missed_fits seen q Quota s h bare = record { may = refl; seat = refl; words = refl }
 set_missed_fits seen q (BlockedMiss (NoneTaken queue)) s h bare = record { may = refl; seat = refl; words = refl }
 set_missed_fits seen q (BlockedMiss (InHand p direct)) s h bare = absurd cc
 set_missed_fits seen q _ s h bare = absurd (false≢true h)
 
-pub set_draining_fits : (seen q : Qdisc) (position : Position) (s : Seat) → sets_draining position ≡ true → in_hand position ≡ None → Fits q seen Plain position s (record q { draining = true })
+pub set_draining_fits : (seen q : Qdisc) (position : Position) (s : Seat) → set_draining_at position ≡ true → in_hand position ≡ None → Fits q seen Plain position s (record q { draining = true })
 set_draining_fits seen q (BlockedDrain (NoneTaken queue)) s h bare = record { may = refl; seat = refl; words = refl }
 set_draining_fits seen q (BlockedDrain (InHand p direct)) s h bare = absurd cc
 set_draining_fits seen q _ s h bare = absurd (false≢true h)
 
-pub miss_fits : (seen q : Qdisc) → seen.missed ≡ q.missed → (position : Position) (s : Seat) → misses position ≡ true → Fits q seen Plain position s (record q { missed = true })
+pub miss_fits : (seen q : Qdisc) → seen.missed ≡ q.missed → (position : Position) (s : Seat) → miss_at position ≡ true → Fits q seen Plain position s (record q { missed = true })
 miss_fits seen q same (Miss attempt) s h = record {
   may = refl;
   seat = either_seat seen.missed (goes_to seen s (gives_up attempt)) (goes_to (record seen { missed = true }) s (Try2 attempt)) (goes_to q s (gives_up attempt)) (goes_to (record q { missed = true }) s (Try2 attempt)) refl refl
@@ -74,7 +74,7 @@ miss_fits seen q same (Miss attempt) s h = record {
 }
 miss_fits seen q same _ s h = absurd (false≢true h)
 
-pub schedule_fits : (seen q : Qdisc) → seen.sched ≡ q.sched → (position : Position) (s : Seat) → schedules position ≡ true → Fits q seen Plain position s (record q { sched = true })
+pub schedule_fits : (seen q : Qdisc) → seen.sched ≡ q.sched → (position : Position) (s : Seat) → set_sched_at position ≡ true → Fits q seen Plain position s (record q { sched = true })
 schedule_fits seen q same (Sched inside) s h = record {
   may = refl;
   seat = either_seat seen.sched (goes_to seen s (call_ends inside)) (raised seen) (goes_to q s (call_ends inside)) (raised q) refl refl ∙ (λ j. (if same j then goes_to q s (call_ends inside) else raised q).seat);

@@ -18,7 +18,8 @@ use Rattle.lq_model.specs.Steps.{lock_got, step_at}
 use Rattle.lq_table.specs.Places.{lock_place}
 use Rattle.lq_table.specs.Views.{View, Setup, HolderPart}
 use Rattle.lq_table.specs.Rule.{Words, words_of, account, holders, is_live, machine_of, shown, IsResting, Stands, Rule}
-use Rattle.lq_table.specs.Told.{finding_locked, got_in_call, seen_by, seen_lock, unlocking_call}
+use Rattle.lq_table.specs.Locks.{look_lock_view, try_lock_view_in_call, seen_lock, unlock_view_in_call}
+use Rattle.lq_table.specs.Moves.{seen_by}
 use Rattle.lq_table.proofs.ByName.{set_back, set_lock}
 use Rattle.lq_table.proofs.Frames.{Fits}
 use Rattle.lq_table.proofs.LocksKept.{got_fits, held_fits}
@@ -78,7 +79,7 @@ module _ (k : Setup) (s : Table) (r : Rule k s) (x id : ℕ) (v w : View) (homes
   free zero_ = bit_same q.locked false (sym r.parts.station.stands.lock ∙ zero_)
 
   -- the lock is found held
-  pub finds_locked : w ≡ finding_locked v → homes ≡ s.homes → x ≡ n → n ≢ 0 → tries_in_call v.place.position ≡ true → Leads 1 0 (machine_of q s.views) (machine_of r'.qdisc (set s.views id w))
+  pub finds_locked : w ≡ look_lock_view v → homes ≡ s.homes → x ≡ n → n ≢ 0 → tries_in_call v.place.position ≡ true → Leads 1 0 (machine_of q s.views) (machine_of r'.qdisc (set s.views id w))
   finds_locked is same word busy at =
       moves_beside k s r lock_place x id v w homes r' here live (ap is_live is ∙ live) (seen_lock (seen_by v) true) Plain q (words_of k s.words) (account k r.state).down
       (held_call q (seen_by v) v.place (taken busy) v.place.position at) (ap (λ (u : View). u.place) is) (ap (λ (z : ℕ). words_of k (set s.words lock_place z)) word ∙ set_back k s.words lock_place) (record { slots = refl; size = refl })
@@ -102,7 +103,7 @@ module _ (k : Setup) (s : Table) (r : Rule k s) (x id : ℕ) (v w : View) (homes
       }
 
   -- the lock is got, and with it the station
-  pub gets_lock : (d : HolderPart) → w ≡ got_in_call d v → s.homes ≡ some (Some (shown d)) ∷ [] → IsResting d.size d.ends → d.resizing ≡ None → n ≡ 0 → x ≡ 1 → tries_in_call v.place.position ≡ true
+  pub gets_lock : (d : HolderPart) → w ≡ try_lock_view_in_call d v → s.homes ≡ some (Some (shown d)) ∷ [] → IsResting d.size d.ends → d.resizing ≡ None → n ≡ 0 → x ≡ 1 → tries_in_call v.place.position ≡ true
       → Leads 1 0 (machine_of q s.views) (machine_of r'.qdisc (set s.views id w))
   gets_lock d is out rests calm found word at =
       let home = r.parts.station.lends.home (free found) in let D : HolderPart = holders r.state (account k r.state) (words_of k s.words).size in
@@ -118,7 +119,7 @@ module _ (k : Setup) (s : Table) (r : Rule k s) (x id : ℕ) (v w : View) (homes
       (ap (λ (u : View). u.control.first) is) (ap (λ (u : View). u.control.phase) is) (ap (λ (u : View). u.control.purge) is))
 
   -- it is released, and the station goes back
-  pub releases : w ≡ unlocking_call v → homes ≡ some (Some (shown v.holder)) ∷ [] → IsResting v.holder.size v.holder.ends → v.holder.resizing ≡ None → x ≡ 0 → v.place.position ≡ Unlock
+  pub releases : w ≡ unlock_view_in_call v → homes ≡ some (Some (shown v.holder)) ∷ [] → IsResting v.holder.size v.holder.ends → v.holder.resizing ≡ None → x ≡ 0 → v.place.position ≡ Unlock
       → Leads 1 0 (machine_of q s.views) (machine_of r'.qdisc (set s.views id w))
   releases is back rests calm word at =
       let free' : r'.qdisc.locked ≡ false = bit_same r'.qdisc.locked false (sym r'.parts.station.stands.lock ∙ (ap (λ (z : Words). z.lock) lock_is ∙ word)) in

@@ -25,8 +25,8 @@ use Rattle.lq_band_laws.proofs.Three.{at_put_other, at_put_same}
 use Rattle.lq_table.specs.Places.{slot_word}
 use Rattle.lq_table.specs.Views.{Setup, View, machine_packet, machine_packets}
 use Rattle.lq_table.specs.Rule.{Words, words_of, account, bands_now, bands_of, holders, is_live, locks_at, machine_of, Rule, Stands}
-use Rattle.lq_table.specs.Rings.{dropping, joining}
-use Rattle.lq_table.specs.Told.{seen_by}
+use Rattle.lq_table.specs.Producers.{producer_slot_view_full, store_slot_view}
+use Rattle.lq_table.specs.Moves.{seen_by}
 use Rattle.lq_table.proofs.Accounts.{with_at_other, with_at_same}
 use Rattle.lq_table.proofs.ByName.{set_back, set_slot, slot_of}
 use Rattle.lq_table.proofs.Frames.{Fits, calm_here, holds_kept, locks_here, rings_step}
@@ -83,7 +83,7 @@ module _ (k : Setup) (s : Table) (r : Rule k s) (b i n x id : ℕ) (v w : View) 
   shows h = holder_shows k s r id v here live (ap holds_lock at_ ∙ h)
 
   -- the slot is found occupied: the packet is dropped
-  pub drops_move : w ≡ dropping n (get_or s.words (slot_word k b i) 0 - 1) v → x ≡ get_or s.words (slot_word k b i) 0 → get_or s.words (slot_word k b i) 0 ≢ 0 → Leads 1 0 (machine_of q s.views) (machine_of r'.qdisc (set s.views id w))
+  pub drops_move : w ≡ producer_slot_view_full n (get_or s.words (slot_word k b i) 0 - 1) v → x ≡ get_or s.words (slot_word k b i) 0 → get_or s.words (slot_word k b i) 0 ≢ 0 → Leads 1 0 (machine_of q s.views) (machine_of r'.qdisc (set s.views id w))
   drops_move is word full =
       let found : get_or s.words (slot_word k b i) 0 ≡ get_or (at b W.slots) (at b v.locks).index 0 = slot_of k s.words b i below in_ring ∙ ap (λ (z : ℕ). get_or (at b W.slots) z 0) is_index in
       let told = finds_full _ _ _ _ _ _ id (at b v.locks) old (locks_here k s.views id v v here b) mine new (omega arith) in let q' : Qdisc = record q { full = one_more q.full } in
@@ -96,12 +96,12 @@ module _ (k : Setup) (s : Table) (r : Rule k s) (b i n x id : ℕ) (v w : View) 
       (subst (Beside v) (sym is) record { part = record { ends = refl; slot = refl; resizing = refl }; first = refl; phase = refl; purge = refl })
 
   -- the packet is stored in it, and joins the band
-  pub joins_move : w ≡ joining b n v → x ≡ n + 1 → (at b v.locks).room ≡ true → Leads 1 0 (machine_of q s.views) (machine_of r'.qdisc (set s.views id w))
+  pub joins_move : w ≡ store_slot_view b n v → x ≡ n + 1 → (at b v.locks).room ≡ true → Leads 1 0 (machine_of q s.views) (machine_of r'.qdisc (set s.views id w))
   joins_move is word room =
       let l : Lock = at b v.locks in let live' : is_live w ≡ true = ap is_live is ∙ live in let t = r.parts.station.stands in let q' : Qdisc = joined_band p q in
       let both = stores _ _ _ _ _ _ id l old (locks_here k s.views id v v here b) n mine new room in let few = both.1 in let c = count in let z = size_is in
       let fits : Fits q (seen_by v) Plain v.place.position v.place q' = subst (λ (y : Position). Fits q (seen_by v) Plain y v.place q') (sym at_) (join_fits q (seen_by v) p puts v.place shows (lt-ltb _ _ (omega arith))) in
-      let slots' : Three (List ℕ) = put b (set (at b W.slots) i (n + 1)) W.slots in let B' : ℕ → Band = with_at b (joined (B b) n) B in let w' : View = joining b n v in
+      let slots' : Three (List ℕ) = put b (set (at b W.slots) i (n + 1)) W.slots in let B' : ℕ → Band = with_at b (joined (B b) n) B in let w' : View = store_slot_view b n v in
       let slots_are : words_of k (set s.words (slot_word k b i) x) ≡ record W { slots = slots' } = ap (λ (y : ℕ). words_of k (set s.words (slot_word k b i) y)) word ∙ set_slot k s.words (n + 1) b i below in_ring in
       let stands : Stands k (record W { slots = slots' }) q' (account k r.state).down = record { state = t.state; lock = t.lock; xoff = t.xoff; inside = t.inside; bypass = t.bypass } in
       let words = same_as k (record W { slots = slots' }) r'.qdisc q' (account k r'.state).down (account k r.state).down (subst (λ (y : Words). Stands k y r'.qdisc (account k r'.state).down) slots_are r'.parts.station.stands) stands in

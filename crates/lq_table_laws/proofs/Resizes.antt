@@ -1,4 +1,4 @@
--- The steps of a resize: the machine takes it as one step at its beginning; what control does from there on at the slots is none.
+-- The steps of a resize: the machine takes it as one step at its begin_resize_view; what control does from there on at the slots is none.
 use Rattle.std.proofs.Common.{◌≡◌, ◌≢◌, ⊎_elim, ℕ, zero, suc, ◌+◌, ◌<◌, Bool, true, List, [], ◌∷◌, length, map, take, drop, set, get_or, refl, sym, ap, ap₂, ◌∙◌, subst, arith, Option, Some, None}
 use Rattle.std.specs.Prelude.{if◌then◌else◌, ◌-◌, is_none, slice_index}
 use mathlib.Core.Logic.{dite}
@@ -26,8 +26,8 @@ use Rattle.std.proofs.lemmas.List.{take-map}
 use Rattle.lq_band_laws.specs.Ring.{Lock}
 use Rattle.lq_band_laws.proofs.Three.{at_all, at_put_other, at_put_same}
 use Rattle.lq_band_laws.proofs.Lines.{word_at-past}
-use Rattle.lq_table.specs.Resizes.{beginning, restarted, resizing_of, settled_work, with_resizing, with_work}
-use Rattle.lq_table.specs.Settled.{shrinking}
+use Rattle.lq_table.specs.Resizes.{begin_resize_view, store_size_view, resizing_of, settled_work, with_resizing, with_work}
+use Rattle.lq_table.specs.Fates.{settle_view_shrunk}
 use Rattle.lq_table.specs.Places.{fates_offset, slot_word}
 use Rattle.lq_table.specs.Views.{FirstPart, HalfResize, HolderPart, Setup, View, Work, machine_packet, machine_packets}
 use Rattle.lq_table.specs.Rule.{Words, words_of, account, bands_now, bands_of, holders, is_live, locks_at, machine_of, Rings, Rule, Stands}
@@ -93,7 +93,7 @@ module _ (k : Setup) (s : Table) (r : Rule k s) (i x id : ℕ) (v w : View) (hom
   D = holders r.state (account k r.state) W.size
 
   -- it begins
-  pub resize_begins : (limit len event : ℕ) (held : ℕ → List ℕ) (slots : Three (List ℕ)) → w ≡ beginning (resizing_of len event held slots) v → x ≡ get_or s.words i 0 → v.place.position ≡ Control true → v.control.purge ≡ None → v.holder.resizing ≡ None
+  pub resize_begins : (limit len event : ℕ) (held : ℕ → List ℕ) (slots : Three (List ℕ)) → w ≡ begin_resize_view (resizing_of len event held slots) v → x ≡ get_or s.words i 0 → v.place.position ≡ Control true → v.control.purge ≡ None → v.holder.resizing ≡ None
       → ((b : ℕ) → b < 3 → IsBeforeResize v.holder.size limit (at b slots) (held b) (at b v.holder.ends)) → Leads 1 18 (machine_of q s.views) (machine_of r'.qdisc (set s.views id w))
   resize_begins limit len event held slots is word at_ calm no_resizing told =
       let t : HalfResize = resizing_of len event held slots in let holds : holds_lock v.place.position ≡ true = ap holds_lock at_ in let first = r.parts.machine.firsts.control id v here live (ap is_control at_) in
@@ -130,7 +130,7 @@ module _ (k : Setup) (s : Table) (r : Rule k s) (i x id : ℕ) (v w : View) (hom
       (ap (λ (c : FirstPart). c.first) control) (ap (λ (c : FirstPart). c.phase) control) (ap (λ (c : FirstPart). c.purge) control) refl refl)
 
   -- and the rings start again, with what each band keeps
-  pub resize_ends : (t : HalfResize) → w ≡ restarted t v → words_of k (set s.words i x) ≡ record W { size = t.len } → holds_lock v.place.position ≡ true → v.holder.resizing ≡ Some t
+  pub resize_ends : (t : HalfResize) → w ≡ store_size_view t v → words_of k (set s.words i x) ≡ record W { size = t.len } → holds_lock v.place.position ≡ true → v.holder.resizing ≡ Some t
       → ((b : ℕ) → b < 3 → IsRefilled (at b t.works).slots (at b t.works).kept t.len) → Leads 0 0 (machine_of q s.views) (machine_of r'.qdisc (set s.views id w))
   resize_ends t is words holds under_way refilled =
       let was = had k s r i x id v w homes r' here live live' holds in let is_now = has k s r i x id v w homes r' here live live' (ap (λ (u : View). holds_lock u.place.position) is ∙ holds) in let st = r.parts.station.stands in
@@ -181,7 +181,7 @@ module _ (k : Setup) (s : Table) (r : Rule k s) (b x id : ℕ) (v w : View) (hom
       (λ c within. kept_put b c y t.works below within keeps)
 
   -- the fate of a packet that it dropped is stored
-  pub fate_stays : (n event : ℕ) (r' : AfterAt (fates_offset k + n)) → n < length k.infos → y ≡ settled_work (at b t.works) → w ≡ shrinking b n event v → Leads 0 0 (machine_of r.qdisc s.views) (machine_of r'.qdisc (set s.views id w))
+  pub fate_stays : (n event : ℕ) (r' : AfterAt (fates_offset k + n)) → n < length k.infos → y ≡ settled_work (at b t.works) → w ≡ settle_view_shrunk b n event v → Leads 0 0 (machine_of r.qdisc s.views) (machine_of r'.qdisc (set s.views id w))
   fate_stays n event r' within settles is = let st = r.parts.station.stands in let WS : Words = words_of k s.words in
       let under : w.holder.resizing ≡ Some (with_work b y t) = ap (λ (u : View). u.holder.resizing) is ∙ (ap (option_map (λ (z : HalfResize). with_work b (settled_work (at b z.works)) z)) under_way ∙ ap (λ (z : Work). Some (with_work b z t)) (sym settles)) in
       resize_stays k s r (fates_offset k + n) x id v w homes r' here live live' same t (with_work b y t) (record WS { fates = set WS.fates n x }) (set_fate k s.words x n within)

@@ -23,12 +23,11 @@ use Rattle.lq_band_laws.proofs.Three.{at_put_other, at_put_same}
 use Rattle.lq_table.specs.Places.{slot_word}
 use Rattle.lq_table.specs.Views.{HalfResize, HolderPart, Setup, View, machine_packet, machine_packets}
 use Rattle.lq_table.specs.Rule.{Words, words_of, account, bands_now, bands_of, holders, is_live, locks_at, machine_of, Rings, Rule, Stands}
-use Rattle.lq_table.specs.Rings.{emptying, finding_none, taking}
-use Rattle.lq_table.specs.Told.{seen_band}
+use Rattle.lq_table.specs.Consumers.{zero_slot_view, head_slot_view_empty, head_slot_view, seen_band}
 use Rattle.lq_table.proofs.Accounts.{with_at_other, with_at_same}
 use Rattle.lq_table.proofs.ByName.{set_back, set_slot, slot_of}
 use Rattle.lq_table.proofs.Frames.{Fits, locks_here, rings_step}
-use Rattle.lq_table.proofs.HeadKept.{first_of}
+use Rattle.lq_table.proofs.HeadSlotKept.{first_of}
 use Rattle.lq_table.proofs.Ties.{band_set, band_tied, held_taken}
 use Rattle.lq_table_laws.specs.Stands.{Table}
 use Rattle.lq_table_laws.specs.Stepped.{Leads}
@@ -126,7 +125,7 @@ module _ (k : Setup) (s : Table) (r : Rule k s) (b i x id : ℕ) (v w : View) (h
   calm_now holds calm = sym (ap (λ (d : HolderPart). d.resizing) (is_known holds)) ∙ calm
 
   -- the band is found empty
-  pub finds_none_move : (second : Bool) → w ≡ finding_none b v → x ≡ n → n ≡ 0 → v.place.position ≡ Scan b second → v.holder.resizing ≡ None → is_emptying v.holder.size (at b v.holder.ends) ≡ false → i ≡ (at b v.holder.ends).head → Goal 1
+  pub finds_none_move : (second : Bool) → w ≡ head_slot_view_empty b v → x ≡ n → n ≡ 0 → v.place.position ≡ Scan b second → v.holder.resizing ≡ None → is_emptying v.holder.size (at b v.holder.ends) ≡ false → i ≡ (at b v.holder.ends).head → Goal 1
   finds_none_move second is word empty_ at_ no_resizing rests is_head =
       let holds : holds_lock v.place.position ≡ true = ap holds_lock at_ in
       let none = finds_none _ _ _ _ _ _ (ring_of (calm_now holds no_resizing)) (rests_now holds rests) (sym (head_word holds is_head) ∙ empty_) in
@@ -138,7 +137,7 @@ module _ (k : Setup) (s : Table) (r : Rule k s) (b i x id : ℕ) (v w : View) (h
       (subst (Beside v) (sym is) record { part = record { ends = refl; slot = refl; resizing = refl }; first = refl; phase = refl; purge = refl })
 
   -- a packet is taken
-  pub takes_move : (second : Bool) → w ≡ taking b (n - 1) v → x ≡ n → n ≢ 0 → v.place.position ≡ Scan b second → v.holder.resizing ≡ None → is_emptying v.holder.size (at b v.holder.ends) ≡ false → i ≡ (at b v.holder.ends).head → Goal 1
+  pub takes_move : (second : Bool) → w ≡ head_slot_view b (n - 1) v → x ≡ n → n ≢ 0 → v.place.position ≡ Scan b second → v.holder.resizing ≡ None → is_emptying v.holder.size (at b v.holder.ends) ≡ false → i ≡ (at b v.holder.ends).head → Goal 1
   takes_move second is word full at_ no_resizing rests is_head =
       let holds : holds_lock v.place.position ≡ true = ap holds_lock at_ in let calm = calm_now holds no_resizing in let c : Ends = at b r.state.ends in let live' : is_live w ≡ true = ap is_live is ∙ live in
       let head = head_word holds is_head in let both = takes _ _ _ _ _ _ (ring_of calm) (rests_now holds rests) (omega arith) in
@@ -167,7 +166,7 @@ module _ (k : Setup) (s : Table) (r : Rule k s) (b i x id : ℕ) (v w : View) (h
       (ap (λ (u : View). u.control.first) is) (ap (λ (u : View). u.control.phase) is) (ap (λ (u : View). u.control.purge) is) refl refl)
 
   -- a slot of a packet that was taken is emptied
-  pub empties_no_move : w ≡ emptying b v → x ≡ 0 → holds_lock v.place.position ≡ true → v.holder.resizing ≡ None → is_emptying v.holder.size (at b v.holder.ends) ≡ true → i + 1 ≡ (at b v.holder.ends).edge → Goal 0
+  pub empties_no_move : w ≡ zero_slot_view b v → x ≡ 0 → holds_lock v.place.position ≡ true → v.holder.resizing ≡ None → is_emptying v.holder.size (at b v.holder.ends) ≡ true → i + 1 ≡ (at b v.holder.ends).edge → Goal 0
   empties_no_move is word holds no_resizing busy is_edge =
       let known = is_known holds in let calm = calm_now holds no_resizing in let c : Ends = at b r.state.ends in let live' : is_live w ≡ true = ap is_live is ∙ live in
       let going : is_emptying W.size c ≡ true = subst (λ (d : HolderPart). is_emptying d.size (at b d.ends) ≡ true) known busy in

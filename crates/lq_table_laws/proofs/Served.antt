@@ -14,7 +14,7 @@ use Rattle.lq_account_laws.specs.Places.{InBand}
 use Rattle.lq_account_laws.proofs.Changes.{held-cases}
 use Rattle.std.specs.Option.{option_map}
 use Rattle.lq_table.specs.Rule.{words_of, account, event_word, bands_now, Ties, Rule}
-use Rattle.lq_table.specs.Told.{is_set}
+use Rattle.lq_table.specs.Moves.{is_set}
 use Rattle.lq_table.specs.Views.{Setup, Left, machine_packet}
 use Rattle.lq_table.proofs.Bits.{has_deactivated}
 use Rattle.lq_table.proofs.Ties.{holds_tied}

@@ -9,7 +9,7 @@ use Rattle.lq_run_core.specs.Progress.{Course, Goes}
 use Rattle.lq_run_core.specs.Waits.{AllOpen, IsWaiting, WaitsOpen, packets}
 use Rattle.lq_table.specs.Between.{StandsForMachine}
 use Rattle.lq_table.specs.Rule.{Words, machine_of, Rule}
-use Rattle.lq_table.specs.Told.{is_set}
+use Rattle.lq_table.specs.Moves.{is_set}
 use Rattle.lq_table.specs.Views.{Setup, View}
 
 -- a table between two steps: its words, the slot with the station, and what each seat knows

@@ -7,17 +7,22 @@ ghost use Rattle.lq_table.specs.Between.{StandsForMachine};
 ghost use Rattle.lq_table.specs.Rule.{Rule, account, words_of};
 ghost use Rattle.lq_table.specs.Places.{fates_offset, inside_place, lock_place, producer_place, size_place, slot_word, state_place, turn_place, xoff_word};
 ghost use Rattle.lq_band_laws.specs.Three.{Three, at};
-ghost use Rattle.lq_table.specs.Rings.{dropping, emptying, finding_none, joining, taking};
-ghost use Rattle.lq_table.specs.Settled.{MaySend, shrinking};
-ghost use Rattle.lq_table.specs.Controls.{MayDeactivate, beginning_control, closing, finding, opening, opening_next, resetting_draining, resetting_missed, returning, swapping};
-ghost use Rattle.lq_table.specs.Purges.{HasPassedBands, passing_band, purging, taking_purged};
-ghost use Rattle.lq_table.specs.Resizes.{beginning, clearing, filling, resizing_of, restarted};
+ghost use Rattle.lq_table.specs.Producers.{producer_slot_view_full, store_slot_view};
+ghost use Rattle.lq_table.specs.Consumers.{zero_slot_view, head_slot_view_empty, head_slot_view};
+ghost use Rattle.lq_table.specs.Fates.{MaySend, settle_view_shrunk, settle_view_sent};
+ghost use Rattle.lq_table.specs.Controls.{MayDeactivate, begin_control_view, set_deactivated_view, clear_deactivated_view, open_xoff_view, end_control_view, swap_view};
+ghost use Rattle.lq_table.specs.Inside.{load_inside_view, MayEnter, bringing_packet, call_of, enter_view};
+ghost use Rattle.lq_table.specs.Purges.{reset_draining_view, reset_missed_view, HasPassedBands, purge_slot_view_empty, begin_purge_view, purge_slot_view};
+ghost use Rattle.lq_table.specs.Resizes.{begin_resize_view, clear_slot_view, fill_slot_view, resizing_of, store_size_view};
 ghost use Rattle.lq_band_laws.specs.HalfResized.{IsRefilled};
 ghost use Rattle.lq_model.specs.Band.{Band};
 ghost use Rattle.lq_model.specs.Machine.{Purge};
 ghost use Rattle.lq_model.specs.declared.fate.Cause.{Cause};
 ghost use Rattle.lq_model.specs.declared.machine.Phase.TheVariants.{Purged};
-ghost use Rattle.lq_table.specs.Told.{MayEnter, bringing_packet, call_of, clears_draining, clears_missed, clears_sched, entering, finding_locked, going, got_in_call, got_in_control, is_set, loading, looking, misses, missing, passing, refusing, requeuing, schedules, scheduling, sets_draining, sets_missed, setting, settling, stop_value, storing, unlocking_call, unlocking_control, waking};
+ghost use Rattle.lq_table.specs.States.{clear_draining_at, clear_missed_at, clear_sched_at, recheck_view_direct, load_state_view, miss_at, miss_view, check_view_refused, requeue_view, set_sched_at, set_sched_view, set_draining_at, set_missed_at, set_bit_view};
+ghost use Rattle.lq_table.specs.Locks.{look_lock_view, try_lock_view_in_call, try_lock_view_in_control, unlock_view_in_call, unlock_view_in_control};
+ghost use Rattle.lq_table.specs.Moves.{is_set, pass_view};
+ghost use Rattle.lq_table.specs.Stops.{load_xoff_view, stop_value, store_xoff_view, wake_view};
 ghost use Rattle.lq_table.specs.Views.{HalfResize, HolderPart, Left, Setup};
 ghost use Rattle.lq_device.specs.Station.{StationState};
 ghost use Rattle.lq_model.specs.Plan.{queue_in};
@@ -62,37 +67,37 @@ pub fn looks_are_no_moves()
 /// finds MISSED set. A load may refuse the packet, or let it go past the bands, and a set by a holder with a packet in hand lays that back.
 pub fn steps_at_the_state_are_moves()
     ensures load { (k : Setup) (t : Stepped k state_place) → KeepsStation t → KeepsWord t → looks_in_call (stands_at t) ≡ true
-        → t.after ≡ looking (found t) t.before → IsMove t }
+        → t.after ≡ load_state_view (found t) t.before → IsMove t }
     ensures refuse { (k : Setup) (t : Stepped k state_place) (n event : ℕ) → KeepsStation t → KeepsWord t → looks_in_call (stands_at t) ≡ true
-        → t.after ≡ refusing n event (found t) t.before → IsMove t }
+        → t.after ≡ check_view_refused n event (found t) t.before → IsMove t }
     ensures direct { (k : Setup) (t : Stepped k state_place) (n : ℕ) → KeepsStation t → KeepsWord t → looks_in_call (stands_at t) ≡ true
-        → t.after ≡ going n (found t) t.before → IsMove t }
-    ensures miss { (k : Setup) (t : Stepped k state_place) → KeepsStation t → t.stored ≡ bit_or (found t) 4 → misses (stands_at t) ≡ true
-        → t.after ≡ missing (is_set 4 (found t)) t.before → IsMove t }
-    ensures look_missed { (k : Setup) (t : Stepped k state_place) → KeepsStation t → KeepsWord t → misses (stands_at t) ≡ true → is_set 4 (found t) ≡ true
-        → t.after ≡ missing true t.before → IsMove t }
-    ensures set_sched { (k : Setup) (t : Stepped k state_place) → KeepsStation t → t.stored ≡ bit_or (found t) 1 → schedules (stands_at t) ≡ true
-        → t.after ≡ scheduling (is_set 1 (found t)) t.before → IsMove t }
+        → t.after ≡ recheck_view_direct n (found t) t.before → IsMove t }
+    ensures miss { (k : Setup) (t : Stepped k state_place) → KeepsStation t → t.stored ≡ bit_or (found t) 4 → miss_at (stands_at t) ≡ true
+        → t.after ≡ miss_view (is_set 4 (found t)) t.before → IsMove t }
+    ensures look_missed { (k : Setup) (t : Stepped k state_place) → KeepsStation t → KeepsWord t → miss_at (stands_at t) ≡ true → is_set 4 (found t) ≡ true
+        → t.after ≡ miss_view true t.before → IsMove t }
+    ensures set_sched { (k : Setup) (t : Stepped k state_place) → KeepsStation t → t.stored ≡ bit_or (found t) 1 → set_sched_at (stands_at t) ≡ true
+        → t.after ≡ set_sched_view (is_set 1 (found t)) t.before → IsMove t }
     ensures clear_sched { (k : Setup) (t : Stepped k state_place) → KeepsStation t → found t < 18446744073709551616
-        → t.stored ≡ bit_and (found t) 18446744073709551614 → clears_sched (stands_at t) ≡ true → t.after ≡ passing t.before → IsMove t }
+        → t.stored ≡ bit_and (found t) 18446744073709551614 → clear_sched_at (stands_at t) ≡ true → t.after ≡ pass_view t.before → IsMove t }
     ensures clear_missed { (k : Setup) (t : Stepped k state_place) → KeepsStation t → found t < 18446744073709551616
-        → t.stored ≡ bit_and (found t) 18446744073709551611 → clears_missed (stands_at t) ≡ true → t.after ≡ passing t.before → IsMove t }
+        → t.stored ≡ bit_and (found t) 18446744073709551611 → clear_missed_at (stands_at t) ≡ true → t.after ≡ pass_view t.before → IsMove t }
     ensures clear_draining { (k : Setup) (t : Stepped k state_place) → KeepsStation t → found t < 18446744073709551616
-        → t.stored ≡ bit_and (found t) 18446744073709551607 → clears_draining (stands_at t) ≡ true → t.after ≡ passing t.before → IsMove t }
-    ensures set_missed { (k : Setup) (t : Stepped k state_place) → KeepsStation t → t.stored ≡ bit_or (found t) 4 → sets_missed (stands_at t) ≡ true
-        → t.after ≡ setting t.before → IsMove t }
-    ensures set_draining { (k : Setup) (t : Stepped k state_place) → KeepsStation t → t.stored ≡ bit_or (found t) 8 → sets_draining (stands_at t) ≡ true
-        → t.after ≡ setting t.before → IsMove t }
+        → t.stored ≡ bit_and (found t) 18446744073709551607 → clear_draining_at (stands_at t) ≡ true → t.after ≡ pass_view t.before → IsMove t }
+    ensures set_missed { (k : Setup) (t : Stepped k state_place) → KeepsStation t → t.stored ≡ bit_or (found t) 4 → set_missed_at (stands_at t) ≡ true
+        → t.after ≡ set_bit_view t.before → IsMove t }
+    ensures set_draining { (k : Setup) (t : Stepped k state_place) → KeepsStation t → t.stored ≡ bit_or (found t) 8 → set_draining_at (stands_at t) ≡ true
+        → t.after ≡ set_bit_view t.before → IsMove t }
 {}
 
 /// The steps of a call at the run lock: each try and each release is one move of the machine that costs nothing; so is a look that finds the lock held.
 /// Who gets it takes the station out of the table's slot, and who releases it lays it back.
 pub fn steps_at_the_run_lock_are_moves()
     ensures held { (k : Setup) (t : Stepped k lock_place) → KeepsStation t → KeepsWord t → tries_in_call (stands_at t) ≡ true → found t ≢ 0
-        → t.after ≡ finding_locked t.before → IsMove t }
+        → t.after ≡ look_lock_view t.before → IsMove t }
     ensures got { (k : Setup) (t : Stepped k lock_place) (d : HolderPart) → TakesStation d t → found t ≡ 0 → t.stored ≡ 1 → tries_in_call (stands_at t) ≡ true
-        → t.after ≡ got_in_call d t.before → IsMove t }
-    ensures release { (k : Setup) (t : Stepped k lock_place) → GivesStation t → t.stored ≡ 0 → stands_at t ≡ Unlock → t.after ≡ unlocking_call t.before → IsMove t }
+        → t.after ≡ try_lock_view_in_call d t.before → IsMove t }
+    ensures release { (k : Setup) (t : Stepped k lock_place) → GivesStation t → t.stored ≡ 0 → stands_at t ≡ Unlock → t.after ≡ unlock_view_in_call t.before → IsMove t }
 {}
 
 /// The steps at the stop words and at the device: a load in a call and a store of a stop word are one move of the machine, and so is the store of a fate
@@ -100,95 +105,95 @@ pub fn steps_at_the_run_lock_are_moves()
 /// finds its queue stopped is two, of which the first costs 18; one that finds it otherwise is none.
 pub fn steps_at_the_device_are_moves()
     ensures gate { (k : Setup) (p : Packet) (direct : Bool) (t : Stepped k (xoff_word k p.queue)) → KeepsStation t → KeepsWord t → stands_at t ≡ Gate p direct
-        → t.after ≡ loading (found t) t.before → IsMove t }
+        → t.after ≡ load_xoff_view (found t) t.before → IsMove t }
     ensures blocked { (k : Setup) (b : Blocked) (t : Stepped k (xoff_word k (queue_of_blocked b))) → KeepsStation t → KeepsWord t → stands_at t ≡ BlockedLoad b
-        → t.after ≡ loading (found t) t.before → IsMove t }
+        → t.after ≡ load_xoff_view (found t) t.before → IsMove t }
     ensures dequeue_bands { (k : Setup) (t : Stepped k (xoff_word k 0)) → KeepsStation t → KeepsWord t → stands_at t ≡ Deq → t.before.holder.slot ≡ None
-        → t.after ≡ loading (found t) t.before → IsMove t }
+        → t.after ≡ load_xoff_view (found t) t.before → IsMove t }
     ensures dequeue_slot { (k : Setup) (n : ℕ) (t : Stepped k (xoff_word k (queue_in k.infos n))) → KeepsStation t → KeepsWord t → stands_at t ≡ Deq
-        → t.before.holder.slot ≡ Some n → t.after ≡ loading (found t) t.before → IsMove t }
+        → t.before.holder.slot ≡ Some n → t.after ≡ load_xoff_view (found t) t.before → IsMove t }
     ensures store { (k : Setup) (queue : ℕ) (hung direct : Bool) (t : Stepped k (xoff_word k queue)) → queue < k.queues → KeepsStation t
-        → t.stored ≡ stop_value hung → stands_at t ≡ StoreXoff queue hung direct → t.after ≡ storing t.before → IsMove t }
+        → t.stored ≡ stop_value hung → stands_at t ≡ StoreXoff queue hung direct → t.after ≡ store_xoff_view t.before → IsMove t }
     ensures send { (k : Setup) (n : ℕ) (f : Fate) (st : StationState) (t : Stepped k (fates_offset k + n)) → n < length k.infos → KeepsStation t
-        → MaySend n f st t.before → t.after ≡ settling st t.before → IsMove t }
+        → MaySend n f st t.before → t.after ≡ settle_view_sent st t.before → IsMove t }
     ensures requeue { (k : Setup) (st : StationState) (p : Packet) (direct : Bool) (t : Stepped k state_place) → KeepsStation t → t.stored ≡ bit_or (found t) 4
-        → stands_at t ≡ Xmit p direct → t.after ≡ requeuing st t.before → AreMoves 2 19 t }
+        → stands_at t ≡ Xmit p direct → t.after ≡ requeue_view st t.before → AreMoves 2 19 t }
     ensures wake { (k : Setup) (queue : ℕ) (t : Stepped k (xoff_word k queue)) → queue < k.queues → KeepsStation t → found t ≡ 1 → t.stored ≡ 0 → stands_at t ≡ Idle
-        → t.after ≡ waking queue t.before → AreMoves 2 18 t }
+        → t.after ≡ wake_view queue t.before → AreMoves 2 18 t }
 {}
 
 /// The steps at the slots of the rings: a packet that joins its band, one that finds no room, one that is taken, and a band that is found empty are one move
 /// of the machine that costs nothing. A slot that is emptied after a take is none.
 pub fn steps_at_the_rings_are_moves()
     ensures put { (k : Setup) (band i n : ℕ) (t : Stepped k (slot_word k band i)) → KeepsStation t → IsPuttingAt k band i n t.before
-        → (at band t.before.locks).room ≡ true → t.stored ≡ n + 1 → t.after ≡ joining band n t.before → IsMove t }
+        → (at band t.before.locks).room ≡ true → t.stored ≡ n + 1 → t.after ≡ store_slot_view band n t.before → IsMove t }
     ensures full { (k : Setup) (band i n : ℕ) (t : Stepped k (slot_word k band i)) → KeepsStation t → IsPuttingAt k band i n t.before → KeepsWord t
-        → found t ≢ 0 → t.after ≡ dropping n (found t - 1) t.before → IsMove t }
+        → found t ≢ 0 → t.after ≡ producer_slot_view_full n (found t - 1) t.before → IsMove t }
     ensures take { (k : Setup) (band i : ℕ) (t : Stepped k (slot_word k band i)) → KeepsStation t → IsLookingAt k band i t.before → KeepsWord t
-        → found t ≢ 0 → t.after ≡ taking band (found t - 1) t.before → IsMove t }
+        → found t ≢ 0 → t.after ≡ head_slot_view band (found t - 1) t.before → IsMove t }
     ensures none { (k : Setup) (band i : ℕ) (t : Stepped k (slot_word k band i)) → KeepsStation t → IsLookingAt k band i t.before → KeepsWord t
-        → found t ≡ 0 → t.after ≡ finding_none band t.before → IsMove t }
+        → found t ≡ 0 → t.after ≡ head_slot_view_empty band t.before → IsMove t }
     ensures zero { (k : Setup) (band i : ℕ) (t : Stepped k (slot_word k band i)) → KeepsStation t → IsEmptyingAt k band i t.before → t.stored ≡ 0
-        → t.after ≡ emptying band t.before → IsNoMove t }
+        → t.after ≡ zero_slot_view band t.before → IsNoMove t }
 {}
 
 /// The steps at the count of calls inside: a call that ends is one move of the machine that costs nothing. A call that begins is two, of which the first is
 /// the start of a transmit, which costs 36, or of a soft interrupt, which costs nothing.
 pub fn steps_at_the_calls_inside_are_moves()
-    ensures leave { (k : Setup) (t : Stepped k inside_place) → KeepsStation t → stands_at t ≡ Leave → t.after ≡ passing t.before → IsMove t }
-    ensures enter { (k : Setup) (t : Stepped k inside_place) → KeepsStation t → stands_at t ≡ Idle → MayEnter t.before → t.after ≡ entering t.before
+    ensures leave { (k : Setup) (t : Stepped k inside_place) → KeepsStation t → stands_at t ≡ Leave → t.after ≡ pass_view t.before → IsMove t }
+    ensures enter { (k : Setup) (t : Stepped k inside_place) → KeepsStation t → stands_at t ≡ Idle → MayEnter t.before → t.after ≡ enter_view t.before
         → AreMoves 2 (start_cost (call_of (bringing_packet t.before))) t }
     ensures enter_returning { (k : Setup) (t : Stepped k inside_place) → KeepsStation t → stands_at t ≡ Control false → MayEnter t.before
-        → t.after ≡ entering t.before → AreMoves 3 (18 + start_cost (call_of (bringing_packet t.before))) t }
+        → t.after ≡ enter_view t.before → AreMoves 3 (18 + start_cost (call_of (bringing_packet t.before))) t }
 {}
 
 /// The steps of control: the start of a call of it costs 1, and each other step 18, which is one move of the machine. A set of DEACTIVATED by a seat in no call
 /// is both.
 pub fn steps_of_control_are_moves()
     ensures begin_control { (k : Setup) (place : ℕ) (t : Stepped k place) → KeepsStation t → KeepsWord t → stands_at t ≡ Idle
-        → t.after ≡ beginning_control t.before → AreMoves 1 1 t }
+        → t.after ≡ begin_control_view t.before → AreMoves 1 1 t }
     ensures end_control { (k : Setup) (place : ℕ) (t : Stepped k place) → KeepsStation t → KeepsWord t → stands_at t ≡ Control false
-        → t.after ≡ returning t.before → IsMoveOfControl t }
+        → t.after ≡ end_control_view t.before → IsMoveOfControl t }
     ensures got { (k : Setup) (t : Stepped k lock_place) (d : HolderPart) → TakesStation d t → found t ≡ 0 → t.stored ≡ 1 → stands_at t ≡ Control false
-        → t.after ≡ got_in_control d t.before → IsMoveOfControl t }
+        → t.after ≡ try_lock_view_in_control d t.before → IsMoveOfControl t }
     ensures release { (k : Setup) (t : Stepped k lock_place) → GivesStation t → t.stored ≡ 0 → stands_at t ≡ Control true → t.before.control.purge ≡ None
-        → t.after ≡ unlocking_control t.before → IsMoveOfControl t }
+        → t.after ≡ unlock_view_in_control t.before → IsMoveOfControl t }
     ensures set_deactivated { (k : Setup) (event : ℕ) (t : Stepped k state_place) → KeepsStation t → t.stored ≡ bit_or (found t) (2 + 256 * (event + 1))
-        → stands_at t ≡ Control false → MayDeactivate t.before → t.after ≡ closing event t.before → IsMoveOfControl t }
+        → stands_at t ≡ Control false → MayDeactivate t.before → t.after ≡ set_deactivated_view event t.before → IsMoveOfControl t }
     ensures set_deactivated_idle { (k : Setup) (event : ℕ) (t : Stepped k state_place) → KeepsStation t
-        → t.stored ≡ bit_or (found t) (2 + 256 * (event + 1)) → stands_at t ≡ Idle → MayDeactivate t.before → t.after ≡ closing event t.before → AreMoves 2 19 t }
+        → t.stored ≡ bit_or (found t) (2 + 256 * (event + 1)) → stands_at t ≡ Idle → MayDeactivate t.before → t.after ≡ set_deactivated_view event t.before → AreMoves 2 19 t }
     ensures load_inside { (k : Setup) (holds : Bool) (t : Stepped k inside_place) → KeepsStation t → KeepsWord t → stands_at t ≡ Control holds
-        → t.after ≡ finding (found t) t.before → IsMoveOfControl t }
+        → t.after ≡ load_inside_view (found t) t.before → IsMoveOfControl t }
     ensures clear_deactivated { (k : Setup) (t : Stepped k state_place) → KeepsStation t → t.stored ≡ bit_and (found t) 13 → stands_at t ≡ Control false
-        → t.before.control.phase ≡ Purged → t.before.control.purge ≡ None → t.after ≡ opening t.before → IsMoveOfControl t }
+        → t.before.control.phase ≡ Purged → t.before.control.purge ≡ None → t.after ≡ clear_deactivated_view t.before → IsMoveOfControl t }
     ensures reset_missed { (k : Setup) (t : Stepped k state_place) → KeepsStation t → found t < 18446744073709551616
-        → t.stored ≡ bit_and (found t) 18446744073709551611 → stands_at t ≡ Control true → HasPassedBands t.before → t.after ≡ resetting_missed t.before → IsMoveOfControl t }
+        → t.stored ≡ bit_and (found t) 18446744073709551611 → stands_at t ≡ Control true → HasPassedBands t.before → t.after ≡ reset_missed_view t.before → IsMoveOfControl t }
     ensures reset_draining { (k : Setup) (t : Stepped k state_place) → KeepsStation t → found t < 18446744073709551616
-        → t.stored ≡ bit_and (found t) 18446744073709551607 → stands_at t ≡ Control true → HasPassedBands t.before → t.after ≡ resetting_draining t.before → IsMoveOfControl t }
+        → t.stored ≡ bit_and (found t) 18446744073709551607 → stands_at t ≡ Control true → HasPassedBands t.before → t.after ≡ reset_draining_view t.before → IsMoveOfControl t }
     ensures begin_purge { (k : Setup) (c : Cause) (bands : Three Band) (t : Stepped k state_place) → KeepsStation t → KeepsWord t → IsAtPurge t.before
-        → t.after ≡ purging c bands t.before → IsMoveOfControl t }
+        → t.after ≡ begin_purge_view c bands t.before → IsMoveOfControl t }
     ensures purge_none { (k : Setup) (band i : ℕ) (u : Purge) (t : Stepped k (slot_word k band i)) → KeepsStation t → KeepsWord t
-        → IsPurgingAt k band i u t.before → found t ≡ 0 → t.after ≡ passing_band u t.before → IsMoveOfControl t }
+        → IsPurgingAt k band i u t.before → found t ≡ 0 → t.after ≡ purge_slot_view_empty u t.before → IsMoveOfControl t }
     ensures purge_take { (k : Setup) (band i : ℕ) (u : Purge) (l : Left) (t : Stepped k (slot_word k band i)) → KeepsStation t → KeepsWord t
-        → IsPurgingAt k band i u t.before → found t ≢ 0 → t.after ≡ taking_purged band (found t - 1) l t.before → IsMoveOfControl t }
+        → IsPurgingAt k band i u t.before → found t ≢ 0 → t.after ≡ purge_slot_view band (found t - 1) l t.before → IsMoveOfControl t }
     ensures swap { (k : Setup) (st : StationState) (t : Stepped k (xoff_word k 0)) → KeepsStation t → 0 < k.queues → t.stored ≡ 0 → IsAtSwap t.before
-        → t.after ≡ swapping st t.before → IsMoveOfControl t }
+        → t.after ≡ swap_view st t.before → IsMoveOfControl t }
     ensures open_next { (k : Setup) (queue : ℕ) (t : Stepped k (xoff_word k queue)) → KeepsStation t → queue < k.queues → t.stored ≡ 0 → IsAtSwap t.before
-        → t.after ≡ opening_next queue t.before → IsMoveOfControl t }
+        → t.after ≡ open_xoff_view queue t.before → IsMoveOfControl t }
     ensures begin_resize { (k : Setup) (limit len event : ℕ) (held : ℕ → List ℕ) (slots : Three (List ℕ)) (t : Stepped k size_place) → KeepsStation t → KeepsWord t
-        → BeginsResizeOf limit held slots t.before → t.after ≡ beginning (resizing_of len event held slots) t.before → IsMoveOfControl t }
+        → BeginsResizeOf limit held slots t.before → t.after ≡ begin_resize_view (resizing_of len event held slots) t.before → IsMoveOfControl t }
 {}
 
 /// A resize is one move, at its beginning: what control does from there on, at the slots, at the fates of what was dropped and at the size, is none.
 pub fn work_of_a_resize_is_no_move()
     ensures clear { (k : Setup) (band i : ℕ) (r : HalfResize) (t : Stepped k (slot_word k band i)) → band < 3 → i < k.max_len → KeepsStation t
-        → IsInResize r t.before → t.after ≡ clearing band i r t.before → IsNoMove t }
+        → IsInResize r t.before → t.after ≡ clear_slot_view band i r t.before → IsNoMove t }
     ensures fill { (k : Setup) (band i n : ℕ) (hand : List ℕ) (r : HalfResize) (t : Stepped k (slot_word k band i)) → band < 3 → i < k.max_len → KeepsStation t
-        → IsInResize r t.before → t.after ≡ filling band i n hand r t.before → IsNoMove t }
+        → IsInResize r t.before → t.after ≡ fill_slot_view band i n hand r t.before → IsNoMove t }
     ensures shrink { (k : Setup) (band n event : ℕ) (r : HalfResize) (t : Stepped k (fates_offset k + n)) → band < 3 → n < length k.infos → KeepsStation t
-        → IsInResize r t.before → t.after ≡ shrinking band n event t.before → IsNoMove t }
+        → IsInResize r t.before → t.after ≡ settle_view_shrunk band n event t.before → IsNoMove t }
     ensures store_size { (k : Setup) (r : HalfResize) (t : Stepped k size_place) → KeepsStation t → t.stored ≡ r.len → IsInResize r t.before
-        → ((b : ℕ) → b < 3 → IsRefilled (at b r.works).slots (at b r.works).kept r.len) → t.after ≡ restarted r t.before → IsNoMove t }
+        → ((b : ℕ) → b < 3 → IsRefilled (at b r.works).slots (at b r.works).kept r.len) → t.after ≡ store_size_view r t.before → IsNoMove t }
 {}
 
 /// So each of these steps that is one move or more makes the number of the machine less by one for each, but for what they cost, while a packet is

@@ -7,7 +7,8 @@ use Rattle.lq_model.specs.declared.machine.Phase.TheVariants.{Active}
 use Rattle.lq_model.specs.declared.machine.Position.TheVariants.{Idle}
 use Rattle.lq_model.specs.Machine.{Qdisc}
 use Rattle.lq_table.specs.Views.{FirstPart, SharePart, View, State}
-use Rattle.lq_table.specs.Told.{at_rest, told, together}
+use Rattle.lq_table.specs.Moves.{at_rest}
+use Rattle.lq_table.specs.Seats.{learn_view, join_view}
 use Rattle.lq_table.specs.Rule.{units_of, station_count}
 use Rattle.lq_model.specs.declared.fate.Info.{Info}
 use Rattle.std.proofs.lemmas.List.Sums.{count_by-le-length}
@@ -35,7 +36,7 @@ pub idle_done : {D : Type 0} (t : Shared D) (c : Cpu D) → IsDone t c → IsIdl
 idle_done t c d = let r = d.between.ready in (ap at_rest d.between.at, d.not_raised, r.1, r.2, r.0.0)
 
 -- a join leaves the first seat as it was
-pub first_joined : {D : Type 0} (p : Phase) (us : List ℕ) (t : Shared D) (b a o : Cpu D) (q : Qdisc) (g : State) → IsFirst p us t b → IsSeatOf t a → IsElseSame b a → view a ≡ told q g (together (view b) (view o)) → IsFirst p us t a
+pub first_joined : {D : Type 0} (p : Phase) (us : List ℕ) (t : Shared D) (b a o : Cpu D) (q : Qdisc) (g : State) → IsFirst p us t b → IsSeatOf t a → IsElseSame b a → view a ≡ learn_view q g (join_view (view b) (view o)) → IsFirst p us t a
 first_joined p us t b a o q g f seat same e = let r = f.between.ready in let control : (view a).control ≡ (view b).control = ap (λ (v : View). v.control) e ∙ ap (λ (x : Bool). if x then (view b).control else (view o).control) f.first in record {
   between = record {
     seat = seat;

@@ -4,7 +4,7 @@ ghost use Rattle.std.specs.Thread.{IsSync};
 ghost use Rattle.lq_model.specs.declared.machine.Phase.TheVariants.{Active};
 ghost use Rattle.lq_table.specs.Rule.{times};
 ghost use Rattle.lq_table.specs.Sees.{view};
-ghost use Rattle.lq_table.specs.Told.{keeping};
+ghost use Rattle.lq_table.specs.Seats.{split_view};
 ghost use Rattle.lq_test_table.specs.Recorder.{IsFreshWithRoom};
 ghost use Rattle.lq_test_table.specs.Seats.{IsDone, IsFirst, IsFirstAfterSwaps, IsSender};
 
@@ -276,7 +276,7 @@ fn split_sender<'a, D: TxDevice>(
     requires first { IsFirst Active [] shared.now first.old }
     requires owner { (2 ≤ (view first.old).share.shares) × (0 < times owner (view first.old).share.owners) × (0 < owner) }
     ensures first { IsFirst Active [] shared.now first.new }
-    ensures left { view first.new ≡ keeping owner (view first.old) }
+    ensures left { view first.new ≡ split_view owner (view first.old) }
     ensures sender { IsSender shared.now result.owner result.cpu }
 {
     let cpu = shared.split(first, owner);

@@ -1,12 +1,12 @@
 use Rattle.std.proofs.Common.{rules, ◌≡◌, ℕ, Bool, true, false, not, List, ◌∷◌, Option, Some, inr, refl, sym, ap, ◌∙◌, subst}
 use Rattle.std.proofs.lemmas.Bool.{false≢true}
 use Rattle.lq_device.specs.Station.{StationState}
-use Rattle.lq_table.specs.Rule.{units_of}
-use Rattle.lq_table.specs.Made.{Made, ◌⊳◌, did_try_lock}
-use Rattle.lq_table.specs.Rule.{shown}
+use Rattle.lq_table.specs.Rule.{units_of, shown}
+use Rattle.lq_table.specs.Made.{Made, ◌⊳◌}
+use Rattle.lq_table.specs.Locks.{try_lock_log, SeesTry, look_lock_view, try_lock_view}
 use Rattle.lq_table.specs.Sees.{view}
-use Rattle.lq_table.specs.Solo.{IsSole, SeesTry}
-use Rattle.lq_table.specs.Told.{IsKnownSlot, finding_locked, got}
+use Rattle.lq_table.specs.Solo.{IsSole}
+use Rattle.lq_table.specs.Moves.{IsKnownSlot}
 use Rattle.lq_table.specs.Views.{HolderPart, View}
 use Rattle.lq_run.specs.Tries.{TriedAs}
 use Rattle.lq_run.proofs.try_run_lock.Goals as goal
@@ -21,7 +21,7 @@ returns-then-look_lock g c = record {
   tries = search rules;
 }
 
-tried_as : (answer : Bool) (v w : View) → (answer ≡ true → (d : HolderPart) × (w ≡ got d v)) → (answer ≡ false → w ≡ finding_locked v) → TriedAs answer v w
+tried_as : (answer : Bool) (v w : View) → (answer ≡ true → (d : HolderPart) × (w ≡ try_lock_view d v)) → (answer ≡ false → w ≡ look_lock_view v) → TriedAs answer v w
 tried_as true v w gets misses = gets refl
 tried_as false v w gets misses = misses refl
 
@@ -31,7 +31,7 @@ returns g c = record {
   got = λ yes.
       let l = c.look_lock.ensures in let e = (l.free c.if-look_lock.false).0 in let x = c.try_lock.ensures.got yes in (
         x.0,
-        x.1 ∙ ap (got x.0) e,
+        x.1 ∙ ap (try_lock_view x.0) e,
         x.2 ∙ ap (λ (s : List (ℕ × Option StationState)). (0, Some (shown x.0)) ∷ s) l.same.3,
         x.3,
         x.4,
@@ -45,7 +45,7 @@ returns g c = record {
   sole = subst (λ (v : View). IsSole v → SeesTry c.try_lock.result v (view c.try_lock.new.cpu)) (c.look_lock.ensures.free c.if-look_lock.false).0 c.try_lock.ensures.sole;
   tries =
       let free = c.look_lock.ensures.free c.if-look_lock.false in let t = c.try_lock.ensures in let answer = c.try_lock.result in (
-        tried_as answer (view c.args.cpu.now) (view c.try_lock.new.cpu) (λ yes. (let x = t.got yes in (x.0, x.1 ∙ ap (got x.0) free.0))) (λ without. (t.held without).0 ∙ ap finding_locked free.0),
-        inr (t.made ∙ ap (λ (steps : List Made). steps ⊳ did_try_lock answer) free.1),
+        tried_as answer (view c.args.cpu.now) (view c.try_lock.new.cpu) (λ yes. (let x = t.got yes in (x.0, x.1 ∙ ap (try_lock_view x.0) free.0))) (λ without. (t.held without).0 ∙ ap look_lock_view free.0),
+        inr (t.made ∙ ap (λ (steps : List Made). steps ⊳ try_lock_log answer) free.1),
       );
 }

@@ -3,7 +3,7 @@ use Rattle.std.specs.Prelude.{not, bit_and}
 use Rattle.std.proofs.lemmas.Bool.{eq-eqb}
 use Rattle.lq_table.specs.Sees.{view, known, setup}
 use Rattle.lq_table.specs.Solo.{IsSole, account_of}
-use Rattle.lq_table.specs.Told.{is_set}
+use Rattle.lq_table.specs.Moves.{is_set}
 use Rattle.lq_table.specs.Views.{View, Setup}
 use Rattle.lq_table.specs.Made.{Known}
 use Rattle.lq_control.specs.declared.finishes.Seen.{Seen}

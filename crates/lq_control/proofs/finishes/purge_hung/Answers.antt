@@ -8,7 +8,7 @@ use Rattle.lq_model.specs.declared.fate.Cause.TheVariants as cause
 use Rattle.lq_model.specs.declared.fate.Fate.TheVariants as fate
 use Rattle.lq_table.specs.Views.{View, Setup, PacketPart, HolderPart, FirstPart, Left}
 use Rattle.lq_table.specs.Rule.{shown, IsResting}
-use Rattle.lq_table.specs.Purges.{purging, HoldsAtMost, HoldPackets}
+use Rattle.lq_table.specs.Purges.{begin_purge_view, HoldsAtMost, HoldPackets}
 use Rattle.lq_table.specs.Sees.{view, known, setup, IsSameSeat}
 use Rattle.lq_table.specs.Made.{Known}
 use Rattle.lq_control.specs.Steps.{PurgesHeld, with_purge_begun}
@@ -16,7 +16,7 @@ use Rattle.lq_control.proofs.StepLemmas.{both}
 use Rattle.lq_table.specs.Solo.{IsAccounts, account_of, locked_to, solo}
 use Rattle.lq_ring.proofs.Seats.{seat_on}
 use Rattle.lq_ring.specs.Fates.{fates_onto}
-use Rattle.lq_table.specs.Told.{got_in_control}
+use Rattle.lq_table.specs.Locks.{try_lock_view_in_control}
 use Rattle.lq_control.specs.Control.{IsPurgeDone, IsPurged, all_purged}
 use Rattle.lq_control.specs.Ending.{purged_as_hung}
 use Rattle.lq_control.specs.Finish.{IsLook, PurgesHung}
@@ -45,20 +45,20 @@ module _ (g : given.Over) (c : goal.After-purge_held-arg-1 g) where
   abbrev got_from : View → View
   got_from v =
       let qdisc = record v.whole.qdisc { phase = look.0 } in
-      got_in_control c.take_lock.ensures.got.0 (record v { whole = record v.whole { qdisc = qdisc } })
+      try_lock_view_in_control c.take_lock.ensures.got.0 (record v { whole = record v.whole { qdisc = qdisc } })
 
   got : v2 ≡ got_from v0
-  got = c.take_lock.ensures.got.1 ∙ ap (got_in_control c.take_lock.ensures.got.0) look.1
+  got = c.take_lock.ensures.got.1 ∙ ap (try_lock_view_in_control c.take_lock.ensures.got.0) look.1
 
   of_unit : v2.holder.station.unit ≡ c.unit-unit.result
   of_unit =
       let same = same_Some _ _ (sym c.in-Some.is ∙ c.take_lock.ensures.station.1) in
       sym (c.unit-unit.ensures ∙ ap (λ (s : StationState). s.unit) same)
 
-  begun : view c.begin_hung_purge.new.cpu ≡ purging by c.begin_hung_purge.ensures.begun.0 v2
+  begun : view c.begin_hung_purge.new.cpu ≡ begin_purge_view by c.begin_hung_purge.ensures.begun.0 v2
   begun =
       let b = c.begin_hung_purge.ensures.begun in
-      b.1 ∙ ap (λ (m : ℕ). purging (cause.Hung m) b.0 v2) of_unit
+      b.1 ∙ ap (λ (m : ℕ). begin_purge_view (cause.Hung m) b.0 v2) of_unit
 
 pub purge_held-purged-requires-clause-may : goal.purge_held-purged-requires-clause-may
 purge_held-purged-requires-clause-may g c _ _ = record {

@@ -1,7 +1,7 @@
 use Rattle.std.proofs.Common.{◌≡◌, rules, false, refl, None, [], sym, ap, ◌∙◌, subst}
 use Rattle.lq_model.specs.Account.{Account}
 use Rattle.lq_model.specs.declared.machine.Position.TheVariants.{Control}
-use Rattle.lq_table.specs.Controls.{beginning_control}
+use Rattle.lq_table.specs.Controls.{begin_control_view}
 use Rattle.lq_table.specs.Views.{View, FirstPart, SharePart, first_account}
 use Rattle.lq_table.specs.Sees.{view, known, setup, position, IsElseSame}
 use Rattle.lq_table.specs.Solo.{Solo, account_of, solo}
@@ -25,11 +25,11 @@ use Rattle.lq_control.proofs.FinishSteps.{ready_kept, served_begun, served_looke
 use Rattle.lq_control.proofs.finishes.serve_to_end.Goals as goal
 
 -- what was served, up to this look
-served_to_look : (v0 v1 v2 v3 : View) → IsServed v0 v1 → v2 ≡ beginning_control v1 → IsLook v2 v3 → IsServed v0 v3
+served_to_look : (v0 v1 v2 v3 : View) → IsServed v0 v1 → v2 ≡ begin_control_view v1 → IsLook v2 v3 → IsServed v0 v3
 served_to_look v0 v1 v2 v3 served begun look = served_then v0 v1 v3 served (served_then v1 v2 v3 (served_begun v1 v2 begun) (served_looked v2 v3 look))
 
 -- where it stands then
-looked_at : {D : Type 0} (a b c : Cpu D) → IsElseSame a b → view b ≡ beginning_control (view a) → IsLooked b c → IsReadyToSend a → (view a).place.raised ≡ false
+looked_at : {D : Type 0} (a b c : Cpu D) → IsElseSame a b → view b ≡ begin_control_view (view a) → IsLooked b c → IsReadyToSend a → (view a).place.raised ≡ false
     → (position c ≡ Control false) × IsReadyToSend c × ((view c).place.raised ≡ false)
 looked_at a b c same e look ready low =
     let ready2 = ready_kept a b same (ap (λ (x : View). x.packets) e) (ap (λ (x : View). x.locks) e) (ap (λ (x : View). x.holder.resizing) e) ready in let f = look.1.1 in (

@@ -2,12 +2,12 @@ use Rattle.std.proofs.Common.{rules, ◌≡◌, ◌≤◌, ◌+◌, ◌*◌, ℕ
 use Rattle.std.proofs.lemmas.Option.{same_Some}
 use Rattle.lq_model.specs.Machine.{Purge}
 use Rattle.lq_model.specs.declared.machine.Seat.{Seat}
-use Rattle.lq_table.specs.Controls.{purge_going, no_missed, resetting_draining, resetting_missed_in}
+use Rattle.lq_table.specs.Purges.{purge_going, no_missed, reset_draining_view, reset_missed_view_in, first_purge}
 use Rattle.lq_table.specs.Views.{View, Left, PacketPart}
-use Rattle.lq_table.specs.Purges.{first_purge}
 use Rattle.lq_table.specs.Rule.{IsResting}
 use Rattle.lq_table.specs.Sees.{view, known}
-use Rattle.lq_table.specs.Made.{Made, ◌⊳◌, did_clear_draining}
+use Rattle.lq_table.specs.Made.{Made, ◌⊳◌}
+use Rattle.lq_table.specs.States.{clear_draining_log}
 use Rattle.lq_control.specs.Steps.{with_bits_cleared}
 use Rattle.lq_control.proofs.StepLemmas.{both}
 use Rattle.lq_ring.proofs.Seats.{seat_on}
@@ -141,7 +141,7 @@ missed : (g : given.Over) (c : goal.After-reset_draining-arg-1 g)
     → view c.reset_missed.new.cpu ≡ purge_going no_missed purge4 (view c.purge_band-high.new.cpu)
 missed g c =
     let v = view c.purge_band-high.new.cpu in
-    c.reset_missed.ensures.view ∙ ap (λ (o : Option Purge). resetting_missed_in o v) (after_high g c.before.before).purge
+    c.reset_missed.ensures.view ∙ ap (λ (o : Option Purge). reset_missed_view_in o v) (after_high g c.before.before).purge
 
 pub reset_draining-requires-clause-seat : goal.reset_draining-requires-clause-seat
 reset_draining-requires-clause-seat g c _ _ =
@@ -195,7 +195,7 @@ returns g c = record {
       (emptied c.args.cause s l v v1 v2 v3 v4 v5 v6 cause_is e low.0 mid.0 high.0 bits ends, omega arith);
   station = search rules;
   purges = λ s owed. let m = c.reset_missed.ensures in let d = c.reset_draining.ensures in let three = known c.purge_band-high.new.cpu in
-      let made = d.made ∙ ap (λ (xs : List Made). xs ⊳ did_clear_draining) m.made in
+      let made = d.made ∙ ap (λ (xs : List Made). xs ⊳ clear_draining_log) m.made in
       let low = c.purge_band-low.result in let mid = c.purge_band-mid.result in let high = c.purge_band-high.result in record {
         low = low;
         mid = mid;
@@ -208,7 +208,7 @@ returns g c = record {
         first = c.purge_band-low.ensures.purges;
         second = c.purge_band-mid.ensures.purges;
         third = c.purge_band-high.ensures.purges;
-        cleared = both (known c.reset_draining.new.cpu) (with_bits_cleared three) (d.view ∙ ap resetting_draining m.view) made;
+        cleared = both (known c.reset_draining.new.cpu) (with_bits_cleared three) (d.view ∙ ap reset_draining_view m.view) made;
         counted = ap (λ (n : ℕ). n + low + mid + high) (c.purge_slot-slot.ensures.purged s owed).1;
       };
 }

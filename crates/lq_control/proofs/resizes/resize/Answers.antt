@@ -5,11 +5,11 @@ use Rattle.lq_model.specs.declared.plan.EventKind.TheVariants as kind
 use Rattle.lq_table.specs.Views.{View, FirstPart, HolderPart, first_account}
 use Rattle.std.proofs.lemmas.Bool.Decides.{nat_tests}
 use Rattle.lq_band_laws.specs.Ring.{IsAtRest, at_start}
-use Rattle.lq_table.specs.Controls.{beginning_control}
+use Rattle.lq_table.specs.Controls.{begin_control_view}
 use Rattle.lq_table.specs.Rule.{IsResting}
 use Rattle.lq_table.specs.Sees.{view, setup, known}
 use Rattle.lq_table.specs.Solo.{IsSole, solo, heard, locked_to}
-use Rattle.lq_table.specs.Told.{got_in_control}
+use Rattle.lq_table.specs.Locks.{try_lock_view_in_control}
 use Rattle.lq_run.specs.Runs.{ended}
 use Rattle.lq_ring.specs.Resized.{all_lost, having_resized}
 use Rattle.lq_control.proofs.Alone.{resize_alone, resized_same, stepped_at}
@@ -23,7 +23,7 @@ pub returns : goal.returns
 returns g c =
     let alone_ : IsSole (view c.args.cpu.now) → solo (view c.end_resize.new.cpu) ≡ ended (heard (Resize c.args.len c.args.event) (locked_to true (solo (view c.args.cpu.now)))) = λ sole.
     let v = view c.args.cpu.now in let got = c.take_lock.ensures.got in let v2 = view c.take_lock.new.cpu in
-    let e2 : v2 ≡ got_in_control got.0 (beginning_control v) = got.1 ∙ ap (got_in_control got.0) c.begin_control.ensures.view in
+    let e2 : v2 ≡ try_lock_view_in_control got.0 (begin_control_view v) = got.1 ∙ ap (try_lock_view_in_control got.0) c.begin_control.ensures.view in
     let r = c.resize_all-shrunk.ensures.resizes in let s1 : solo (view c.begin_control.new.cpu) ≡ solo v = ap solo c.begin_control.ensures.view in
     let s2 = (c.take_lock.ensures.sole (subst IsSole (sym c.begin_control.ensures.view) sole)).0 ∙ ap (locked_to true) s1 in
     c.end_resize.ensures.sole (subst IsSole (sym (r.is ∙ ap (having_resized c.args.len c.args.event (all_lost c.args.len r.held)) e2)) sole) ∙ ap ended (ap solo r.is ∙ ap (heard (Resize c.args.len c.args.event)) s2) in record {

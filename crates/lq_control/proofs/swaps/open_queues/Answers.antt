@@ -1,6 +1,6 @@
 use Rattle.std.proofs.Common.{rules, ◌≡◌, ◌+◌, ◌-◌, refl, ap, ◌∙◌, arith}
 use Rattle.lq_table.specs.Views.{View, Setup}
-use Rattle.lq_table.specs.Controls.{shut_after, opening_next}
+use Rattle.lq_table.specs.Controls.{shut_after, open_xoff_view}
 use Rattle.lq_table.specs.Sees.{view, known, setup}
 use Rattle.lq_control.proofs.StepLemmas.{opened_more}
 use Rattle.lq_table.specs.Solo.{solo}
@@ -21,8 +21,8 @@ loop-queue-init g c = let v = view c.args.cpu.now in record {
 pub loop-queue-preserved : goal.loop-queue-preserved
 loop-queue-preserved g c =
     let v = view c.args.cpu.now in let i = c.loop-queue.invariant in let n = c.loop-queue.queue in let queues = c.args.shared.now.queues in let s = c.open_xoff.ensures.same in
-    let y : View = opening_next n (all_opened (shut_after (n - 1) queues) i.opened.0 v) in let at : v.share.about.queues ≡ queues = ap (λ (k : Setup). k.queues) c.requires.seat.2 in
-    let is = c.open_xoff.ensures.view ∙ ap (opening_next n) i.opened.1 in record {
+    let y : View = open_xoff_view n (all_opened (shut_after (n - 1) queues) i.opened.0 v) in let at : v.share.about.queues ≡ queues = ap (λ (k : Setup). k.queues) c.requires.seat.2 in
+    let is = c.open_xoff.ensures.view ∙ ap (open_xoff_view n) i.opened.1 in record {
       seat = seat_on c.args.shared.now c.args.cpu.now c.open_xoff.new.cpu c.requires.seat (s.0.0 ∙ i.same.0.0, s.0.1 ∙ i.same.0.1) (ap (λ (x : View). x.share) is);
       same = (search rules);
       opened = (y.whole, is ∙ (λ j. all_opened (shut_after ((let q : n ≡ n + 1 - 1 = omega arith in q) j) (at j)) y.whole v), i.opened.2);

@@ -3,11 +3,12 @@ use Rattle.std.specs.Prelude.{is_some}
 use Rattle.std.specs.Option.{unwrap_or}
 use Rattle.lq_device.specs.Station.{StationState}
 use Rattle.lq_table.specs.Views.{View, HolderPart, Setup, WholePart, no_station}
-use Rattle.lq_table.specs.Told.{got_in_control}
+use Rattle.lq_table.specs.Locks.{try_lock_view_in_control}
 use Rattle.lq_table.specs.Rule.{HasServed, latest_unit, station_count, units_of}
-use Rattle.lq_table.specs.Controls.{IsSwap, swapping}
+use Rattle.lq_table.specs.Controls.{IsSwap, swap_view}
 use Rattle.lq_table.specs.Sees.{view, known, setup}
-use Rattle.lq_table.specs.Made.{Known, ◌⊳◌, did_store_stop}
+use Rattle.lq_table.specs.Made.{Known, ◌⊳◌}
+use Rattle.lq_table.specs.Stops.{store_xoff_log}
 use Rattle.lq_table.specs.Solo.{Solo, device_to, heard, locked_to, solo}
 use Rattle.lq_model.specs.Account.{Swap}
 use Rattle.lq_control.specs.Control.{all_opened, with_lock_free}
@@ -36,9 +37,9 @@ swap-requires-clause-station g c _ _ =
     )
 
 -- the lock is got, the device swapped, the queues are opened, and the lock is released
-swapped_is : (d : HolderPart) (st : StationState) (whole : WholePart) (v v1 v2 v3 v4 v5 : View) → v1 ≡ got_in_control d v → v2 ≡ v1 → v3 ≡ swapping st v2 → v4 ≡ all_opened None whole v3 → v5 ≡ with_lock_free v4
-    → v5 ≡ with_lock_free (all_opened None whole (swapping st (got_in_control d v)))
-swapped_is d st whole v v1 v2 v3 v4 v5 got same swaps opens frees = frees ∙ ap with_lock_free (opens ∙ ap (all_opened None whole) (swaps ∙ ap (swapping st) (same ∙ got)))
+swapped_is : (d : HolderPart) (st : StationState) (whole : WholePart) (v v1 v2 v3 v4 v5 : View) → v1 ≡ try_lock_view_in_control d v → v2 ≡ v1 → v3 ≡ swap_view st v2 → v4 ≡ all_opened None whole v3 → v5 ≡ with_lock_free v4
+    → v5 ≡ with_lock_free (all_opened None whole (swap_view st (try_lock_view_in_control d v)))
+swapped_is d st whole v v1 v2 v3 v4 v5 got same swaps opens frees = frees ∙ ap with_lock_free (opens ∙ ap (all_opened None whole) (swaps ∙ ap (swap_view st) (same ∙ got)))
 
 pub returns : goal.returns
 returns g c = record {
@@ -71,7 +72,7 @@ returns g c = record {
       let k = setup c.args.shared.now in let locked = known c.take_lock.new.cpu in let came = g.D.TxDevice.state c.args.device in
       let changed = c.change_device-old.ensures.changed locked.view.holder c.take_lock.ensures.station.1 in let now = c.change_device-old.ensures.same.3 in let x = c.swap.ensures in
       let swapped = both (known c.swap.new.cpu) (with_device_swapped k c.args.unit came locked)
-      (x.view ∙ (λ j. swapping (unwrap_or (changed.0 j) no_station) (now j).view)) (x.made ∙ ap (λ (y : Known). y.steps ⊳ did_store_stop k 0 0) now) in
+      (x.view ∙ (λ j. swap_view (unwrap_or (changed.0 j) no_station) (now j).view)) (x.made ∙ ap (λ (y : Known). y.steps ⊳ store_xoff_log k 0 0) now) in
       let about : locked.view.share.about ≡ k = ap (λ (v : View). v.share.about) c.take_lock.ensures.got.1 ∙ c.requires.seat.2 in record {
         locked = locked;
         takes = c.take_lock.ensures.takes;

@@ -8,7 +8,8 @@ use Rattle.lq_table.specs.Made.{Known}
 use Rattle.lq_table.specs.Rule.{shown, units_of}
 use Rattle.lq_table.specs.Sees.{view, known}
 use Rattle.lq_table.specs.Solo.{IsAccounts, IsSole, locked_to, solo}
-use Rattle.lq_table.specs.Told.{IsKnownSlot, finding_locked, got, got_in_control}
+use Rattle.lq_table.specs.Moves.{IsKnownSlot}
+use Rattle.lq_table.specs.Locks.{look_lock_view, try_lock_view, try_lock_view_in_control}
 use Rattle.lq_table.specs.Views.{View, HolderPart}
 use Rattle.lq_control.specs.Steps.{not_tried, held}
 use Rattle.lq_control.proofs.FinishSteps.{control_at}
@@ -21,8 +22,8 @@ abbrev station_in : List (ℕ × Option StationState) → Option StationState
 station_in [] = None
 station_in (s ∷ more) = s.1
 
-got_control : (d : HolderPart) (v w x : View) → w ≡ v → v.place.position ≡ Control false → x ≡ got d w → x ≡ got_in_control d v
-got_control d v w x same at e = e ∙ (ap (got d) same ∙ ap (λ (p : Position). got d (record v { place = record v.place { position = p } })) at)
+got_control : (d : HolderPart) (v w x : View) → w ≡ v → v.place.position ≡ Control false → x ≡ try_lock_view d w → x ≡ try_lock_view_in_control d v
+got_control d v w x same at e = e ∙ (ap (try_lock_view d) same ∙ ap (λ (p : Position). try_lock_view d (record v { place = record v.place { position = p } })) at)
 
 pub loop-init : goal.loop-init
 loop-init g c = record { can = (search rules); ends = (search rules); seat = c.requires.seat; still = ((refl, refl), refl, refl, refl); same = refl; tries = not_tried }
@@ -30,7 +31,7 @@ loop-init g c = record { can = (search rules); ends = (search rules); seat = c.r
 pub loop-preserved : goal.loop-preserved
 loop-preserved g c =
     let i = c.loop.invariant in let t = c.try_run_lock.ensures in let a = c.args.cpu.now in let b = c.loop.cpu in let w = c.try_run_lock.new.cpu in let h = t.held c.if-try_run_lock.false in
-    let same : view w ≡ view a = h.0 ∙ (control_at false (view b) (ap (λ (x : View). x.place.position) i.same ∙ c.requires.at) finding_locked refl ∙ i.same) in record {
+    let same : view w ≡ view a = h.0 ∙ (control_at false (view b) (ap (λ (x : View). x.place.position) i.same ∙ c.requires.at) look_lock_view refl ∙ i.same) in record {
       can = (search rules);
       ends = (search rules);
       seat = seat_on c.args.shared.now b w i.seat t.seat.0 (ap (λ (x : View). x.share) (same ∙ sym i.same));
@@ -43,7 +44,7 @@ pub returns-then-try_run_lock : goal.returns-then-try_run_lock
 returns-then-try_run_lock g c =
     let i = c.loop.invariant in let t = c.try_run_lock.ensures in let m = c.move_station.ensures in let yes_ = c.if-try_run_lock.true in let h = t.got yes_ in
     let a = c.args.cpu.now in let b = c.loop.cpu in let w = c.try_run_lock.new.cpu in let x = c.move_station.new.cpu in
-    let e : view x ≡ got_in_control h.0 (view a) = m.seat.1 ∙ got_control h.0 (view a) (view b) (view w) i.same c.requires.at h.1 in
+    let e : view x ≡ try_lock_view_in_control h.0 (view a) = m.seat.1 ∙ got_control h.0 (view a) (view b) (view w) i.same c.requires.at h.1 in
     let units = λ (first : (view a).control.first ≡ true). ap (λ (y : View). y.holder.units) e ∙ (h.9 (ap (λ (y : View). y.control.first) i.same ∙ first) ∙ ap (λ (y : View). units_of y.trail) i.same) in
     let accounts = λ (sole : IsSole (view a)). subst IsAccounts (sym m.seat.1) ((t.sole (subst IsSole (sym i.same) sole)).2 yes_) in record {
       same = (seat_then a b x i.still.0 (seat_then b w x t.seat.0 m.seat.0), m.seat.2 ∙ (t.seat.2 ∙ i.still.2));

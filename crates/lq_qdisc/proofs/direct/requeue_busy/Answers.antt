@@ -3,7 +3,7 @@ use Rattle.std.specs.Option.{unwrap_or}
 use Rattle.lq_device.specs.Station.{StationState, with_slot}
 use Rattle.lq_table.specs.Views.{no_station}
 use Rattle.lq_table.specs.Sees.{packet_at}
-use Rattle.lq_table.proofs.PurgeKept.{some_of}
+use Rattle.lq_table.proofs.BeginPurgeKept.{some_of}
 use Rattle.lq_qdisc.proofs.DirectLemmas.{carries_busy}
 use Rattle.lq_qdisc.proofs.direct.requeue_busy.Goals as goal
 

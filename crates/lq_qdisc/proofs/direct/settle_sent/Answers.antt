@@ -2,8 +2,8 @@ use Rattle.std.proofs.Common.{rules, ap, ◌∙◌}
 use Rattle.lq_model.specs.Plan.{band_in}
 use Rattle.lq_model.specs.declared.fate.Fate.{Fate}
 use Rattle.lq_device.specs.Station.{StationState}
-use Rattle.lq_table.specs.Settled.{fated}
-use Rattle.lq_table.specs.Solo.{solo, fated_as}
+use Rattle.lq_table.specs.Fates.{settle_view, settle_alone}
+use Rattle.lq_table.specs.Solo.{solo}
 use Rattle.lq_table.specs.Sees.{view, packet_at, carried}
 use Rattle.lq_qdisc.proofs.DirectLemmas.{may_settle, sent_as, sent_has_word}
 use Rattle.lq_qdisc.proofs.direct.settle_sent.Goals as goal
@@ -20,7 +20,7 @@ returns g c =
     let v = view c.args.cpu.now in let st = carried c.args.cpu.now in let b = band_in c.args.shared.now.infos.now c.args.n in let may = c.requires.may in record {
       same = search rules;
       sent = λ answer direct accepted called here. sent_as c.args.n (packet_at c.args.shared.now c.args.n) direct st v (view c.settle.new.cpu) here may.hand answer accepted (ap (λ (s : StationState). s.last) called.rest)
-          (c.settle.ensures.settled ∙ ap (λ (f : Fate). fated st b c.args.n f v) may.fate_is)
-          (c.settle.ensures.step ∙ ap (λ (f : Fate). fated_as st f (solo v)) may.fate_is);
+          (c.settle.ensures.settled ∙ ap (λ (f : Fate). settle_view st b c.args.n f v) may.fate_is)
+          (c.settle.ensures.step ∙ ap (λ (f : Fate). settle_alone st f (solo v)) may.fate_is);
       made = search rules;
     }

@@ -5,11 +5,12 @@ use Rattle.lq_model.specs.Words.{word_of}
 use Rattle.lq_model.specs.declared.device.Tx.{Tx}
 use Rattle.lq_model.specs.declared.device.Tx.TheVariants.{Busy}
 use Rattle.lq_model.specs.declared.machine.Position.TheVariants.{Xmit}
-use Rattle.lq_table.specs.Made.{Made, ◌⊳◌, did_set_missed, did_store_fate}
+use Rattle.lq_table.specs.Made.{Made, ◌⊳◌}
+use Rattle.lq_table.specs.States.{set_missed_log, requeue_view}
+use Rattle.lq_table.specs.Fates.{settle_log, fate_sent}
 use Rattle.lq_table.specs.Rule.{shown}
 use Rattle.lq_table.specs.Sees.{view, setup, carried, packet_at, position}
 use Rattle.lq_table.specs.Solo.{solo, heard, missed_to, device_to}
-use Rattle.lq_table.specs.Told.{fate_sent, requeuing}
 use Rattle.lq_table.specs.Views.{View, HolderPart, Setup}
 use Rattle.lq_qdisc.specs.Direct.{IsSentAs}
 use Rattle.lq_qdisc.specs.Steps.{stops_stored}
@@ -71,11 +72,11 @@ returns-then-is_refusal g c =
       trail = search rules;
       steps = (
         busy_at c.args.n c.args.queue st (view c.args.cpu.now) (view c.requeue_busy.new.cpu) c.requires.may.hand called
-            (r.requeued ∙ ap (λ (v : View). requeuing st v) same)
+            (r.requeued ∙ ap (λ (v : View). requeue_view st v) same)
             (r.step ∙ ap (λ (v : View). device_to st.device (heard Back (missed_to true (solo v)))) same)
             c.requires.may.is_open,
         r.made.0,
-        r.made.1 ∙ ap (λ (xs : List Made). xs ⊳ did_set_missed r.made.0) c.ask_device-answer.ensures.made,
+        r.made.1 ∙ ap (λ (xs : List Made). xs ⊳ set_missed_log r.made.0) c.ask_device-answer.ensures.made,
       );
     }
 
@@ -116,6 +117,6 @@ returns g c = record {
             (ap (λ (x : Setup). x.queues) c.requires.seat.2) s stop.stays stop.past stop.step c.requires.may.is_open,
         stop.made
             ∙ ((λ j. stops_stored k h.result.0 c.args.queue (c.settle_sent.ensures.made j))
-            ∙ (λ j. stops_stored k h.result.0 c.args.queue (h.ensures.made j ⊳ did_store_fate k c.args.n (word_of (fate_is j))))),
+            ∙ (λ j. stops_stored k h.result.0 c.args.queue (h.ensures.made j ⊳ settle_log k c.args.n (word_of (fate_is j))))),
       );
 }

@@ -4,7 +4,8 @@ use Rattle.lq_model.specs.declared.machine.Position.TheVariants.{StoreXoff}
 use Rattle.lq_table.specs.Views.{View, HolderPart, Setup}
 use Rattle.lq_table.specs.Sees.{view, setup, steps, position}
 use Rattle.lq_table.specs.Solo.{Solo, heard}
-use Rattle.lq_table.specs.Made.{Made, ◌⊳◌, did_store_stop}
+use Rattle.lq_table.specs.Made.{Made, ◌⊳◌}
+use Rattle.lq_table.specs.Stops.{store_xoff_log}
 use Rattle.lq_qdisc.specs.Steps.{hung_stored}
 use Rattle.lq_qdisc.proofs.StepLemmas.{hung_one_more}
 use Rattle.lq_qdisc.proofs.DirectLemmas.{stored_at, stored_stays, stays_then, hung_leads, if_below, hung_more, hearing_more}
@@ -28,7 +29,7 @@ loop-queue-preserved g c =
       stays = stays_then (view c.args.cpu.now) v w old.stays stays;
       heard = ap (λ (x : View). x.whole.state.past) is ∙ (ap (λ (past : List Event). Stop q 2 ∷ past) old.heard ∙ hung_more q _);
       step = c.store_xoff.ensures.step ∙ (ap (λ (s : Solo). heard (Stop q 2) s) old.step ∙ hearing_more q _);
-      made = c.store_xoff.ensures.made ∙ (ap (λ (xs : List Made). xs ⊳ did_store_stop (setup c.args.shared.now) q 2) old.made ∙ hung_one_more (setup c.args.shared.now) q (steps c.args.cpu.now));
+      made = c.store_xoff.ensures.made ∙ (ap (λ (xs : List Made). xs ⊳ store_xoff_log (setup c.args.shared.now) q 2) old.made ∙ hung_one_more (setup c.args.shared.now) q (steps c.args.cpu.now));
     }
 
 pub returns-clause-made : goal.returns-clause-made

@@ -1,8 +1,9 @@
 use Rattle.std.proofs.Common.{◌≡◌, ap, ◌∙◌, subst, refl}
-use Rattle.lq_table.specs.Made.{Known, ◌⊳◌, did_leave}
+use Rattle.lq_table.specs.Made.{Known, ◌⊳◌}
+use Rattle.lq_table.specs.Inside.{leave_log}
 use Rattle.lq_table.specs.Sees.{view, known, setup, steps}
 use Rattle.lq_table.specs.Solo.{solo}
-use Rattle.lq_table.specs.Told.{passing}
+use Rattle.lq_table.specs.Moves.{pass_view}
 use Rattle.lq_qdisc.specs.Steps.{IsDueBy, softirq_begun}
 use Rattle.lq_qdisc.proofs.AloneCalls.{softirq_alone}
 use Rattle.lq_qdisc.proofs.ViewLemmas.{interrupts_view}
@@ -25,7 +26,7 @@ returns-clause-interrupts g c =
         last = known w.qdisc_run.new.cpu;
         serves = λ _. w.qdisc_run.ensures.steps;
         leaves = λ off. cc;
-        ends = λ j. record { view = (l.view ∙ ap (λ x. passing (view x)) w.cpu-is) j; steps = (l.made ∙ ap (λ x. steps x ⊳ did_leave) w.cpu-is) j };
+        ends = λ j. record { view = (l.view ∙ ap (λ x. pass_view (view x)) w.cpu-is) j; steps = (l.made ∙ ap (λ x. steps x ⊳ leave_log) w.cpu-is) j };
         step = l.step ∙ ap (λ x. solo (view x)) w.cpu-is;
       }
       | else-begin_softirq w ↦ record {
@@ -35,7 +36,7 @@ returns-clause-interrupts g c =
         last = known c.begin_softirq.new.cpu;
         serves = λ on. cc;
         leaves = λ _. refl;
-        ends = λ j. record { view = (l.view ∙ ap (λ x. passing (view x)) w.cpu-is) j; steps = (l.made ∙ ap (λ x. steps x ⊳ did_leave) w.cpu-is) j };
+        ends = λ j. record { view = (l.view ∙ ap (λ x. pass_view (view x)) w.cpu-is) j; steps = (l.made ∙ ap (λ x. steps x ⊳ leave_log) w.cpu-is) j };
         step = l.step ∙ ap (λ x. solo (view x)) w.cpu-is;
       }
     ]

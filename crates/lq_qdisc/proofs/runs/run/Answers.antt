@@ -2,7 +2,7 @@ use Rattle.std.proofs.Common.{rules, ◌≡◌, ℕ, ◌+◌, ap, sym, ◌∙◌
 use Rattle.std.specs.Prelude.{is_none, if◌then◌else◌}
 use Rattle.lq_model.specs.declared.state.TheConstants.{QUOTA}
 use Rattle.lq_table.specs.Sees.{view, known, setup}
-use Rattle.lq_table.specs.Told.{IsKnownSlot}
+use Rattle.lq_table.specs.Moves.{IsKnownSlot}
 use Rattle.lq_table.specs.Views.{View}
 use Rattle.lq_qdisc.specs.Steps.{RunsBy, SendsBy}
 use Rattle.lq_qdisc.proofs.StepLemmas.{sends_more_by}

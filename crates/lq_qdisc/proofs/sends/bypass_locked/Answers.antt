@@ -4,7 +4,7 @@ use Rattle.lq_model.specs.Plan.{queue_in}
 use Rattle.lq_table.specs.Made.{Known}
 use Rattle.lq_table.specs.Sees.{view, known, setup}
 use Rattle.lq_table.specs.Solo.{heard, solo}
-use Rattle.lq_table.specs.Told.{some_bit}
+use Rattle.lq_table.specs.States.{some_bit}
 use Rattle.lq_qdisc.specs.Steps.{DirectsBy, EnqueuesBy, gone}
 use Rattle.lq_table.specs.Views.{View}
 use Rattle.lq_qdisc.proofs.SendLemmas.{IsLooked, KeepsCall, brings_looked_by, keeps_call, looked_from}

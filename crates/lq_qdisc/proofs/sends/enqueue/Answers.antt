@@ -6,8 +6,8 @@ use Rattle.lq_model.specs.Plan.{band_in}
 use Rattle.lq_model.specs.declared.fate.Info.{Info}
 use Rattle.lq_table.specs.Sees.{view, known, setup}
 use Rattle.lq_table.specs.Solo.{solo}
-use Rattle.lq_table.specs.SolePut.{SeesEnd}
-use Rattle.lq_table.specs.Told.{paying}
+use Rattle.lq_table.specs.Producers.{SeesEnd}
+use Rattle.lq_table.specs.Fates.{settle_view_owed}
 use Rattle.lq_table.specs.Views.{View}
 use Rattle.lq_qdisc.specs.Sends.{Enqueues}
 use Rattle.lq_qdisc.specs.declared.answers.Sending.TheVariants as sending
@@ -30,10 +30,10 @@ returns-in-Ok-clause-put g c =
 pub returns-in-Err-clause-put : goal.returns-in-Err-clause-put
 returns-in-Err-clause-put g c =
     let e = c.in-Err.ensures in let s = c.settle.ensures in let old = known c.args.cpu.now in let full = known c.produce.new.cpu in let k = setup c.args.shared.now in let seen = c.in-Err.full.seen in
-    let settled : view c.settle.new.cpu ≡ paying full.view = s.settled in let step : solo (view c.settle.new.cpu) ≡ solo full.view = s.step in
+    let settled : view c.settle.new.cpu ≡ settle_view_owed full.view = s.settled in let step : solo (view c.settle.new.cpu) ≡ solo full.view = s.step in
     let all = subst (λ (b : ℕ). FindsFull k b c.args.n seen old full × SeesEnd b old.view (seen + 1))
     (band_read c.args.shared.now.infos.now c.infos.result.now c.args.n _ c.infos.ensures c.requires.packet.0) (e.puts, e.sole) in
-    ((settled ∙ ap paying e.puts.0, all.1, step ∙ e.step), full, all.0, s.made)
+    ((settled ∙ ap settle_view_owed e.puts.0, all.1, step ∙ e.step), full, all.0, s.made)
 
 pub produce-requires-clause-may : goal.produce-requires-clause-may
 produce-requires-clause-may g c _ _ = record {

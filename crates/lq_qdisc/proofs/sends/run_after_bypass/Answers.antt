@@ -3,7 +3,7 @@ use Rattle.lq_table.specs.Made.{Known}
 use Rattle.lq_table.specs.Sees.{known, setup}
 use Rattle.lq_table.specs.Views.{View}
 use Rattle.lq_table.specs.Solo.{solo}
-use Rattle.lq_table.specs.Told.{some_bit}
+use Rattle.lq_table.specs.States.{some_bit}
 use Rattle.lq_qdisc.specs.Steps.{FollowsBy, RunsToEndBy, with_state_loaded}
 use Rattle.lq_qdisc.specs.declared.answers.Through.{Through}
 use Rattle.lq_qdisc.specs.declared.answers.Through.TheVariants.{Yes}

@@ -1,12 +1,13 @@
 use Rattle.std.proofs.Common.{◌≡◌, ℕ, arith, rules, true, false, not, sym, ap, ◌∙◌, [], ◌∷◌, ◌&&◌, subst, List}
 use Rattle.lq_table.specs.Sees.{view, known, setup, packet_at}
-use Rattle.lq_table.specs.Told.{some_bit}
-use Rattle.lq_table.specs.Made.{Known, Made, ◌⊳◌, did_store_fate}
+use Rattle.lq_table.specs.States.{some_bit, check_view_refused}
+use Rattle.lq_table.specs.Made.{Known, Made, ◌⊳◌}
+use Rattle.lq_table.specs.Fates.{settle_log, settle_view_owed}
 use Rattle.lq_model.specs.Words.{word_of}
 use Rattle.lq_qdisc.specs.Steps.{GoesThroughBy, TriesToPassBy}
 use Rattle.lq_model.specs.declared.fate.Fate.TheVariants.{Refused}
 use Rattle.lq_table.specs.Views.{Setup, View}
-use Rattle.lq_table.specs.Told.{is_set, paying, refusing}
+use Rattle.lq_table.specs.Moves.{is_set}
 use Rattle.std.proofs.lemmas.Bool.{true≢false}
 use Rattle.lq_qdisc.proofs.SendLemmas.{IsLooked, brings_looked_by, checked_leads, looked_from}
 use Rattle.lq_qdisc.proofs.sends.xmit_skb.Goals as goal
@@ -46,7 +47,7 @@ returns-then-is_deactivated g c =
     let l = c.check-state.ensures in let r = c.refuse.ensures.event in
     let on : is_set 2 state ≡ true = sym c.is_deactivated.ensures ∙ c.if-is_deactivated.true in let s = l.refused on in
     let same : s.0 ≡ r.0 = (let a = s.2 in let b = s.4 in let d = r.2 in let e = r.3 in omega arith) in
-    let settled = ap (λ (v : View). v.settled) c.refuse.ensures.view ∙ ap (λ (v : View). (paying v).settled) s.5 in record {
+    let settled = ap (λ (v : View). v.settled) c.refuse.ensures.view ∙ ap (λ (v : View). (settle_view_owed v).settled) s.5 in record {
       kept = search rules;
       fates = ((n, Refused s.0) ∷ [], settled);
       at = search rules;
@@ -62,9 +63,9 @@ returns-then-is_deactivated g c =
           (
             on,
             (r.1, r.2, r.3),
-            c.refuse.ensures.view ∙ (ap (λ (x : View). paying x) s.5 ∙ ap (λ (event : ℕ). paying (refusing n event state v)) same),
+            c.refuse.ensures.view ∙ (ap (λ (x : View). settle_view_owed x) s.5 ∙ ap (λ (event : ℕ). settle_view_owed (check_view_refused n event state v)) same),
           ),
-          r.5 ∙ ap (λ (xs : List Made). xs ⊳ did_store_fate k n (word_of (Refused r.0))) l.made,
+          r.5 ∙ ap (λ (xs : List Made). xs ⊳ settle_log k n (word_of (Refused r.0))) l.made,
         );
         past = λ off. absurd (true≢false (sym on ∙ off));
         through = λ off. absurd (true≢false (sym on ∙ off));

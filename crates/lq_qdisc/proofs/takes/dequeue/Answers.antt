@@ -1,6 +1,6 @@
 use Rattle.std.proofs.Common.{rules, ℕ, sym, ◌∙◌, subst, Option, inl, arith}
 use Rattle.lq_table.specs.Sees.{view, known, setup}
-use Rattle.lq_table.specs.Told.{IsKnownSlot}
+use Rattle.lq_table.specs.Moves.{IsKnownSlot}
 use Rattle.lq_qdisc.specs.Steps.{DequeuesFrom}
 use Rattle.lq_qdisc.proofs.TakeLemmas.{looks_dequeue}
 use Rattle.lq_qdisc.proofs.takes.dequeue.Goals as goal

@@ -3,9 +3,11 @@ use Rattle.std.specs.Option.{option_map_or}
 use Rattle.lq_model.specs.Plan.{queue_in}
 use Rattle.lq_model.specs.Positions.{holds_lock}
 use Rattle.lq_table.specs.Views.{Setup, View}
-use Rattle.lq_table.specs.Made.{Known, Made, ◌⊳◌, did_load_stop}
+use Rattle.lq_table.specs.Made.{Known, Made, ◌⊳◌}
+use Rattle.lq_table.specs.Stops.{load_xoff_log, load_xoff_view}
 use Rattle.lq_table.specs.Sees.{view, known, steps, setup}
-use Rattle.lq_table.specs.Told.{loading, passing, setting}
+use Rattle.lq_table.specs.Moves.{pass_view}
+use Rattle.lq_table.specs.States.{set_bit_view}
 use Rattle.lq_qdisc.specs.Calls.{FindsStopped, laid_aside}
 use Rattle.lq_qdisc.proofs.TakeLemmas.{finds_stopped, kept_moved, kept_then, looks_dequeue, looks_from, open_for, opened_at_dequeue, serving_same, stop_is, stopped_at_dequeue}
 use Rattle.lq_qdisc.specs.Steps.{ClearsMaybe, LooksThrough, found_open}
@@ -41,8 +43,8 @@ returns g c = record {
         let k = setup c.args.shared.now in let most = c.requires.may.one in let some_ = c.args.shared.now.sized.4 in let zero_ = c.if-load_xoff-ne0.false in
         let one : k.queues ≡ 1 = omega arith in
         let e : known c.load_xoff.new.cpu ≡ found_open k (known c.args.cpu.now) = λ j. record {
-          view = (c.load_xoff.ensures.view ∙ ap (λ (x : ℕ). loading x (view c.args.cpu.now)) zero_) j;
-          steps = (c.load_xoff.ensures.made ∙ ap (λ (x : ℕ). steps c.args.cpu.now ⊳ did_load_stop k 0 x) zero_) j;
+          view = (c.load_xoff.ensures.view ∙ ap (λ (x : ℕ). load_xoff_view x (view c.args.cpu.now)) zero_) j;
+          steps = (c.load_xoff.ensures.made ∙ ap (λ (x : ℕ). steps c.args.cpu.now ⊳ load_xoff_log k 0 x) zero_) j;
         } in inr (one, inl (subst (λ (x : Known). LooksThrough k c.dequeue_bands.result x (known c.dequeue_bands.new.cpu)) e c.dequeue_bands.ensures.steps.1))
         ),
     (
@@ -70,7 +72,7 @@ returns-then-load_xoff-ne0 g c = record {
   steps = (
     (
         let v = view c.args.cpu.now in let m = view c.load_xoff.new.cpu in let w = view c.maybe_clear_missed.new.cpu in let x = c.load_xoff.result in let l = c.load_xoff.ensures in let n = c.maybe_clear_missed.ensures in
-        let e = stopped_at_dequeue x None v m l.view c.requires.may.at c.requires.may.empty c.if-load_xoff-ne0.true in let is = n.stopped.1 ∙ ap (λ (y : View). setting (loading n.stopped.0 (passing y))) l.view in
+        let e = stopped_at_dequeue x None v m l.view c.requires.may.at c.requires.may.empty c.if-load_xoff-ne0.true in let is = n.stopped.1 ∙ ap (λ (y : View). set_bit_view (load_xoff_view n.stopped.0 (pass_view y))) l.view in
         let most = c.requires.may.one in let queues = ap (λ (k : Setup). k.queues) c.requires.seat.2 in (
           λ more. absurd (omega arith),
           subst (λ (o : Option ℕ). FindsStopped (option_map_or (queue_in c.args.shared.now.infos.now) o 0) v w) (sym c.requires.may.empty)
@@ -79,7 +81,7 @@ returns-then-load_xoff-ne0 g c = record {
         ),
     (
         let k = setup c.args.shared.now in let s = c.maybe_clear_missed.ensures.stopped in let most = c.requires.may.one in let some_ = c.args.shared.now.sized.4 in
-        let one : k.queues ≡ 1 = omega arith in inr (one, inr (refl, (c.load_xoff.result, s.0, c.if-load_xoff-ne0.true, s.1 ∙ ap (λ (v : View). setting (loading s.0 (passing v))) c.load_xoff.ensures.view, subst (λ (xs : List Made). ClearsMaybe k 0 s.0 xs (steps c.maybe_clear_missed.new.cpu)) c.load_xoff.ensures.made s.2)))
+        let one : k.queues ≡ 1 = omega arith in inr (one, inr (refl, (c.load_xoff.result, s.0, c.if-load_xoff-ne0.true, s.1 ∙ ap (λ (v : View). set_bit_view (load_xoff_view s.0 (pass_view v))) c.load_xoff.ensures.view, subst (λ (xs : List Made). ClearsMaybe k 0 s.0 xs (steps c.maybe_clear_missed.new.cpu)) c.load_xoff.ensures.made s.2)))
         ),
     (
         λ one alone.

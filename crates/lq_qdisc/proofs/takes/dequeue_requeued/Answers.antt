@@ -6,9 +6,11 @@ use Rattle.lq_model.specs.declared.machine.Seat.{Seat}
 use Rattle.lq_table.specs.Rule.{shown}
 use Rattle.lq_table.specs.Solo.{account_of, solo}
 use Rattle.lq_table.specs.Views.{HolderPart, Setup, View}
-use Rattle.lq_table.specs.Made.{Made, ◌⊳◌, did_load_stop}
+use Rattle.lq_table.specs.Made.{Made, ◌⊳◌}
+use Rattle.lq_table.specs.Stops.{load_xoff_log, load_xoff_view, picking}
 use Rattle.lq_table.specs.Sees.{view, known, steps, setup}
-use Rattle.lq_table.specs.Told.{loading, passing, picking, setting}
+use Rattle.lq_table.specs.Moves.{pass_view}
+use Rattle.lq_table.specs.States.{set_bit_view}
 use Rattle.lq_qdisc.specs.Calls.{FindsPacket, FindsStopped, Picks, laid_aside}
 use Rattle.lq_qdisc.proofs.TakeLemmas.{finds_stopped, kept_moved, kept_then, opened_at_dequeue, serving_same, serving_with, stop_is, stopped_at_dequeue}
 use Rattle.lq_qdisc.specs.Steps.{ClearsMaybe, FindsStopWord}
@@ -36,7 +38,7 @@ returns-then-load_xoff-ne0 g c = record {
   steps = (
     (
         let v = view c.args.cpu.now in let m = view c.load_xoff.new.cpu in let w = view c.maybe_clear_missed.new.cpu in let x = c.load_xoff.result in let l = c.load_xoff.ensures in let a = c.maybe_clear_missed.ensures in
-        let e = stopped_at_dequeue x (Some c.args.n) v m l.view c.requires.at c.requires.slot.0 c.if-load_xoff-ne0.true in let is = a.stopped.1 ∙ ap (λ (y : View). setting (loading a.stopped.0 (passing y))) l.view in
+        let e = stopped_at_dequeue x (Some c.args.n) v m l.view c.requires.at c.requires.slot.0 c.if-load_xoff-ne0.true in let is = a.stopped.1 ∙ ap (λ (y : View). set_bit_view (load_xoff_view a.stopped.0 (pass_view y))) l.view in
         let queue = c.queue_of-queue.ensures ∙ ap (λ (o : Option ℕ). option_map_or (queue_in c.args.shared.now.infos.now) o 0) (sym c.requires.slot.0) in (
           λ _. ap is_some c.requires.slot.0,
           subst (λ (q : ℕ). FindsStopped q v w) queue
@@ -48,7 +50,7 @@ returns-then-load_xoff-ne0 g c = record {
         inr (
           refl,
           subst (λ (queue : ℕ). FindsStopWord k queue (known c.args.cpu.now) (known c.maybe_clear_missed.new.cpu)) c.queue_of-queue.ensures
-              (c.load_xoff.result, s.0, c.if-load_xoff-ne0.true, s.1 ∙ ap (λ (v : View). setting (loading s.0 (passing v))) c.load_xoff.ensures.view, subst (λ (xs : List Made). ClearsMaybe k q s.0 xs (steps c.maybe_clear_missed.new.cpu)) c.load_xoff.ensures.made s.2),
+              (c.load_xoff.result, s.0, c.if-load_xoff-ne0.true, s.1 ∙ ap (λ (v : View). set_bit_view (load_xoff_view s.0 (pass_view v))) c.load_xoff.ensures.view, subst (λ (xs : List Made). ClearsMaybe k q s.0 xs (steps c.maybe_clear_missed.new.cpu)) c.load_xoff.ensures.made s.2),
         )
         ),
     (
@@ -87,8 +89,8 @@ returns g c = record {
         let k = setup c.args.shared.now in let zero_ = c.if-load_xoff-ne0.false in let t = c.take_requeued.ensures in
         inl (
           refl,
-          t.same.3 ∙ (c.load_xoff.ensures.view ∙ ap (λ (x : ℕ). loading x (view c.args.cpu.now)) zero_),
-          t.made ∙ (c.load_xoff.ensures.made ∙ (λ j. steps c.args.cpu.now ⊳ did_load_stop k (c.queue_of-queue.ensures j) (zero_ j))),
+          t.same.3 ∙ (c.load_xoff.ensures.view ∙ ap (λ (x : ℕ). load_xoff_view x (view c.args.cpu.now)) zero_),
+          t.made ∙ (c.load_xoff.ensures.made ∙ (λ j. steps c.args.cpu.now ⊳ load_xoff_log k (c.queue_of-queue.ensures j) (zero_ j))),
         )
         ),
     (

@@ -1,5 +1,7 @@
 use Rattle.std.proofs.Common.{rules, ◌≡◌, List, inl, inr, sym, ap, ◌∙◌}
-use Rattle.lq_table.specs.Made.{Made, ◌⊳◌, did_clear_missed, did_load_stop, did_set_draining, did_set_missed}
+use Rattle.lq_table.specs.Made.{Made, ◌⊳◌}
+use Rattle.lq_table.specs.States.{clear_missed_log, set_draining_log, set_missed_log}
+use Rattle.lq_table.specs.Stops.{load_xoff_log}
 use Rattle.lq_table.specs.Sees.{view, setup, steps}
 use Rattle.lq_qdisc.proofs.TakeLemmas.{LeavesBlocked, leaves_blocked, stop_loaded_again}
 use Rattle.lq_qdisc.proofs.takes.maybe_clear_missed.Goals as goal
@@ -8,9 +10,9 @@ use Rattle.lq_qdisc.proofs.takes.maybe_clear_missed.Goals.{After-load_xoff, Afte
 -- the steps that were made when the stop word was loaded again
 loaded : (g : _) (c : After-load_xoff g)
     → steps c.load_xoff.new.cpu
-    ≡ (steps c.args.cpu.now ⊳ did_clear_missed) ⊳ did_load_stop (setup c.args.shared.now) c.args.queue c.load_xoff.result
+    ≡ (steps c.args.cpu.now ⊳ clear_missed_log) ⊳ load_xoff_log (setup c.args.shared.now) c.args.queue c.load_xoff.result
 loaded g c =
-    let load = λ (made : List Made). made ⊳ did_load_stop (setup c.args.shared.now) c.args.queue c.load_xoff.result in
+    let load = λ (made : List Made). made ⊳ load_xoff_log (setup c.args.shared.now) c.args.queue c.load_xoff.result in
     c.load_xoff.ensures.made ∙ ap load c.clear_missed.ensures.made
 
 -- what is known where the queue was found open then, and MISSED set
@@ -36,7 +38,7 @@ returns-then-load_xoff-eq0 g c = record {
   fates = (opened g c).fates;
   stopped =
       let before = loaded g (goal.at.returns-then-load_xoff-eq0 g c).After-load_xoff in
-      let made = c.set_missed.ensures.made in let all = made.1 ∙ ap (λ (past : List Made). past ⊳ did_set_missed made.0) before in
+      let made = c.set_missed.ensures.made in let all = made.1 ∙ ap (λ (past : List Made). past ⊳ set_missed_log made.0) before in
       (c.load_xoff.result, (opened g c).is, inl (c.if-load_xoff-eq0.true, made.0, all));
   sole = λ alone closed.
       let at_ = c.requires.at in let a = c.clear_missed.ensures in let l = c.load_xoff.ensures in
@@ -55,7 +57,7 @@ returns-else-load_xoff-eq0 g c = record {
   fates = (stopped g c).fates;
   stopped =
       let before = loaded g (goal.at.returns-else-load_xoff-eq0 g c).After-load_xoff in
-      let made = c.set_draining.ensures.made in let all = made.1 ∙ ap (λ (past : List Made). past ⊳ did_set_draining made.0) before in
+      let made = c.set_draining.ensures.made in let all = made.1 ∙ ap (λ (past : List Made). past ⊳ set_draining_log made.0) before in
       (c.load_xoff.result, (stopped g c).is, inr (c.if-load_xoff-eq0.false, made.0, all));
   sole = search rules;
 }

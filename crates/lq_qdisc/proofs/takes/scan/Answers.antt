@@ -2,7 +2,7 @@ use Rattle.std.proofs.Common.{rules, ◌≡◌, arith, ℕ, ◌<◌, sym, ap, �
 use Rattle.std.specs.Prelude.{slice_get}
 use Rattle.lq_model.specs.Account.{Account, Event, Empty, held_in}
 use Rattle.lq_table.specs.Views.{View, Setup}
-use Rattle.lq_table.specs.Told.{IsPacketOf}
+use Rattle.lq_table.specs.Moves.{IsPacketOf}
 use Rattle.lq_table.specs.Sees.{view, known, setup}
 use Rattle.lq_qdisc.specs.Steps.{EmptyBelow}
 use Rattle.lq_qdisc.proofs.StepLemmas.{bands_more}

@@ -2,7 +2,7 @@ use Rattle.std.proofs.Common.{rules, ℕ, ◌<◌, ◌-◌, ◌∷◌, sym, ap, 
 use Rattle.std.specs.Prelude.{if◌then◌else◌}
 use Rattle.lq_model.specs.declared.fate.Fate.TheVariants as fate
 use Rattle.lq_table.specs.Views.{Work}
-use Rattle.lq_table.specs.Settled.{MayShrink}
+use Rattle.lq_table.specs.Fates.{MayShrink}
 use Rattle.lq_table.specs.Sees.{view, setup, steps}
 use Rattle.lq_ring.specs.Work.{work_at, working, having_settled}
 use Rattle.lq_ring.proofs.Works.{settled_none, work_back, shrunk_is}

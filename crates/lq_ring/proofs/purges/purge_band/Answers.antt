@@ -7,7 +7,8 @@ use Rattle.lq_band_laws.proofs.Three.{at_put_same}
 use Rattle.lq_table.specs.Views.{View, Left}
 use Rattle.lq_table.specs.Rule.{shown, IsResting}
 use Rattle.lq_table.specs.Sees.{view, setup, steps}
-use Rattle.lq_table.specs.Made.{Made, ◌⊳◌, did_load_size}
+use Rattle.lq_table.specs.Made.{Made, ◌⊳◌}
+use Rattle.lq_table.specs.Producers.{load_size_log}
 use Rattle.lq_model.specs.declared.fate.Fate.TheVariants as fate
 use Rattle.lq_ring.specs.Changes.{PurgesEach, none_yet, one_more, purging_steps}
 use Rattle.lq_ring.specs.Purged.{purged_by, IsPurgedTo}
@@ -25,8 +26,8 @@ loop-n-init g c =
       station = s.1 ∙ (c.requires.may.station ∙ ap (λ (x : View). Some (shown x.holder)) (sym loaded));
       purged = λ f left. subst (λ (x : View). IsPurgedTo c.args.band 0 f v x) (sym loaded) (none_purged c.args.band f v c.requires.may.below left (rest_at _ c.args.band _ c.requires.may.rests.0));
       made = λ f left. let size = c.load_size-size.ensures.holder (ap holds_lock c.requires.may.at.2) in let start : Ends = at c.args.band v.holder.ends in
-          subst (λ (z : Ends × List Made). PurgesEach (setup c.args.shared.now) c.args.band (fate.Purged c.args.cause) v.holder.size start (steps c.args.cpu.now ⊳ did_load_size v.holder.size) [] z.0 z.1)
-          (λ j. (ap (λ (x : View). at c.args.band x.holder.ends) (sym loaded) j, sym (c.load_size-size.ensures.made ∙ ap (λ (z : ℕ). steps c.args.cpu.now ⊳ did_load_size z) size) j)) none_yet;
+          subst (λ (z : Ends × List Made). PurgesEach (setup c.args.shared.now) c.args.band (fate.Purged c.args.cause) v.holder.size start (steps c.args.cpu.now ⊳ load_size_log v.holder.size) [] z.0 z.1)
+          (λ j. (ap (λ (x : View). at c.args.band x.holder.ends) (sym loaded) j, sym (c.load_size-size.ensures.made ∙ ap (λ (z : ℕ). steps c.args.cpu.now ⊳ load_size_log z) size) j)) none_yet;
     }
 
 pub purge_one-requires-clause-may : goal.purge_one-requires-clause-may
@@ -65,7 +66,7 @@ loop-n-preserved g c =
           let made_ = c.purge_one.ensures.made.first c.if-not-purge_one.false (purged_by b k l) t.0 (ap (λ (x : View). x.holder.left) p.is) t.1 in
           let size : (view c.loop-n.cpu).holder.size ≡ v.holder.size = ap (λ (x : View). x.holder.size) p.is in
           let then : at b (view c.purge_one.new.cpu).holder.ends ≡ after_take v.holder.size p.ends = ap (λ (x : View). at b x.holder.ends) (next l left).is ∙ at_put_same b (next l left).ends v.holder.ends in
-          subst (λ (z : List ℕ × Ends × List Made). PurgesEach (setup c.args.shared.now) b (fate.Purged c.args.cause) v.holder.size (at b v.holder.ends) (steps c.args.cpu.now ⊳ did_load_size v.holder.size) z.0 z.1 z.2)
+          subst (λ (z : List ℕ × Ends × List Made). PurgesEach (setup c.args.shared.now) b (fate.Purged c.args.cause) v.holder.size (at b v.holder.ends) (steps c.args.cpu.now ⊳ load_size_log v.holder.size) z.0 z.1 z.2)
           (λ j. (taken_next_of b k t.0 l t.1 j, ((λ m. after_take v.holder.size (here m)) ∙ sym then) j, ((λ m. purging_steps (setup c.args.shared.now) b (fate.Purged c.args.cause) (sym size m) (at b (view c.loop-n.cpu).holder.ends) t.0 (steps c.loop-n.cpu)) ∙ sym made_) j))
           (one_more (take k held) (at b (view c.loop-n.cpu).holder.ends) t.0 (steps c.loop-n.cpu) (i.made l left));
     }
@@ -93,7 +94,7 @@ returns-then-not-purge_one g c = record {
             let old = view c.args.cpu.now in let ends = at b (view c.loop-n.cpu).holder.ends in (
               steps c.loop-n.cpu,
               ends,
-              subst (λ (ns : List ℕ). PurgesEach (setup c.args.shared.now) b (fate.Purged c.args.cause) old.holder.size (at b old.holder.ends) (steps c.args.cpu.now ⊳ did_load_size old.holder.size) ns ends (steps c.loop-n.cpu))
+              subst (λ (ns : List ℕ). PurgesEach (setup c.args.shared.now) b (fate.Purged c.args.cause) old.holder.size (at b old.holder.ends) (steps c.args.cpu.now ⊳ load_size_log old.holder.size) ns ends (steps c.loop-n.cpu))
                   (taken_all b k l none_.0) (i.made l left),
               one.made.none c.if-not-purge_one.true,
             );

@@ -12,10 +12,11 @@ use Rattle.lq_band_laws.specs.Ring.{Ends, taken_on}
 use Rattle.lq_band_laws.proofs.Three.{at_put_same}
 use Rattle.lq_table.specs.Views.{View, no_station}
 use Rattle.lq_table.specs.Rule.{shown}
-use Rattle.lq_table.specs.Purges.{taking_purged}
-use Rattle.lq_table.specs.Told.{paying}
+use Rattle.lq_table.specs.Purges.{purge_slot_view}
+use Rattle.lq_table.specs.Fates.{settle_view_owed, settle_log}
 use Rattle.lq_table.specs.Sees.{view, setup, steps}
-use Rattle.lq_table.specs.Made.{◌⊳◌, did_load_slot, did_store_fate}
+use Rattle.lq_table.specs.Made.{◌⊳◌}
+use Rattle.lq_table.specs.Producers.{load_slot_log}
 use Rattle.lq_model.specs.Words.{word_of}
 use Rattle.lq_ring.specs.Changes.{purging_steps}
 use Rattle.lq_ring.specs.Steps.{zeroed}
@@ -56,11 +57,11 @@ discard_one-requires-clause-may g c _ _ = record {
   below = search rules;
   holder =
       let at = c.requires.may.at in let r = c.requires.may.rests in
-      let took = c.settle.ensures.settled ∙ ap paying (c.purge_slot-found.ensures.taken at.1 at.5 c.if-found-eq0.false).1 in
+      let took = c.settle.ensures.settled ∙ ap settle_view_owed (c.purge_slot-found.ensures.taken at.1 at.5 c.if-found-eq0.false).1 in
       (ap (λ (x : View). holds_lock x.place.position) took ∙ ap holds_lock at.2, ap (λ (x : View). x.holder.resizing) took ∙ r.1, ap (λ (x : View). x.holder.size) took ∙ r.2, r.3);
   station =
       let at = c.requires.may.at in let b = c.args.band in let v = view c.args.cpu.now in let own : Ends = at_ b v in
-      let took = c.settle.ensures.settled ∙ ap paying (c.purge_slot-found.ensures.taken at.1 at.5 c.if-found-eq0.false).1 in
+      let took = c.settle.ensures.settled ∙ ap settle_view_owed (c.purge_slot-found.ensures.taken at.1 at.5 c.if-found-eq0.false).1 in
       let ends : at_ b (view c.settle.new.cpu) ≡ taken_on own = ap (λ (x : View). at_ b x) took ∙ at_put_same b (taken_on own) v.holder.ends in (
         shown v.holder,
         c.settle.ensures.same.1 ∙ (c.purge_slot-found.ensures.same.0.1 ∙ c.requires.may.station),
@@ -69,7 +70,7 @@ discard_one-requires-clause-may g c _ _ = record {
       );
   ends =
       let at = c.requires.may.at in let r = c.requires.may.rests in let b = c.args.band in let v = view c.args.cpu.now in let own : Ends = at_ b v in
-      let took = c.settle.ensures.settled ∙ ap paying (c.purge_slot-found.ensures.taken at.1 at.5 c.if-found-eq0.false).1 in
+      let took = c.settle.ensures.settled ∙ ap settle_view_owed (c.purge_slot-found.ensures.taken at.1 at.5 c.if-found-eq0.false).1 in
       let ends : at_ b (view c.settle.new.cpu) ≡ taken_on own = ap (λ (x : View). at_ b x) took ∙ at_put_same b (taken_on own) v.holder.ends in
       let rest = rest_at v.holder.size b v.holder.ends r.0 in let first = rest.0 in let within = rest.1 in let size = r.2 in
       subst (λ (e : Ends). (e.edge ≡ e.head) × (e.tail < e.head) × (e.head ≤ c.args.size)) (sym ends) (refl, omega arith, omega arith);
@@ -81,7 +82,7 @@ settle-requires-clause-seat g c _ _ =
 
 pub discard_one-requires-clause-seat : goal.discard_one-requires-clause-seat
 discard_one-requires-clause-seat g c _ _ =
-    let at = c.requires.may.at in let took = c.settle.ensures.settled ∙ ap paying (c.purge_slot-found.ensures.taken at.1 at.5 c.if-found-eq0.false).1 in
+    let at = c.requires.may.at in let took = c.settle.ensures.settled ∙ ap settle_view_owed (c.purge_slot-found.ensures.taken at.1 at.5 c.if-found-eq0.false).1 in
     let a = c.purge_slot-found.ensures.same.0.0 in let b = c.settle.ensures.same.0 in
     seat_on c.args.shared.now c.args.cpu.now c.settle.new.cpu c.requires.seat (b.0 ∙ a.0, b.1 ∙ a.1) (ap (λ (x : View). x.share) took)
 
@@ -95,7 +96,7 @@ returns-then-found-eq0 g c = record {
       c.purge_slot-found.ensures.same.0.1 ∙ (c.requires.may.station ∙ ap (λ (x : View). Some (shown x.holder)) (sym e));
   made =
       let b = c.args.band in let k = setup c.args.shared.now in let zero_ = c.if-found-eq0.true in let head = (at_ b (view c.args.cpu.now)).head in
-      record { first = λ e. cc; none = λ _. c.purge_slot-found.ensures.made ∙ (λ j. steps c.args.cpu.now ⊳ did_load_slot k b head (zero_ j)) };
+      record { first = λ e. cc; none = λ _. c.purge_slot-found.ensures.made ∙ (λ j. steps c.args.cpu.now ⊳ load_slot_log k b head (zero_ j)) };
 }
 
 pub returns : goal.returns
@@ -104,8 +105,8 @@ returns g c =
       let took_ = c.purge_slot-found.ensures.taken l left c.if-found-eq0.false in (
         n,
         took_.0,
-        takes_end b c.args.size v.holder.size (at_ b v) (at b v.whole.state.ends) (paying (taking_purged b n l v)) (view c.settle.new.cpu) (view c.discard_one.new.cpu) (sym c.requires.may.rests.2)
-            (c.settle.ensures.settled ∙ ap paying took_.1) (at_put_same b _ v.holder.ends) (at_put_same b _ v.whole.state.ends) c.discard_one.ensures.emptied c.discard_one.ensures.rested,
+        takes_end b c.args.size v.holder.size (at_ b v) (at b v.whole.state.ends) (settle_view_owed (purge_slot_view b n l v)) (view c.settle.new.cpu) (view c.discard_one.new.cpu) (sym c.requires.may.rests.2)
+            (c.settle.ensures.settled ∙ ap settle_view_owed took_.1) (at_put_same b _ v.holder.ends) (at_put_same b _ v.whole.state.ends) c.discard_one.ensures.emptied c.discard_one.ensures.rested,
       ) in record {
   same = search rules;
   none = search rules;
@@ -117,10 +118,10 @@ returns g c =
   made =
       let b = c.args.band in let v = view c.args.cpu.now in let own : Ends = at_ b v in let k = setup c.args.shared.now in let found = c.purge_slot-found.result in let n = found - 1 in let old = steps c.args.cpu.now in
       let some_ = c.if-found-eq0.false in let back : found ≡ n + 1 = omega arith in let at = c.requires.may.at in
-      let took = c.settle.ensures.settled ∙ ap paying (c.purge_slot-found.ensures.taken at.1 at.5 c.if-found-eq0.false).1 in
+      let took = c.settle.ensures.settled ∙ ap settle_view_owed (c.purge_slot-found.ensures.taken at.1 at.5 c.if-found-eq0.false).1 in
       let ends : at_ b (view c.settle.new.cpu) ≡ taken_on own = ap (λ (x : View). at_ b x) took ∙ at_put_same b (taken_on own) v.holder.ends in
-      let stored : steps c.settle.new.cpu ≡ old ⊳ did_load_slot k b own.head (n + 1) ⊳ did_store_fate k n (word_of (fate.Purged c.args.cause)) =
-      c.settle.ensures.made ∙ ((λ j. c.purge_slot-found.ensures.made j ⊳ did_store_fate k n (word_of (fate.Purged c.args.cause))) ∙ (λ j. old ⊳ did_load_slot k b own.head (back j) ⊳ did_store_fate k n (word_of (fate.Purged c.args.cause)))) in
+      let stored : steps c.settle.new.cpu ≡ old ⊳ load_slot_log k b own.head (n + 1) ⊳ settle_log k n (word_of (fate.Purged c.args.cause)) =
+      c.settle.ensures.made ∙ ((λ j. c.purge_slot-found.ensures.made j ⊳ settle_log k n (word_of (fate.Purged c.args.cause))) ∙ (λ j. old ⊳ load_slot_log k b own.head (back j) ⊳ settle_log k n (word_of (fate.Purged c.args.cause)))) in
       let now : Ends = at_ b (view c.settle.new.cpu) in let fate_ = fate.Purged c.args.cause in
       let zeroes = zeroed_as k b c.args.size now (steps c.settle.new.cpu) (steps c.discard_one.new.cpu) c.discard_one.ensures.made.0 c.discard_one.ensures.made.1 in
       let here : steps c.discard_one.new.cpu ≡ purging_steps k b fate_ v.holder.size own n old =

@@ -2,9 +2,9 @@ use Rattle.std.proofs.Common.{rules, ◌≡◌, ◌/◌, ap, ◌∙◌, sym, sub
 use Rattle.lq_band_laws.specs.Three.{at}
 use Rattle.lq_band_laws.specs.Ring.{locked_at}
 use Rattle.lq_band_laws.proofs.Three.{at_put_same}
-use Rattle.lq_table.specs.Rings.{with_lock_at}
+use Rattle.lq_table.specs.Producers.{with_lock_at, take_producer_log}
 use Rattle.lq_table.specs.Sees.{view, steps}
-use Rattle.lq_table.specs.Made.{◌⊳◌, did_take_producer}
+use Rattle.lq_table.specs.Made.{◌⊳◌}
 use Rattle.lq_ring.specs.Steps.{Spins, not_yet}
 use Rattle.lq_ring.proofs.StepLemmas.{spins_held, spins_lost}
 use Rattle.lq_ring.proofs.puts.lock_producer.Goals as goal
@@ -30,6 +30,6 @@ pub loop-preserved : goal.loop-preserved
 loop-preserved g c =
     let b = c.args.band in let old = steps c.args.cpu.now in let loaded = c.load_producer-seen.ensures.made in
     let spins : Spins b old (steps c.if-seen-eq0.cpu) = elim c.if-seen-eq0.branch [
-      | then-seen-eq0+else-take_producer w ↦ subst (Spins b old) (ap steps (sym w.cpu-is)) (spins_lost b _ old _ _ _ w.if-seen-eq0.true c.loop.invariant.spins loaded (w.take_producer.ensures.made ∙ (λ j. steps c.load_producer-seen.new.cpu ⊳ did_take_producer b c.load_producer-seen.result (w.if-take_producer.false j))))
+      | then-seen-eq0+else-take_producer w ↦ subst (Spins b old) (ap steps (sym w.cpu-is)) (spins_lost b _ old _ _ _ w.if-seen-eq0.true c.loop.invariant.spins loaded (w.take_producer.ensures.made ∙ (λ j. steps c.load_producer-seen.new.cpu ⊳ take_producer_log b c.load_producer-seen.result (w.if-take_producer.false j))))
       | else-seen-eq0 w ↦ subst (Spins b old) (ap steps (sym w.cpu-is)) (spins_held b _ old _ _ w.if-seen-eq0.false c.loop.invariant.spins loaded)
     ] in search rules

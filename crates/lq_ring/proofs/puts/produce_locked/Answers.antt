@@ -3,10 +3,9 @@ use Rattle.lq_band_laws.specs.Three.{at}
 use Rattle.lq_band_laws.specs.Ring.{Lock, index_given}
 use Rattle.lq_table.specs.Views.{View}
 use Rattle.lq_band_laws.specs.Ring.{with_room}
-use Rattle.lq_table.specs.Rings.{with_lock_at, joining, dropping}
-use Rattle.lq_table.specs.SolePut.{SeesEnd}
+use Rattle.lq_table.specs.Producers.{with_lock_at, store_slot_view, producer_slot_view_full, SeesEnd, load_slot_log, store_slot_log, give_producer_log}
 use Rattle.lq_table.specs.Sees.{view, setup, steps}
-use Rattle.lq_table.specs.Made.{◌⊳◌, did_load_slot, did_store_slot, did_give_producer}
+use Rattle.lq_table.specs.Made.{◌⊳◌}
 use Rattle.lq_ring_core.specs.Ring.{next_place}
 use Rattle.lq_ring.proofs.PutSteps.{lock1, lock2, lock3, ends_full, ends_put}
 use Rattle.lq_ring.proofs.puts.produce_locked.Goals as goal
@@ -15,23 +14,23 @@ pub give_producer-requires-clause-seat : goal.give_producer-requires-clause-seat
 give_producer-requires-clause-seat g c _ _ =
     let v1 = view c.load_size-size.new.cpu in let e1 = c.load_size-size.ensures.size.0 in let m = c.producer_slot-found.result - 1 in
     let fresh : v1.packets.fresh ≡ Some c.args.n = ap (λ (x : View). x.packets.fresh) e1 ∙ c.requires.may.packet.0.0 in
-    let e2 : view c.producer_slot-found.new.cpu ≡ dropping c.args.n m v1 = c.producer_slot-found.ensures.full c.args.n fresh c.if-found-ne0.true in
+    let e2 : view c.producer_slot-found.new.cpu ≡ producer_slot_view_full c.args.n m v1 = c.producer_slot-found.ensures.full c.args.n fresh c.if-found-ne0.true in
     (c.producer_slot-found.ensures.same.0.0.0 ∙ (c.load_size-size.ensures.same.0.0 ∙ c.requires.seat.0), subst (λ (x : ℕ). 0 < x) (sym (ap (λ (x : View). x.share.shares) e2 ∙ ap (λ (x : View). x.share.shares) e1)) c.requires.seat.1, ap (λ (x : View). x.share.about) e2 ∙ (ap (λ (x : View). x.share.about) e1 ∙ c.requires.seat.2))
 
 pub give_producer-requires-clause-lock : goal.give_producer-requires-clause-lock
 give_producer-requires-clause-lock g c _ _ =
     let b = c.args.band in let v = view c.args.cpu.now in let v1 = view c.load_size-size.new.cpu in let e1 = c.load_size-size.ensures.size.0 in let m = c.producer_slot-found.result - 1 in
     let fresh : v1.packets.fresh ≡ Some c.args.n = ap (λ (x : View). x.packets.fresh) e1 ∙ c.requires.may.packet.0.0 in
-    let e2 : view c.producer_slot-found.new.cpu ≡ dropping c.args.n m v1 = c.producer_slot-found.ensures.full c.args.n fresh c.if-found-ne0.true in (
+    let e2 : view c.producer_slot-found.new.cpu ≡ producer_slot_view_full c.args.n m v1 = c.producer_slot-found.ensures.full c.args.n fresh c.if-found-ne0.true in (
       ap (λ (x : View). (at b x.locks).holds) e2 ∙ ap (λ (x : Lock). x.holds) (lock1 b c.load_size-size.result c.args.index c.args.n v v1 c.requires.may.locked.0 e1),
-      ap (λ (x : View). x.holder.resizing) (e2 ∙ ap (λ (x : View). dropping c.args.n m x) e1) ∙ c.requires.may.locked.3,
+      ap (λ (x : View). x.holder.resizing) (e2 ∙ ap (λ (x : View). producer_slot_view_full c.args.n m x) e1) ∙ c.requires.may.locked.3,
     )
 
 pub give_producer-requires-clause-index : goal.give_producer-requires-clause-index
 give_producer-requires-clause-index g c _ _ =
     let b = c.args.band in let v = view c.args.cpu.now in let v1 = view c.load_size-size.new.cpu in let e1 = c.load_size-size.ensures.size.0 in let m = c.producer_slot-found.result - 1 in let z = c.load_size-size.result in
     let fresh : v1.packets.fresh ≡ Some c.args.n = ap (λ (x : View). x.packets.fresh) e1 ∙ c.requires.may.packet.0.0 in
-    let e2 : view c.producer_slot-found.new.cpu ≡ dropping c.args.n m v1 = c.producer_slot-found.ensures.full c.args.n fresh c.if-found-ne0.true in
+    let e2 : view c.producer_slot-found.new.cpu ≡ producer_slot_view_full c.args.n m v1 = c.producer_slot-found.ensures.full c.args.n fresh c.if-found-ne0.true in
     let l = ap (λ (x : View). at b x.locks) e2 ∙ lock1 b z c.args.index c.args.n v v1 c.requires.may.locked.0 e1 in
     (z, ap (λ (x : Lock). x.size) l, sym (ap (index_given z) l))
 
@@ -67,7 +66,7 @@ pub give_producer-requires-2-clause-lock : goal.give_producer-requires-2-clause-
 give_producer-requires-2-clause-lock g c _ _ =
     let b = c.args.band in let locked = c.requires.may.locked in let v1 = view c.load_size-size.new.cpu in let v2 = view c.producer_slot-found.new.cpu in (
       ap (λ (x : Lock). x.holds) (lock3 b c.load_size-size.result c.args.index c.args.n (view c.args.cpu.now) v1 locked.0 c.load_size-size.ensures.size.0 v2 (c.producer_slot-found.ensures.room c.if-found-ne0.false) (view c.store_slot.new.cpu) c.store_slot.ensures.joined),
-      ap (λ (x : View). x.holder.resizing) (c.store_slot.ensures.joined ∙ ap (joining b c.args.n) (c.producer_slot-found.ensures.room c.if-found-ne0.false ∙ ap (with_lock_at b (with_room (at b v1.locks))) c.load_size-size.ensures.size.0)) ∙ locked.3,
+      ap (λ (x : View). x.holder.resizing) (c.store_slot.ensures.joined ∙ ap (store_slot_view b c.args.n) (c.producer_slot-found.ensures.room c.if-found-ne0.false ∙ ap (with_lock_at b (with_room (at b v1.locks))) c.load_size-size.ensures.size.0)) ∙ locked.3,
     )
 
 pub give_producer-requires-2-clause-index : goal.give_producer-requires-2-clause-index
@@ -91,9 +90,9 @@ returns g c = record {
       let at2 : (at b v2.locks).index ≡ i = ap (λ (x : Lock). x.index) (lock2 b z i c.args.n (view c.args.cpu.now) v1 locked.0 c.load_size-size.ensures.size.0 v2 (c.producer_slot-found.ensures.room c.if-found-ne0.false)) in (
         z,
         c.give_producer-2.ensures.made
-            ∙ ((λ j. steps c.store_slot.new.cpu ⊳ did_give_producer b (c.next_index-next.ensures j))
-            ∙ ((λ j. c.store_slot.ensures.made j ⊳ did_give_producer b (next_place z i))
-            ∙ ((λ j. c.producer_slot-found.ensures.made j ⊳ did_store_slot k b (at2 j) (c.args.n + 1) ⊳ did_give_producer b (next_place z i))
-            ∙ (λ j. c.load_size-size.ensures.made j ⊳ did_load_slot k b (at1 j) (empty j) ⊳ did_store_slot k b i (c.args.n + 1) ⊳ did_give_producer b (next_place z i))))),
+            ∙ ((λ j. steps c.store_slot.new.cpu ⊳ give_producer_log b (c.next_index-next.ensures j))
+            ∙ ((λ j. c.store_slot.ensures.made j ⊳ give_producer_log b (next_place z i))
+            ∙ ((λ j. c.producer_slot-found.ensures.made j ⊳ store_slot_log k b (at2 j) (c.args.n + 1) ⊳ give_producer_log b (next_place z i))
+            ∙ (λ j. c.load_size-size.ensures.made j ⊳ load_slot_log k b (at1 j) (empty j) ⊳ store_slot_log k b i (c.args.n + 1) ⊳ give_producer_log b (next_place z i))))),
       );
 }

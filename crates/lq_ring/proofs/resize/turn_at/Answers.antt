@@ -5,7 +5,7 @@ use Rattle.lq_ring_core.specs.Slots.{round}
 use Rattle.lq_band_laws.specs.Three.{at}
 use Rattle.lq_band_laws.specs.Ring.{locked_at}
 use Rattle.lq_table.specs.Views.{View}
-use Rattle.lq_table.specs.Rings.{with_lock_at}
+use Rattle.lq_table.specs.Producers.{with_lock_at}
 use Rattle.lq_table.specs.Sees.{view}
 use Rattle.lq_ring.specs.Work.{work_at, IsTurner, IsWorkBegun}
 use Rattle.lq_ring.proofs.Works.{turner_after}

@@ -5,13 +5,14 @@ use Rattle.lq_band_laws.specs.Ring.{Ends, taken_on}
 use Rattle.lq_band_laws.proofs.Three.{at_put_same}
 use Rattle.lq_table.specs.Views.{View}
 use Rattle.lq_table.specs.Rule.{shown}
-use Rattle.lq_table.specs.Rings.{finding_none, taking}
+use Rattle.lq_table.specs.Consumers.{head_slot_view_empty, head_slot_view}
 use Rattle.lq_table.specs.Sees.{view, setup, steps}
-use Rattle.lq_table.specs.Made.{◌⊳◌, did_load_size, did_load_slot}
+use Rattle.lq_table.specs.Made.{◌⊳◌}
+use Rattle.lq_table.specs.Producers.{load_size_log, load_slot_log}
 use Rattle.lq_ring.specs.Steps.{zeroed}
 use Rattle.lq_ring.specs.Take.{consuming, emptied_count}
 use Rattle.lq_ring.proofs.StepLemmas.{zeroed_as}
-use Rattle.lq_table.specs.Told.{IsPacketOf}
+use Rattle.lq_table.specs.Moves.{IsPacketOf}
 use Rattle.lq_table.specs.Solo.{solo}
 use Rattle.lq_ring.proofs.TakeSteps.{sized_none, none_leads, none_heard, take_leads, take_heard, heads_at, tails_at, rest_at, consumes, rests_after, station_after, known_after}
 use Rattle.lq_ring.proofs.takes.consume.Given as given
@@ -23,7 +24,7 @@ discard_one-requires-clause-may g c _ _ = record {
   holder =
       let b = c.args.band in let v = view c.args.cpu.now in let n = c.head_slot-found.result - 1 in let at_ = c.requires.may.at in
       let loaded = c.load_size-size.ensures.size.0 ∙ sized_none c.load_size-size.result v c.requires.may.idle in
-      let took = c.head_slot-found.ensures.taken c.if-found-eq0.false ∙ ap (λ (x : View). taking b n x) loaded in (
+      let took = c.head_slot-found.ensures.taken c.if-found-eq0.false ∙ ap (λ (x : View). head_slot_view b n x) loaded in (
         ap (λ (x : View). holds_lock x.place.position) took ∙ ap holds_lock (take_leads b at_.0 v at_.1 n c.requires.may.below),
         ap (λ (x : View). x.holder.resizing) took ∙ c.requires.may.rests.1,
         ap (λ (x : View). x.holder.size) took ∙ sym (c.load_size-size.ensures.holder (ap holds_lock at_.1)),
@@ -32,7 +33,7 @@ discard_one-requires-clause-may g c _ _ = record {
   station =
       let b = c.args.band in let v = view c.args.cpu.now in let n = c.head_slot-found.result - 1 in let own : Ends = at b v.holder.ends in
       let loaded = c.load_size-size.ensures.size.0 ∙ sized_none c.load_size-size.result v c.requires.may.idle in
-      let took = c.head_slot-found.ensures.taken c.if-found-eq0.false ∙ ap (λ (x : View). taking b n x) loaded in
+      let took = c.head_slot-found.ensures.taken c.if-found-eq0.false ∙ ap (λ (x : View). head_slot_view b n x) loaded in
       let ends : at b (view c.head_slot-found.new.cpu).holder.ends ≡ taken_on own = ap (λ (x : View). at b x.holder.ends) took ∙ at_put_same b (taken_on own) v.holder.ends in (
         shown v.holder,
         c.head_slot-found.ensures.same.0.1 ∙ (c.load_size-size.ensures.same.1 ∙ c.requires.may.station),
@@ -42,7 +43,7 @@ discard_one-requires-clause-may g c _ _ = record {
   ends =
       let b = c.args.band in let v = view c.args.cpu.now in let n = c.head_slot-found.result - 1 in let own : Ends = at b v.holder.ends in let z = c.load_size-size.result in
       let loaded = c.load_size-size.ensures.size.0 ∙ sized_none z v c.requires.may.idle in
-      let took = c.head_slot-found.ensures.taken c.if-found-eq0.false ∙ ap (λ (x : View). taking b n x) loaded in
+      let took = c.head_slot-found.ensures.taken c.if-found-eq0.false ∙ ap (λ (x : View). head_slot_view b n x) loaded in
       let ends : at b (view c.head_slot-found.new.cpu).holder.ends ≡ taken_on own = ap (λ (x : View). at b x.holder.ends) took ∙ at_put_same b (taken_on own) v.holder.ends in
       let rest = rest_at v.holder.size b v.holder.ends c.requires.may.rests.0 in let first = rest.0 in let within = rest.1 in
       let size : z ≡ v.holder.size = c.load_size-size.ensures.holder (ap holds_lock c.requires.may.at.1) in
@@ -53,7 +54,7 @@ taken-is : (g : given.Over) (c : goal.After-discard_one g) → view c.discard_on
 taken-is g c =
     let b = c.args.band in let v = view c.args.cpu.now in let n = c.head_slot-found.result - 1 in let z = c.load_size-size.result in
     let loaded = c.load_size-size.ensures.size.0 ∙ sized_none z v c.requires.may.idle in
-    let took = c.head_slot-found.ensures.taken c.if-found-eq0.false ∙ ap (λ (x : View). taking b n x) loaded in
+    let took = c.head_slot-found.ensures.taken c.if-found-eq0.false ∙ ap (λ (x : View). head_slot_view b n x) loaded in
     consumes b n z v (view c.head_slot-found.new.cpu) (view c.discard_one.new.cpu) (c.load_size-size.ensures.holder (ap holds_lock c.requires.may.at.1)) took c.discard_one.ensures.emptied c.discard_one.ensures.rested
 
 pub returns-then-found-eq0 : goal.returns-then-found-eq0
@@ -63,19 +64,19 @@ returns-then-found-eq0 g c = record {
       let b = c.args.band in let v = view c.args.cpu.now in let k = setup c.args.shared.now in let zero_ = c.if-found-eq0.true in
       let loaded = c.load_size-size.ensures.size.0 ∙ sized_none c.load_size-size.result v c.requires.may.idle in
       let head = ap (λ (x : View). (at b x.holder.ends).head) loaded in (
-        c.head_slot-found.ensures.none zero_ ∙ ap (λ (x : View). finding_none b x) loaded,
+        c.head_slot-found.ensures.none zero_ ∙ ap (λ (x : View). head_slot_view_empty b x) loaded,
         c.load_size-size.result,
-        c.head_slot-found.ensures.made ∙ (λ j. c.load_size-size.ensures.made j ⊳ did_load_slot k b (head j) (zero_ j)),
+        c.head_slot-found.ensures.made ∙ (λ j. c.load_size-size.ensures.made j ⊳ load_slot_log k b (head j) (zero_ j)),
       );
   packet = search rules;
   at = λ second here. let b = c.args.band in let v = view c.args.cpu.now in let loaded = c.load_size-size.ensures.size.0 ∙ sized_none c.load_size-size.result v c.requires.may.idle in
-      let none_ = c.head_slot-found.ensures.none c.if-found-eq0.true ∙ ap (λ (x : View). finding_none b x) loaded in
+      let none_ = c.head_slot-found.ensures.none c.if-found-eq0.true ∙ ap (λ (x : View). head_slot_view_empty b x) loaded in
       ap (λ (x : View). x.place.position) none_ ∙ none_leads b second v here c.requires.may.below;
   rests = search rules;
   station = search rules;
   step =
       let b = c.args.band in let v = view c.args.cpu.now in let loaded = c.load_size-size.ensures.size.0 ∙ sized_none c.load_size-size.result v c.requires.may.idle in
-      let none_ = c.head_slot-found.ensures.none c.if-found-eq0.true ∙ ap (λ (x : View). finding_none b x) loaded in
+      let none_ = c.head_slot-found.ensures.none c.if-found-eq0.true ∙ ap (λ (x : View). head_slot_view_empty b x) loaded in
       ap (λ (x : View). solo x) none_ ∙ none_heard b c.requires.may.at.0 v c.requires.may.at.1;
   sole = search rules;
   known = search rules;
@@ -87,13 +88,13 @@ returns g c = record {
   takes =
       let b = c.args.band in let v = view c.args.cpu.now in let found = c.head_slot-found.result in let n = found - 1 in let own : Ends = at b v.holder.ends in let k = setup c.args.shared.now in
       let loaded = c.load_size-size.ensures.size.0 ∙ sized_none c.load_size-size.result v c.requires.may.idle in
-      let took = c.head_slot-found.ensures.taken c.if-found-eq0.false ∙ ap (λ (x : View). taking b n x) loaded in
+      let took = c.head_slot-found.ensures.taken c.if-found-eq0.false ∙ ap (λ (x : View). head_slot_view b n x) loaded in
       let ends : at b (view c.head_slot-found.new.cpu).holder.ends ≡ taken_on own = ap (λ (x : View). at b x.holder.ends) took ∙ at_put_same b (taken_on own) v.holder.ends in
       let some_ = c.if-found-eq0.false in let back : found ≡ n + 1 = omega arith in
       let head = ap (λ (x : View). (at b x.holder.ends).head) loaded in
       let size : c.load_size-size.result ≡ v.holder.size = c.load_size-size.ensures.holder (ap holds_lock c.requires.may.at.1) in
-      let looked : steps c.head_slot-found.new.cpu ≡ steps c.args.cpu.now ⊳ did_load_size c.load_size-size.result ⊳ did_load_slot k b own.head (n + 1) =
-      c.head_slot-found.ensures.made ∙ (λ j. c.load_size-size.ensures.made j ⊳ did_load_slot k b (head j) (back j)) in
+      let looked : steps c.head_slot-found.new.cpu ≡ steps c.args.cpu.now ⊳ load_size_log c.load_size-size.result ⊳ load_slot_log k b own.head (n + 1) =
+      c.head_slot-found.ensures.made ∙ (λ j. c.load_size-size.ensures.made j ⊳ load_slot_log k b (head j) (back j)) in
       let z = zeroed_as k b c.load_size-size.result (at b (view c.head_slot-found.new.cpu).holder.ends) (steps c.head_slot-found.new.cpu) (steps c.discard_one.new.cpu) c.discard_one.ensures.made.0 c.discard_one.ensures.made.1 in
       (taken-is g c, c.load_size-size.result, z ∙ (λ j. zeroed k b (ends j).head (emptied_count (size j) (ends j)) (looked j)));
   packet =

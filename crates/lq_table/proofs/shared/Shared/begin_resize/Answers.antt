@@ -4,7 +4,7 @@ use Rattle.lq_table.specs.Places.{size_place}
 use Rattle.lq_table.specs.Keyed.{keyed_setup}
 use Rattle.lq_table.specs.Resizes.{BeginsResize}
 use Rattle.lq_table.specs.Sees.{view}
-use Rattle.lq_table.specs.Told.{Sat}
+use Rattle.lq_table.specs.Moves.{Sat}
 use Rattle.lq_table.proofs.ResizeKept.{begins_resize}
 use Rattle.lq_log.specs.Made.{seen}
 use Rattle.lq_table.proofs.shared.Shared.begin_resize.Goals as goal

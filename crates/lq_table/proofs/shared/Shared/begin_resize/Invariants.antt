@@ -1,6 +1,6 @@
 use Rattle.lq_table.specs.Keyed.{keyed_setup}
-use Rattle.lq_table.specs.Resizes.{resize_begun}
+use Rattle.lq_table.specs.Resizes.{begin_resize_told}
 use Rattle.lq_table.proofs.shared.Shared.begin_resize.Given as goal
 
 abbrev pub ghosts-load : goal.ghosts-load
-ghosts-load g a = let k = keyed_setup a.self.now.kit.shared.key in record { told = resize_begun k.infos k.max_len a._about.now.0 a._about.now.1 }
+ghosts-load g a = let k = keyed_setup a.self.now.kit.shared.key in record { told = begin_resize_told k.infos k.max_len a._about.now.0 a._about.now.1 }

@@ -1,5 +1,5 @@
 use Rattle.std.proofs.Common.{arith}
-use Rattle.lq_table.proofs.UpKept.{opens}
+use Rattle.lq_table.proofs.ClearDeactivatedKept.{opens}
 use Rattle.lq_table.proofs.shared.Shared.clear_deactivated.Goals as goal
 
 pub fetch_and-requires : goal.fetch_and-requires

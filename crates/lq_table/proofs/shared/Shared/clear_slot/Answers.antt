@@ -7,7 +7,7 @@ use Rattle.lq_table.specs.Keyed.{keyed_setup}
 use Rattle.lq_table.proofs.ByName.{slot_within}
 use Rattle.std.specs.Option.{unwrap_or}
 use Rattle.lq_table.specs.Views.{HalfResize, no_resizing}
-use Rattle.lq_table.specs.Resizes.{slot_cleared}
+use Rattle.lq_table.specs.Resizes.{clear_slot_told}
 use Rattle.lq_table.proofs.ResizeSlotsKept.{clears_slot}
 use Rattle.lq_log.specs.Made.{seen}
 use Rattle.lq_table.proofs.shared.Shared.clear_slot.Goals as goal
@@ -22,6 +22,6 @@ swap-requires g c =
     let few : length k.infos ≤ 1000000 = subst (λ (xs : List Info). length xs ≤ 1000000) (sym t.same.0) t.sized.2 in (
       c.requires.seat.0,
       word,
-      subst (λ (z : ℕ × HalfResize). Allows (Rule k) slots seat.id (seen seat.me) z.0 (λ _. 0) (slot_cleared b i z.1 (step slots z.0 0 0 none) (seen seat.me))) (λ j. (place j, sym half j))
+      subst (λ (z : ℕ × HalfResize). Allows (Rule k) slots seat.id (seen seat.me) z.0 (λ _. 0) (clear_slot_told b i z.1 (step slots z.0 0 0 none) (seen seat.me))) (λ j. (place j, sym half j))
           (clears_slot k slots seat.id (seen seat.me) b i h.1.0 c.requires.place.0 inside h.0 h.1.1 c.requires.seat.1 few),
     )

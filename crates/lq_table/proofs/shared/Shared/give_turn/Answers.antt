@@ -1,7 +1,6 @@
 use Rattle.std.proofs.Common.{ℕ, ◌<◌, ◌∷◌, refl, sym, ◌∙◌, subst}
-use Rattle.lq_table.specs.Made.{did_give_turn}
+use Rattle.lq_table.specs.Turns.{give_turn_log, give_turn_view}
 use Rattle.lq_table.specs.Sees.{view, steps}
-use Rattle.lq_table.specs.Told.{giving_turn}
 use Rattle.lq_table.proofs.CodeReads.{no_info, owner_read, rank_read}
 use Rattle.lq_table.proofs.shared.Shared.give_turn.Goals as goal
 
@@ -10,8 +9,8 @@ returns g c =
     let infos = c.args.self.now.infos.now in let n = c.args.n in let t = c.give_turn_at.ensures in
     let owner = owner_read infos n no_info c.requires.packet.0 in let rank = rank_read infos n no_info c.requires.packet.0 in record {
       same = ((t.same.0, t.same.1), refl, refl, t.same.2);
-      given = t.given ∙ (λ j. giving_turn (owner j) (rank j) (view c.args.cpu.now));
-      made = t.made ∙ (λ j. did_give_turn (owner j) (rank j) ∷ steps c.args.cpu.now);
+      given = t.given ∙ (λ j. give_turn_view (owner j) (rank j) (view c.args.cpu.now));
+      made = t.made ∙ (λ j. give_turn_log (owner j) (rank j) ∷ steps c.args.cpu.now);
     }
 
 pub give_turn_at-requires-clause-packet : goal.give_turn_at-requires-clause-packet

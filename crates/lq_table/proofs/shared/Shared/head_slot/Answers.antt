@@ -5,13 +5,13 @@ use Rattle.atomic_table.specs.Table.{step, Allows}
 use Rattle.lq_table.specs.Rule.{Rule, slot_word}
 use Rattle.lq_table.specs.Keyed.{keyed_setup}
 use Rattle.lq_table.proofs.ByName.{slot_within}
-use Rattle.lq_table.specs.Solo.{head_seen_all}
+use Rattle.lq_table.specs.Consumers.{head_slot_told_all}
 use Rattle.lq_table.proofs.MarksKept.{head_marks}
 use Rattle.lq_table.proofs.SoleKept.{sees_head_sole}
 use Rattle.lq_log.specs.Made.{seen}
 use Rattle.std.specs.Prelude.{is_some}
 use Rattle.std.proofs.lemmas.Bool.{false≢true}
-use Rattle.lq_table.specs.Made.{did_load_slot}
+use Rattle.lq_table.specs.Producers.{load_slot_log}
 use Rattle.lq_table.specs.Sees.{setup, steps, ends_at}
 use Rattle.lq_table.proofs.CodeReads.{head_read}
 use Rattle.lq_table.proofs.shared.Shared.head_slot.Goals as goal
@@ -26,7 +26,7 @@ load-requires g c =
     let few : length k.infos ≤ 1000000 = subst (λ (xs : List Info). length xs ≤ 1000000) (sym t.same.0) t.sized.2 in (
       c.requires.seat.0,
       word,
-      subst (λ (z : ℕ). Allows (Rule k) slots seat.id (seen seat.me) z (λ x. x) (head_seen_all b (step slots z 0 0 none) (seen seat.me))) place
+      subst (λ (z : ℕ). Allows (Rule k) slots seat.id (seen seat.me) z (λ x. x) (head_slot_told_all b (step slots z 0 0 none) (seen seat.me))) place
           (sees_head_sole k slots seat.id (seen seat.me) b i where_.0 c.requires.band inside where_.1 c.requires.rests.0 c.requires.rests.1 head c.requires.seat.1 few),
     )
 
@@ -42,5 +42,5 @@ pub returns-clause-made : goal.returns-clause-made
 returns-clause-made g c =
     let t = c.args.self.now in let old = c.args.cpu.now in let found = c.load.result in
     let head = head_read old.station c.in-Some.station c.args.band c.head-head.result (ends_at c.args.band old).head c.in-Some.is c.head-head.ensures c.requires.station.1 in
-    let made : c.load.new.seat.me.0.steps ≡ did_load_slot (setup t) c.args.band c.head-head.result found ∷ steps old = search rules in
-    made ∙ ap (λ (i : ℕ). did_load_slot (setup t) c.args.band i found ∷ steps old) head
+    let made : c.load.new.seat.me.0.steps ≡ load_slot_log (setup t) c.args.band c.head-head.result found ∷ steps old = search rules in
+    made ∙ ap (λ (i : ℕ). load_slot_log (setup t) c.args.band i found ∷ steps old) head

@@ -1,5 +1,5 @@
 use Rattle.std.proofs.Common.{rules, arith, ap, ◌∙◌}
-use Rattle.lq_table.specs.Told.{told}
+use Rattle.lq_table.specs.Seats.{learn_view}
 use Rattle.lq_table.proofs.SeatsKept.{joins}
 use Rattle.lq_table.proofs.Besides.{learns_all}
 use Rattle.lq_table.proofs.shared.Shared.join_seat.Goals as goal
@@ -13,4 +13,4 @@ pub load-requires : goal.load-requires
 load-requires g c = let t = c.args.self.now in (search rules, (let wide = t.sized.0 in omega arith), learns_all _ _ _ _ (let a = c.requires.seat.1 in let j = ap (λ m. m.0.view.share.shares) c.join_seat.ensures.2 in omega arith))
 
 pub returns-clause-view : goal.returns-clause-view
-returns-clause-view g c = let l = c.load.ensures.2.told.0 in let j = c.join_seat.ensures.2 in (l.0, l.1, ap (λ m. m.0) l.2 ∙ ap (λ m. told l.0 l.1 m.0.view) j)
+returns-clause-view g c = let l = c.load.ensures.2.told.0 in let j = c.join_seat.ensures.2 in (l.0, l.1, ap (λ m. m.0) l.2 ∙ ap (λ m. learn_view l.0 l.1 m.0.view) j)

@@ -4,7 +4,7 @@ use Rattle.atomic_table.specs.Table.{step, Allows}
 use Rattle.lq_table.specs.Places.{producer_place}
 use Rattle.lq_table.specs.Rule.{Rule}
 use Rattle.lq_table.specs.Keyed.{keyed_setup}
-use Rattle.lq_table.specs.SolePut.{producer_seen_all}
+use Rattle.lq_table.specs.Producers.{load_producer_told}
 use Rattle.lq_table.proofs.ProducerSole.{loads_producer}
 use Rattle.lq_log.specs.Made.{seen}
 use Rattle.lq_table.proofs.shared.Shared.load_producer.Goals as goal
@@ -16,6 +16,6 @@ load-requires g c =
     let word : c.producer_word-word.result < t.table.kit.shared.table_id.words = let wide = t.sized.0 in let small = c.requires.band in let p = place in omega arith in (
       c.requires.seat.0,
       word,
-      subst (λ (z : ℕ). Allows (Rule k) slots seat.id (seen seat.me) z (λ x. x) (producer_seen_all b (step slots z 0 0 none) (seen seat.me))) place
+      subst (λ (z : ℕ). Allows (Rule k) slots seat.id (seen seat.me) z (λ x. x) (load_producer_told b (step slots z 0 0 none) (seen seat.me))) place
           (loads_producer k slots seat.id (seen seat.me) b c.requires.band c.requires.seat.1),
     )

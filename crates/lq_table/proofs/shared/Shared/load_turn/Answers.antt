@@ -4,7 +4,7 @@ use Rattle.atomic_table.specs.Table.{step, Allows}
 use Rattle.lq_table.specs.Places.{turn_place}
 use Rattle.lq_table.specs.Rule.{Rule}
 use Rattle.lq_table.specs.Keyed.{keyed_setup}
-use Rattle.lq_table.specs.Told.{turn_seen}
+use Rattle.lq_table.specs.Turns.{load_turn_told}
 use Rattle.lq_table.proofs.TurnsKept.{loads_turn}
 use Rattle.lq_log.specs.Made.{seen}
 use Rattle.lq_table.proofs.shared.Shared.load_turn.Goals as goal
@@ -16,5 +16,5 @@ load-requires g c =
     let below : o < k.senders = (let e = t.same.1 in let l = c.requires.owner in omega arith) in (
       c.requires.seat.0,
       (let wide = t.sized.0 in let small = c.requires.owner in let p = place in let x : c.turn_word-word.result < t.table.kit.shared.table_id.words = omega arith in x),
-      subst (λ (z : ℕ). Allows (Rule k) slots seat.id (seen seat.me) z (λ x. x) (turn_seen o (step slots z 0 0 none) (seen seat.me))) place (loads_turn k slots seat.id o (seen seat.me) below c.requires.seat.1),
+      subst (λ (z : ℕ). Allows (Rule k) slots seat.id (seen seat.me) z (λ x. x) (load_turn_told o (step slots z 0 0 none) (seen seat.me))) place (loads_turn k slots seat.id o (seen seat.me) below c.requires.seat.1),
     )

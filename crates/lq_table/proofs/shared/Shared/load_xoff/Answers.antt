@@ -4,8 +4,8 @@ use Rattle.lq_model.specs.declared.fate.Info.{Info}
 use Rattle.atomic_table.specs.Table.{step, Allows}
 use Rattle.lq_table.specs.Rule.{Rule}
 use Rattle.lq_table.specs.Keyed.{keyed_setup}
-use Rattle.lq_table.specs.Told.{stop_queue}
-use Rattle.lq_table.specs.Solo.{solo, stop_loaded_all}
+use Rattle.lq_table.specs.Stops.{load_xoff_queue, load_xoff_told_all}
+use Rattle.lq_table.specs.Solo.{solo}
 use Rattle.lq_table.proofs.ByName.{xoff_in}
 use Rattle.lq_table.proofs.SoleKept.{loads_stop_sole}
 use Rattle.lq_table.proofs.SoloSteps.{loads_stop_solo}
@@ -16,11 +16,11 @@ pub load-requires : goal.load-requires
 load-requires g c =
     let t = c.args.self.now in let k = keyed_setup t.table.kit.shared.key in let slots = t.table.kit.shared.table_id.slots in let seat = c.args.cpu.now.known.seat in
     let e = t.same.5 in let below : c.args.queue < k.queues = (let b = c.requires.queue in omega arith) in
-    let at : stop_queue k.infos seat.me.0.view.holder.slot seat.me.0.view.place.position c.args.queue ≡ c.args.queue = subst (λ (xs : List Info). stop_queue xs seat.me.0.view.holder.slot seat.me.0.view.place.position c.args.queue ≡ c.args.queue) (sym t.same.0) c.requires.at.1 in
+    let at : load_xoff_queue k.infos seat.me.0.view.holder.slot seat.me.0.view.place.position c.args.queue ≡ c.args.queue = subst (λ (xs : List Info). load_xoff_queue xs seat.me.0.view.holder.slot seat.me.0.view.place.position c.args.queue ≡ c.args.queue) (sym t.same.0) c.requires.at.1 in
     let few : length k.infos ≤ 1000000 = subst (λ (xs : List Info). length xs ≤ 1000000) (sym t.same.0) t.sized.2 in (
       c.requires.seat.0,
       (let wide = t.sized.0 in let b = xoff_in k c.args.queue below in let w = c.stop_word-word.ensures.keyed in let s = t.same.1 in let m = t.same.2 in let l = ap Rattle.std.proofs.Common.length t.same.0 in omega arith),
-      subst (λ (z : ℕ). Allows (Rule k) slots seat.id (seen seat.me) z (λ x. x) (stop_loaded_all c.args.queue (step slots z 0 0 none) (seen seat.me))) (sym c.stop_word-word.ensures.keyed)
+      subst (λ (z : ℕ). Allows (Rule k) slots seat.id (seen seat.me) z (λ x. x) (load_xoff_told_all c.args.queue (step slots z 0 0 none) (seen seat.me))) (sym c.stop_word-word.ensures.keyed)
           (loads_stop_sole k slots seat.id (seen seat.me) c.args.queue c.requires.at.0 at below few c.requires.seat.1),
     )
 

@@ -3,9 +3,9 @@ use mathlib.Core.Option.{none}
 use Rattle.atomic_table.specs.Table.{step}
 use Rattle.lq_table.specs.Places.{lock_place}
 use Rattle.lq_log.specs.Made.{seen}
-use Rattle.lq_table.specs.Made.{did_load_lock}
+use Rattle.lq_table.specs.Locks.{load_lock_log}
 use Rattle.lq_table.specs.Sees.{steps}
-use Rattle.lq_table.specs.Told.{Sat}
+use Rattle.lq_table.specs.Moves.{Sat}
 use Rattle.lq_table.proofs.TriesSolo.{look_solo, look_marks, look_slots, is_free, is_held}
 use Rattle.lq_table.proofs.LooksKept.{looks_lock}
 use Rattle.lq_table.proofs.shared.Shared.look_lock.Goals as goal
@@ -26,6 +26,6 @@ returns g c =
     let free = λ (no_ : not (eqb x.result 0) ≡ false). is_free x.result no_ in record {
       same = ((e.0, e.1), refl, refl, look_slots s x.result (seen old.known.seat.me) (seen x.new.seat.me) t.0);
       held = λ is. let n = is_held x.result is in (ap (λ (m : Sat). m.0) (t.0.1 n), (x.result, n, e.2.noted));
-      free = λ no_. (ap (λ (m : Sat). m.0) (t.0.0 (free no_)), e.2.noted ∙ ap (λ (n : ℕ). did_load_lock n ∷ steps old) (free no_));
+      free = λ no_. (ap (λ (m : Sat). m.0) (t.0.0 (free no_)), e.2.noted ∙ ap (λ (n : ℕ). load_lock_log n ∷ steps old) (free no_));
       sole = λ sole. look_solo s x.result (seen old.known.seat.me) (seen x.new.seat.me) c.requires.at t.0 (t.1 sole);
     }

@@ -2,7 +2,7 @@ use Rattle.std.proofs.Common.{◌≡◌, ℕ, ◌<◌, arith, sym, ap, ◌∙◌
 use Rattle.atomic_table.specs.Table.{step, Allows}
 use Rattle.lq_table.specs.Rule.{Rule}
 use Rattle.lq_table.specs.Keyed.{keyed_setup}
-use Rattle.lq_table.specs.Solo.{stop_looked_all}
+use Rattle.lq_table.specs.Stops.{look_stop_told_all}
 use Rattle.lq_table.proofs.SoleKept.{looks_stop_sole}
 use Rattle.lq_table.proofs.ByName.{xoff_in}
 use mathlib.Core.Option.{none}
@@ -15,6 +15,6 @@ load-requires g c =
     let e : k.queues ≡ t.queues = t.same.5 in let below : c.args.queue < k.queues = (let b = c.requires.queue in omega arith) in (
       c.requires.seat.0,
       (let wide = t.sized.0 in let b = xoff_in k c.args.queue below in let w = c.stop_word-word.ensures.keyed in let s = t.same.1 in let m = t.same.2 in let l = ap Rattle.std.proofs.Common.length t.same.0 in omega arith),
-      subst (λ (z : ℕ). Allows (Rule k) slots seat.id (seen seat.me) z (λ n. n) (stop_looked_all c.args.queue (step slots z 0 0 none) (seen seat.me))) (sym c.stop_word-word.ensures.keyed)
+      subst (λ (z : ℕ). Allows (Rule k) slots seat.id (seen seat.me) z (λ n. n) (look_stop_told_all c.args.queue (step slots z 0 0 none) (seen seat.me))) (sym c.stop_word-word.ensures.keyed)
           (looks_stop_sole k slots seat.id (seen seat.me) c.args.queue c.requires.at c.requires.seat.1),
     )

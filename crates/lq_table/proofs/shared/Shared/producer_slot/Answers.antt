@@ -10,7 +10,7 @@ use Rattle.lq_table.specs.Views.{machine_packet}
 use Rattle.lq_table.specs.Rule.{Rule, slot_word}
 use Rattle.lq_table.specs.Keyed.{keyed_setup}
 use Rattle.lq_table.proofs.ByName.{slot_within}
-use Rattle.lq_table.specs.SolePut.{slot_seen_all}
+use Rattle.lq_table.specs.Producers.{producer_slot_told_all}
 use Rattle.lq_table.proofs.PutSole.{sees_slot_sole}
 use Rattle.lq_log.specs.Made.{seen}
 use Rattle.lq_table.proofs.shared.Shared.producer_slot.Goals as goal
@@ -29,6 +29,6 @@ load-requires g c =
     let position : seat.me.0.view.place.position ≡ Put (machine_packet k.infos n) p.1 = p.2 ∙ ap (λ (xs : List Info). Put (machine_packet xs n) p.1) (sym t.same.0) in (
       c.requires.seat.0,
       word,
-      subst (λ (z : ℕ × ℕ). Allows (Rule k) slots seat.id (seen seat.me) z.0 (λ x. x) (slot_seen_all b z.1 (step slots z.0 0 0 none) (seen seat.me))) (λ j. (place j, sym fresh j))
+      subst (λ (z : ℕ × ℕ). Allows (Rule k) slots seat.id (seen seat.me) z.0 (λ x. x) (producer_slot_told_all b z.1 (step slots z.0 0 0 none) (seen seat.me))) (λ j. (place j, sym fresh j))
           (sees_slot_sole k slots seat.id (seen seat.me) b i n p.1 c.requires.band inside position lock.0.0 lock.1 is p.3.0 p.4 of_band c.requires.seat.1 few lock.0.3),
     )

@@ -1,6 +1,6 @@
 use Rattle.std.specs.Option.{unwrap_or}
-use Rattle.lq_table.specs.SolePut.{slot_seen_all}
+use Rattle.lq_table.specs.Producers.{producer_slot_told_all}
 use Rattle.lq_table.proofs.shared.Shared.producer_slot.Given as goal
 
 abbrev pub ghosts-load : goal.ghosts-load
-ghosts-load g a = record { told = slot_seen_all a._about.now (unwrap_or a.seat.now.me.0.view.packets.fresh 0) }
+ghosts-load g a = record { told = producer_slot_told_all a._about.now (unwrap_or a.seat.now.me.0.view.packets.fresh 0) }

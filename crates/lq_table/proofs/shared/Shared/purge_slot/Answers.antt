@@ -5,18 +5,18 @@ use Rattle.atomic_table.specs.Table.{step, Allows}
 use Rattle.lq_table.specs.Rule.{Rule, slot_word}
 use Rattle.lq_table.specs.Keyed.{keyed_setup}
 use Rattle.lq_table.proofs.ByName.{slot_within}
-use Rattle.lq_table.proofs.PurgeTakes.{purge_sees}
+use Rattle.lq_table.proofs.PurgeSlotKept.{purge_sees}
 use Rattle.lq_log.specs.Made.{seen}
 use Rattle.std.specs.Prelude.{is_some}
 use Rattle.std.specs.Option.{unwrap_or}
 use Rattle.std.proofs.lemmas.Bool.{false≢true}
 use Rattle.lq_model.specs.Machine.{Purge}
 use Rattle.lq_table.specs.Views.{Left, no_left}
-use Rattle.lq_table.specs.Purges.{purge_seen, first_purge, passing_band, taking_purged}
+use Rattle.lq_table.specs.Purges.{purge_slot_told, first_purge, purge_slot_view_empty, purge_slot_view}
 use Rattle.lq_model.specs.Band.{held_of}
 use Rattle.lq_band_laws.specs.Three.{at}
-use Rattle.lq_table.specs.Told.{Sat}
-use Rattle.lq_table.specs.Made.{did_load_slot}
+use Rattle.lq_table.specs.Moves.{Sat}
+use Rattle.lq_table.specs.Producers.{load_slot_log}
 use Rattle.lq_table.specs.Sees.{view, setup, steps, ends_at}
 use Rattle.lq_table.proofs.CodeReads.{head_read}
 use Rattle.lq_table.proofs.shared.Shared.purge_slot.Goals as goal
@@ -32,7 +32,7 @@ load-requires g c =
     let few : length k.infos ≤ 1000000 = subst (λ (xs : List Info). length xs ≤ 1000000) (sym t.same.0) t.sized.2 in (
       c.requires.seat.0,
       word,
-      subst (λ (z : ℕ × Purge × Left). Allows (Rule k) slots seat.id (seen seat.me) z.0 (λ x. x) (purge_seen b z.1 z.2 (step slots z.0 0 0 none) (seen seat.me))) (λ j. (place j, sym purge j, sym left j))
+      subst (λ (z : ℕ × Purge × Left). Allows (Rule k) slots seat.id (seen seat.me) z.0 (λ x. x) (purge_slot_told b z.1 z.2 (step slots z.0 0 0 none) (seen seat.me))) (λ j. (place j, sym purge j, sym left j))
           (purge_sees k slots seat.id (seen seat.me) b i at.0 at.1 c.requires.band inside few at.2 at.3 at.4 at.5 c.requires.packets.0 c.requires.packets.1 c.requires.rests.0 c.requires.rests.1 head c.requires.seat.1),
     )
 
@@ -43,15 +43,15 @@ pub returns-clause-made : goal.returns-clause-made
 returns-clause-made g c =
     let t = c.args.self.now in let old = c.args.cpu.now in let found = c.load.result in
     let head = head_read old.station c.in-Some.station c.args.band c.head-head.result (ends_at c.args.band old).head c.in-Some.is c.head-head.ensures c.requires.station.1 in
-    let made : c.load.new.seat.me.0.steps ≡ did_load_slot (setup t) c.args.band c.head-head.result found ∷ steps old = search rules in
-    made ∙ ap (λ (i : ℕ). did_load_slot (setup t) c.args.band i found ∷ steps old) head
+    let made : c.load.new.seat.me.0.steps ≡ load_slot_log (setup t) c.args.band c.head-head.result found ∷ steps old = search rules in
+    made ∙ ap (λ (i : ℕ). load_slot_log (setup t) c.args.band i found ∷ steps old) head
 
 pub returns-clause-none : goal.returns-clause-none
 returns-clause-none g c = λ u l purge left zero_.
     let old = c.args.cpu.now in let t = c.load.ensures.2.told.0 zero_ in
-    subst (λ (x : Purge × Left). (held_of (at c.args.band x.1.bands) ≡ []) × (c.load.new.seat.me.0.view ≡ passing_band x.0 (view old))) (λ j. (unwrap_or (purge j) first_purge, unwrap_or (left j) no_left)) (t.0, ap (λ (m : Sat). m.0) t.1)
+    subst (λ (x : Purge × Left). (held_of (at c.args.band x.1.bands) ≡ []) × (c.load.new.seat.me.0.view ≡ purge_slot_view_empty x.0 (view old))) (λ j. (unwrap_or (purge j) first_purge, unwrap_or (left j) no_left)) (t.0, ap (λ (m : Sat). m.0) t.1)
 
 pub returns-clause-taken : goal.returns-clause-taken
 returns-clause-taken g c = λ l left some.
     let old = c.args.cpu.now in let t = c.load.ensures.2.told.1 some in
-    let n = c.load.result - 1 in subst (λ (x : Left). (slice_get (held_of (at c.args.band x.bands)) 0 ≡ Some n) × (c.load.new.seat.me.0.view ≡ taking_purged c.args.band n x (view old))) (ap (λ (x : Option Left). unwrap_or x no_left) left) (t.0, ap (λ (m : Sat). m.0) t.1)
+    let n = c.load.result - 1 in subst (λ (x : Left). (slice_get (held_of (at c.args.band x.bands)) 0 ≡ Some n) × (c.load.new.seat.me.0.view ≡ purge_slot_view c.args.band n x (view old))) (ap (λ (x : Option Left). unwrap_or x no_left) left) (t.0, ap (λ (m : Sat). m.0) t.1)

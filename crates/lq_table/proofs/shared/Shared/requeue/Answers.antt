@@ -1,5 +1,5 @@
 use Rattle.std.proofs.Common.{arith}
-use Rattle.lq_table.proofs.HolderKept.{requeues}
+use Rattle.lq_table.proofs.StoreXoffKept.{requeues}
 use Rattle.lq_table.proofs.shared.Shared.requeue.Goals as goal
 
 pub fetch_or-requires : goal.fetch_or-requires

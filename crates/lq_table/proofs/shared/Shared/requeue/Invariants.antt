@@ -1,8 +1,8 @@
 use Rattle.std.specs.Option.{unwrap_or}
 use Rattle.lq_device.specs.Station.{with_slot}
-use Rattle.lq_table.specs.Told.{requeued}
+use Rattle.lq_table.specs.States.{requeue_told}
 use Rattle.lq_table.specs.Views.{no_station}
 use Rattle.lq_table.proofs.shared.Shared.requeue.Given as goal
 
 abbrev pub ghosts-fetch_or : goal.ghosts-fetch_or
-ghosts-fetch_or g a = record { told = requeued (with_slot (unwrap_or a._about.now no_station) a.seat.now.me.0.view.holder.slot) }
+ghosts-fetch_or g a = record { told = requeue_told (with_slot (unwrap_or a._about.now no_station) a.seat.now.me.0.view.holder.slot) }

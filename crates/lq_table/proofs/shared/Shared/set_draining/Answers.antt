@@ -1,6 +1,6 @@
 use Rattle.std.proofs.Common.{arith, ap, ◌∙◌}
 use Rattle.lq_table.specs.Solo.{solo}
-use Rattle.lq_table.proofs.QuietKept.{sets_draining_all}
+use Rattle.lq_table.proofs.StatesKept.{sets_draining_all}
 use Rattle.lq_table.proofs.SoloSteps.{sets_draining_solo}
 use Rattle.lq_table.proofs.shared.Shared.set_draining.Goals as goal
 

@@ -5,8 +5,8 @@ use Rattle.lq_model.specs.Plan.{band_in}
 use Rattle.atomic_table.specs.Table.{step, Allows}
 use Rattle.lq_table.specs.Rule.{Rule, fates_offset}
 use Rattle.lq_table.specs.Keyed.{keyed_setup}
-use Rattle.lq_table.specs.Told.{Sat}
-use Rattle.lq_table.specs.Settled.{MaySettle, fated, fate_stored}
+use Rattle.lq_table.specs.Moves.{Sat}
+use Rattle.lq_table.specs.Fates.{MaySettle, settle_view, settle_told}
 use Rattle.lq_table.specs.Sees.{view, carried}
 use Rattle.lq_table.specs.Solo.{solo}
 use Rattle.lq_table.proofs.SoloSteps.{fates_solo}
@@ -24,14 +24,14 @@ store-requires g c =
     let may = subst (λ (xs : List Info). MaySettle (band_in xs n) n f st seat.me.0.view) (sym t.same.0) c.requires.may in (
       c.requires.seat.0,
       word,
-      subst (λ (z : ℕ × ℕ). Allows (Rule k) slots seat.id (seen seat.me) z.0 (λ _. z.1) (λ _. fate_stored st b n f (step slots z.0 z.1 0 none) (seen seat.me) z.1)) (λ j. (place j, sym c.fate_word.ensures.word j))
+      subst (λ (z : ℕ × ℕ). Allows (Rule k) slots seat.id (seen seat.me) z.0 (λ _. z.1) (λ _. settle_told st b n f (step slots z.0 z.1 0 none) (seen seat.me) z.1)) (λ j. (place j, sym c.fate_word.ensures.word j))
           (settles_fate k slots seat.id st (seen seat.me) b n f inside c.requires.packet.1 c.requires.seat.1 may),
     )
 
 pub returns-clause-settled : goal.returns-clause-settled
 returns-clause-settled g c =
     let old = c.args.cpu.now in
-    ap (λ (m : Sat). m.0) c.store.ensures.2.told ∙ ap (λ (xs : List Info). fated (carried old) (band_in xs c.args.n) c.args.n c.args.fate (view old)) c.args.self.now.same.0
+    ap (λ (m : Sat). m.0) c.store.ensures.2.told ∙ ap (λ (xs : List Info). settle_view (carried old) (band_in xs c.args.n) c.args.n c.args.fate (view old)) c.args.self.now.same.0
 
 pub returns-clause-step : goal.returns-clause-step
 returns-clause-step g c = let old = c.args.cpu.now in

@@ -1,7 +1,7 @@
 use Rattle.std.specs.Option.{unwrap_or}
-use Rattle.lq_table.specs.Resizes.{size_stored}
+use Rattle.lq_table.specs.Resizes.{store_size_told}
 use Rattle.lq_table.specs.Views.{no_resizing}
 use Rattle.lq_table.proofs.shared.Shared.store_size.Given as goal
 
 abbrev pub ghosts-store : goal.ghosts-store
-ghosts-store g a = record { told = size_stored (unwrap_or a.seat.now.me.0.view.holder.resizing no_resizing) }
+ghosts-store g a = record { told = store_size_told (unwrap_or a.seat.now.me.0.view.holder.resizing no_resizing) }

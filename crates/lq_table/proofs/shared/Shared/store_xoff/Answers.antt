@@ -4,11 +4,11 @@ use Rattle.atomic_table.specs.Table.{step, Allows}
 use Rattle.lq_table.specs.Rule.{Rule}
 use Rattle.lq_table.specs.Keyed.{keyed_setup}
 use Rattle.lq_model.specs.Account.{Stop}
-use Rattle.lq_table.specs.Told.{stored_stop}
+use Rattle.lq_table.specs.Stops.{store_xoff_told}
 use Rattle.lq_table.specs.Solo.{solo, heard}
 use Rattle.lq_table.proofs.SoloSteps.{stores_solo}
 use Rattle.lq_table.proofs.ByName.{xoff_in}
-use Rattle.lq_table.proofs.HolderKept.{stores_xoff}
+use Rattle.lq_table.proofs.StoreXoffKept.{stores_xoff}
 use Rattle.lq_log.specs.Made.{seen}
 use Rattle.lq_table.proofs.shared.Shared.store_xoff.Goals as goal
 
@@ -18,7 +18,7 @@ store-requires g c =
     let e = t.same.5 in let below : c.args.queue < k.queues = (let b = c.requires.queue in omega arith) in (
       c.requires.seat.0,
       (let wide = t.sized.0 in let b = xoff_in k c.args.queue below in let w = c.stop_word-word.ensures.keyed in let s = t.same.1 in let m = t.same.2 in let l = ap Rattle.std.proofs.Common.length t.same.0 in omega arith),
-      subst (λ (z : ℕ × ℕ). Allows (Rule k) slots seat.id (seen seat.me) z.0 (λ _. z.1) (stored_stop (step slots z.0 z.1 0 none) (seen seat.me))) (λ j. (sym c.stop_word-word.ensures.keyed j, sym at.3 j))
+      subst (λ (z : ℕ × ℕ). Allows (Rule k) slots seat.id (seen seat.me) z.0 (λ _. z.1) (store_xoff_told (step slots z.0 z.1 0 none) (seen seat.me))) (λ j. (sym c.stop_word-word.ensures.keyed j, sym at.3 j))
           (stores_xoff k slots seat.id c.args.queue (seen seat.me) at.0 at.1 below at.2 at.4 c.requires.seat.1),
     )
 

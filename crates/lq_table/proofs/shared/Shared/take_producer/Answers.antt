@@ -7,8 +7,8 @@ use Rattle.lq_table.specs.Keyed.{keyed_setup}
 use mathlib.Core.Logic.{dite}
 use native.Mathlib.Decide.{ℕ_discrete}
 use Rattle.lq_table.specs.Marks.{marks_of}
-use Rattle.lq_table.specs.Told.{Sat}
-use Rattle.lq_table.specs.SolePut.{got_producer_all}
+use Rattle.lq_table.specs.Moves.{Sat}
+use Rattle.lq_table.specs.Producers.{take_producer_told_all}
 use Rattle.lq_table.proofs.ProducerSole.{gets_producer_sole}
 use prog.Atomic.{either}
 use Rattle.std.proofs.Common.{eqb}
@@ -28,7 +28,7 @@ compare_exchange-found-requires g c =
     let word : c.producer_word-word.result < t.table.kit.shared.table_id.words = let wide = t.sized.0 in let small = c.requires.band in let p = place in omega arith in (
       c.requires.seat.0,
       word,
-      subst (λ (z : ℕ × ℕ). Allows (Rule k) slots seat.id (seen seat.me) z.0 (λ x. either (eqb x z.1) (z.1 + 1) x) (got_producer_all b (seen_ / 2) k.max_len (step slots z.0 z.1 (z.1 + 1) none) (seen seat.me)))
+      subst (λ (z : ℕ × ℕ). Allows (Rule k) slots seat.id (seen seat.me) z.0 (λ x. either (eqb x z.1) (z.1 + 1) x) (take_producer_told_all b (seen_ / 2) k.max_len (step slots z.0 z.1 (z.1 + 1) none) (seen seat.me)))
           (λ j. (place j, sym (twice seen_ c.requires.even) j)) (gets_producer_sole k slots seat.id (seen seat.me) b c.requires.band c.requires.seat.1 (seen_ / 2) c.requires.idle),
     )
 

@@ -1,7 +1,7 @@
 use Rattle.std.specs.Prelude.{◌/◌}
 use Rattle.lq_table.specs.Keyed.{keyed_setup}
-use Rattle.lq_table.specs.SolePut.{got_producer_all}
+use Rattle.lq_table.specs.Producers.{take_producer_told_all}
 use Rattle.lq_table.proofs.shared.Shared.take_producer.Given as goal
 
 abbrev pub ghosts-compare_exchange : goal.ghosts-compare_exchange
-ghosts-compare_exchange g a = let k = keyed_setup a.self.now.kit.shared.key in record { told = got_producer_all a._about.now (a.old / 2) k.max_len }
+ghosts-compare_exchange g a = let k = keyed_setup a.self.now.kit.shared.key in record { told = take_producer_told_all a._about.now (a.old / 2) k.max_len }

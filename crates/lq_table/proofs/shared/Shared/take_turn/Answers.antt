@@ -1,8 +1,7 @@
 use Rattle.std.proofs.Common.{ℕ, ◌*◌, ◌<◌, subst, ◌∷◌, refl, sym, ap, ◌∙◌, slice_index, eq-eqb, ne_eqb}
-use Rattle.lq_table.specs.Made.{did_take_turn}
+use Rattle.lq_table.specs.Turns.{take_turn_log, take_turn_view}
 use Rattle.lq_table.specs.Rule.{times}
 use Rattle.lq_table.specs.Sees.{view, steps}
-use Rattle.lq_table.specs.Told.{bringing}
 use Rattle.lq_table.proofs.CodeReads.{no_info, owner_read, rank_read}
 use Rattle.lq_table.proofs.shared.Shared.take_turn.Goals as goal
 
@@ -11,8 +10,8 @@ returns-then-found-rank g c =
     let infos = c.args.self.now.infos.now in let n = c.args.n in let v = view c.args.cpu.now in let t = c.take_turn_at-found.ensures in let is = c.if-found-rank.true in
     let owner = owner_read infos n no_info c.requires.packet.0 in let rank = rank_read infos n no_info c.requires.packet.0 in record {
       same = ((t.same.0, t.same.1), refl, refl, t.same.2);
-      turn = (sym (t.found ∙ ap (slice_index v.turns) owner) ∙ (is ∙ ap (λ (r : ℕ). 2 * r) rank), t.taken is ∙ (λ j. bringing n (owner j) (rank j) v));
-      made = t.made ∙ (λ j. did_take_turn (owner j) (rank j) (eq-eqb _ _ is j) ∷ steps c.args.cpu.now);
+      turn = (sym (t.found ∙ ap (slice_index v.turns) owner) ∙ (is ∙ ap (λ (r : ℕ). 2 * r) rank), t.taken is ∙ (λ j. take_turn_view n (owner j) (rank j) v));
+      made = t.made ∙ (λ j. take_turn_log (owner j) (rank j) (eq-eqb _ _ is j) ∷ steps c.args.cpu.now);
     }
 
 pub returns-else-found-rank : goal.returns-else-found-rank
@@ -21,7 +20,7 @@ returns-else-found-rank g c =
     let owner = owner_read infos n no_info c.requires.packet.0 in let rank = rank_read infos n no_info c.requires.packet.0 in record {
       same = ((t.same.0, t.same.1), refl, refl, t.same.2);
       turn = (t.found ∙ ap (slice_index v.turns) owner, λ is. apart (is ∙ ap (λ (r : ℕ). 2 * r) (sym rank)), t.other apart);
-      made = t.made ∙ (λ j. did_take_turn (owner j) (rank j) (ne_eqb _ _ apart j) ∷ steps c.args.cpu.now);
+      made = t.made ∙ (λ j. take_turn_log (owner j) (rank j) (ne_eqb _ _ apart j) ∷ steps c.args.cpu.now);
     }
 
 pub take_turn_at-found-requires-clause-packet : goal.take_turn_at-found-requires-clause-packet

@@ -7,7 +7,7 @@ use Rattle.atomic_table.specs.Table.{step, Allows}
 use Rattle.lq_table.specs.Places.{turn_place}
 use Rattle.lq_table.specs.Rule.{Rule, times}
 use Rattle.lq_table.specs.Keyed.{keyed_setup}
-use Rattle.lq_table.specs.Told.{turn_taken}
+use Rattle.lq_table.specs.Turns.{take_turn_told}
 use Rattle.lq_table.proofs.TurnsKept.{takes_turn}
 use Rattle.lq_log.specs.Made.{seen}
 use Rattle.lq_table.proofs.shared.Shared.take_turn_at.Goals as goal
@@ -22,6 +22,6 @@ compare_exchange-found-requires g c =
     let mine : 0 < times (owner_in k.infos n) seat.me.0.view.share.owners = subst (λ (x : ℕ). 0 < times x seat.me.0.view.share.owners) owner c.requires.owner.0 in (
       c.requires.seat.0,
       (let wide = t.sized.0 in let small = c.requires.owner.1 in let q = c.turn_word-word.ensures in let x : c.turn_word-word.result < t.table.kit.shared.table_id.words = omega arith in x),
-      subst (λ (z : ℕ × ℕ × ℕ). Allows (Rule k) slots seat.id (seen seat.me) z.2 (λ x. either (eqb x (2 * z.1)) (2 * z.1 + 1) x) (turn_taken n z.0 z.1 (step slots z.2 (2 * z.1) (2 * z.1 + 1) none) (seen seat.me)))
+      subst (λ (z : ℕ × ℕ × ℕ). Allows (Rule k) slots seat.id (seen seat.me) z.2 (λ x. either (eqb x (2 * z.1)) (2 * z.1 + 1) x) (take_turn_told n z.0 z.1 (step slots z.2 (2 * z.1) (2 * z.1 + 1) none) (seen seat.me)))
           (λ j. (sym owner j, sym rank j, (ap turn_place (sym owner) ∙ sym c.turn_word-word.ensures) j)) (takes_turn k slots seat.id (seen seat.me) n inside here mine c.requires.idle c.requires.seat.1),
     )

@@ -2,12 +2,12 @@ use Rattle.std.proofs.Common.{◌≡◌, ℕ, ◌<◌, arith, eq-eqb, eqb-true, 
 use mathlib.Core.Logic.{dite}
 use native.Mathlib.Decide.{ℕ_discrete}
 use Rattle.lq_table.specs.Marks.{marks_of}
-use Rattle.lq_table.specs.Told.{Sat}
+use Rattle.lq_table.specs.Moves.{Sat}
 use prog.Atomic.{either}
 use Rattle.atomic_table.specs.Table.{step, Allows}
 use Rattle.lq_table.specs.Rule.{Rule}
 use Rattle.lq_table.specs.Keyed.{keyed_setup}
-use Rattle.lq_table.specs.Solo.{woken_all}
+use Rattle.lq_table.specs.Stops.{wake_told_all}
 use Rattle.lq_table.proofs.SoleKept.{wakes_sole}
 use Rattle.lq_table.proofs.ByName.{xoff_in}
 use mathlib.Core.Option.{none}
@@ -20,7 +20,7 @@ compare_exchange-found-requires g c =
     let e : k.queues ≡ t.queues = t.same.5 in let below : c.args.queue < k.queues = (let b = c.requires.queue in omega arith) in (
       c.requires.seat.0,
       (let wide = t.sized.0 in let b = xoff_in k c.args.queue below in let w = c.stop_word-word.ensures.keyed in let s = t.same.1 in let m = t.same.2 in let l = ap Rattle.std.proofs.Common.length t.same.0 in omega arith),
-      subst (λ (z : ℕ). Allows (Rule k) slots seat.id (seen seat.me) z (λ n. either (eqb n 1) 0 n) (woken_all c.args.queue (step slots z 1 0 none) (seen seat.me))) (sym c.stop_word-word.ensures.keyed)
+      subst (λ (z : ℕ). Allows (Rule k) slots seat.id (seen seat.me) z (λ n. either (eqb n 1) 0 n) (wake_told_all c.args.queue (step slots z 1 0 none) (seen seat.me))) (sym c.stop_word-word.ensures.keyed)
           (wakes_sole k slots seat.id (seen seat.me) c.args.queue below c.requires.at c.requires.seat.1),
     )
 
