@@ -118,6 +118,10 @@ all_purged b k u0 l v u w p none_left is =
       all,
     )
 
+-- the band's ends after one packet
+pub ends_after : (b n : ℕ) (l : Left) (v w : View) → w ≡ purging_one b n l v → at b w.holder.ends ≡ after_take v.holder.size (at b v.holder.ends)
+ends_after b n l v w is = let own : Ends = at b v.holder.ends in ap (λ (x : View). at b x.holder.ends) is ∙ at_put_same b (after_take v.holder.size own) (put b (taken_on own) v.holder.ends)
+
 -- the station as the holder knows it
 pub purged_station : (b n : ℕ) (l : Left) (v w : View) (st : Option StationState) → b < 3 → w ≡ purging_one b n l v
     → st ≡ Some (with_ends (shown v.holder) b (at b w.holder.ends).head (at b w.holder.ends).tail) → st ≡ Some (shown w.holder)

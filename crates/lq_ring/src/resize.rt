@@ -20,7 +20,7 @@ use std::sync::Wait;
 struct Turned {
     /// Where the next packet is put.
     index: u32,
-    /// How many packets got Shrunk as their fate.
+    /// How many packets were dropped.
     dropped: u32,
 }
 

@@ -32,7 +32,7 @@ pub(crate) struct Ends {
 pub(crate) struct Kept {
     /// How many packets it keeps.
     pub kept: u32,
-    /// How many get Shrunk as their fate.
+    /// How many it drops.
     pub dropped: u32,
 }
 

@@ -1,6 +1,6 @@
 -- The plan's events in order.
-use Rattle.std.proofs.Common.{◌≡◌, ℕ, zero, suc, ◌+◌, ◌<◌, ◌≤◌, ◌||◌, Bool, true, false, List, [], ◌∷◌, inl, inr, map, take, filter, Option, Some, None, is_none, refl, sym, ap, ◌∙◌, subst, cond, slice_get, nat_le, nat_lt, arith}
-use Rattle.std.proofs.lemmas.Option.{same_Some}
+use Rattle.std.proofs.Common.{◌≡◌, ℕ, zero, suc, ◌+◌, ◌<◌, ◌≤◌, ◌||◌, Bool, true, false, List, [], ◌∷◌, inl, inr, length, map, take, filter, Option, Some, None, is_none, refl, sym, ap, ◌∙◌, subst, cond, slice_get, nat_le, nat_lt, arith}
+use Rattle.std.proofs.lemmas.Option.{same_Some, slice_get_within}
 use Rattle.std.proofs.lemmas.Bool.{le-leb}
 use Rattle.std.proofs.lemmas.Bool.Decides.{leb_tells}
 use Rattle.lq_model.specs.Account.{Event}
@@ -14,7 +14,7 @@ use Rattle.lq_plan.specs.Limits.{falls_below, active_after, is_misplaced, kinds_
 use Rattle.lq_account_laws.specs.Controls.{planned_controls, with_control}
 use Rattle.lq_account_laws.specs.Trail.{down_of}
 use Rattle.lq_seat.specs.Calls.{MayDoEvent}
-use Rattle.lq_senders.specs.Way.{down_after_events, IsSplitAt}
+use Rattle.lq_senders.specs.Way.{down_after_events, IsSplitAt, StandAfter}
 use Rattle.lq_senders.proofs.Units.{event-more}
 
 not-le : (m n : ℕ) → n < m → nat_le m n ≡ false
@@ -208,3 +208,10 @@ ascending last (x ∷ xs) (suc i) (suc k) early late ok le first second = ascend
 pub in-order : (plan : Plan) (i k : ℕ) (early late : EventPlan) → is_out_of_order plan.events ≡ false → i ≤ k → slice_get plan.events i ≡ Some early → slice_get plan.events k ≡ Some late
     → early.before ≤ late.before
 in-order plan i k early late order le first second = ascending 0 plan.events i k early late (or-false _ _ order).0 le first second
+
+-- where no event is left, or the next one stands after packet n, all that are left do
+pub none-after : (plan : Plan) (next n : ℕ) → length plan.events ≤ next → StandAfter plan next n
+none-after plan next n past k event above there = let within = slice_get_within plan.events k event there in absurd (omega arith)
+
+pub all-after : (plan : Plan) (next n : ℕ) (first : EventPlan) → is_out_of_order plan.events ≡ false → slice_get plan.events next ≡ Some first → n < first.before → StandAfter plan next n
+all-after plan next n first order at later k event above there = let le = in-order plan next k first event order above at there in omega arith

@@ -152,7 +152,13 @@ fn has_events_before(plan: &Plan, owner: u32, next: u32, n: u32) -> bool
     ensures left { result ≡ false → owner ≡ 0 → StandAfter plan.now next n }
 {
     plan.stays_within_limits();
-    owner == 0 && next < plan.events() && plan.event(next).before <= n
+    if owner != 0 {
+        return false;
+    }
+    if next >= plan.events() {
+        return false;
+    }
+    plan.event(next).before <= n
 }
 
 /// Does the events that stand before packet `n`, if this is the first sender. For most packets there is none, and nothing is called.

@@ -30,7 +30,7 @@ abbrev pub HasTurn : ℕ → View → Type 0
 HasTurn n v = (is_live v ≡ true) × (v.packets.busy ≡ Some n)
 
 -- some seat has the turn of the owner's packet of this rank
-pub record IsTurnOf (k : Setup) (o r : ℕ) (views : List View) : Type 0 where
+pub record IsTakenTurn (k : Setup) (o r : ℕ) (views : List View) : Type 0 where
   pub id : ℕ
   pub view : View
   pub packet : ℕ
@@ -44,7 +44,7 @@ pub record IsTurnOf (k : Setup) (o r : ℕ) (views : List View) : Type 0 where
 -- wasn't taken was not.
 pub record AreTurns (k : Setup) (words : List ℕ) (views : List View) (past : List Event) : Type 0 where
   pub even : (o r : ℕ) → o < k.senders → slice_index words o ≡ 2 * r → Each (λ v. IsTransmitting o v → ⊥) views
-  pub odd : (o r : ℕ) → o < k.senders → slice_index words o ≡ 2 * r + 1 → IsTurnOf k o r views
+  pub odd : (o r : ℕ) → o < k.senders → slice_index words o ≡ 2 * r + 1 → IsTakenTurn k o r views
   pub own : (p : Packet) → Each (λ v. is_live v ≡ true → own_packet v.place.position ≡ Some p → (n : ℕ) × (v.packets.busy ≡ Some n) × (p ≡ machine_packet k.infos n)) views
   pub over : (n : ℕ) → n < length k.infos → station_in k.infos n ≡ k.station → 2 * rank_in k.infos n + 2 ≤ slice_index words (owner_in k.infos n) → Contains (brought_by past) n
   pub later : (n : ℕ) → slice_index words (owner_in k.infos n) ≤ 2 * rank_in k.infos n → Contains (brought_by past) n → ⊥

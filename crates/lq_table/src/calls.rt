@@ -2,7 +2,7 @@
 ghost use Rattle.std.specs.Prelude.{◌≡◌, ◌<◌, true, is_some, ◌∷◌};
 ghost use Rattle.lq_model.specs.declared.machine.Position.TheVariants.{Leave as AtLeave};
 ghost use Rattle.lq_table.specs.Marks.{marks_of};
-ghost use Rattle.lq_table.specs.Sees.{view, position, IsSeatOf, IsElseSame, steps, ComesToKnow};
+ghost use Rattle.lq_table.specs.Sees.{view, position, IsSeatOf, IsElseSame, steps, ComesToKnow, IsMarkedSeatOf};
 ghost use Rattle.lq_table.specs.Moves.{at_rest, pass_view};
 ghost use Rattle.lq_table.specs.Inside.{bringing_packet, enter_view, MayEnter, enter_alone, enter_log, leave_log};
 ghost use Rattle.lq_table.specs.Solo.{solo};
@@ -18,10 +18,9 @@ use std::marker::Brand;
 
 impl<'a, D: TxDevice> Shared<'a, D> {
     fn enter_seat(&self, seat: &mut Seat<Option<Station<D>>, Knows<Knowledge>>, marks: &mut Marks)
-        requires seat { (seat.old.table_id ≡ self.now.table.kit.shared.table_id) × (0 < seat.old.me.0.view.share.shares) }
+        requires seat { IsMarkedSeatOf self.now seat.old marks.old }
         requires at { at_rest seat.old.me.0.view.place.position ≡ true }
         requires call { MayEnter seat.old.me.0.view }
-        requires told { marks.old ≡ marks_of seat.old.me.0.view }
         ensures seat { ComesToKnow (enter_view seat.old.me.0.view) seat.old seat.new }
         ensures told { marks.new ≡ marks_of seat.new.me.0.view }
         ensures made { seat.new.me.0.steps ≡ enter_log ∷ seat.old.me.0.steps }

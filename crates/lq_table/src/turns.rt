@@ -5,7 +5,7 @@ ghost use Rattle.lq_band_laws.specs.Ring.{unlocked};
 ghost use Rattle.lq_band_laws.specs.Three.{all_three};
 ghost use Rattle.lq_table.specs.Rule.{times};
 ghost use Rattle.lq_table.specs.Marks.{marks_of};
-ghost use Rattle.lq_table.specs.Sees.{view, position, IsSeatOf, IsElseSame, steps, packet_owner, packet_rank};
+ghost use Rattle.lq_table.specs.Sees.{view, position, IsSeatOf, IsElseSame, steps, packet_owner, packet_rank, IsMarkedSeatOf};
 ghost use Rattle.lq_table.specs.Turns.{FindsTurnWord, IsRankedPacket, TakesTurn, take_turn_view, give_turn_view, give_turn_log, load_turn_log, take_turn_log};
 ghost use Rattle.lq_table.specs.Moves.{at_rest};
 
@@ -27,11 +27,9 @@ impl<'a, D: TxDevice> Shared<'a, D> {
         owner: u32,
         rank: u32,
     ) -> u64
-        requires seat { (seat.old.table_id ≡ self.now.table.kit.shared.table_id) × (0 < seat.old.me.0.view.share.shares) }
+        requires seat { IsMarkedSeatOf self.now seat.old marks.old }
         requires packet { IsRankedPacket self.now n owner rank }
-        requires owner { (0 < times owner seat.old.me.0.view.share.owners) × (owner < self.now.senders) }
-        requires idle { seat.old.me.0.view.packets.busy ≡ None }
-        requires told { marks.old ≡ marks_of seat.old.me.0.view }
+        requires owner { (0 < times owner seat.old.me.0.view.share.owners) × (owner < self.now.senders) × (seat.old.me.0.view.packets.busy ≡ None) }
         ensures same { (seat.new.table_id ≡ seat.old.table_id) × (seat.new.id ≡ seat.old.id) × (seat.new.me.1 ≡ seat.old.me.1) }
         ensures found { result ≡ slice_index seat.old.me.0.view.turns owner }
         ensures taken { result ≡ 2 * rank → seat.new.me.0.view ≡ take_turn_view n owner rank seat.old.me.0.view }
@@ -78,11 +76,9 @@ impl<'a, D: TxDevice> Shared<'a, D> {
         owner: u32,
         rank: u32,
     )
-        requires seat { (seat.old.table_id ≡ self.now.table.kit.shared.table_id) × (0 < seat.old.me.0.view.share.shares) }
+        requires seat { IsMarkedSeatOf self.now seat.old marks.old }
         requires packet { (owner ≡ packet_owner self.now n) × (rank ≡ packet_rank self.now n) × (owner < self.now.senders) }
-        requires busy { (seat.old.me.0.view.packets.busy ≡ Some n) × (seat.old.me.0.view.packets.fresh ≡ None) }
-        requires rests { at_rest seat.old.me.0.view.place.position ≡ true }
-        requires told { marks.old ≡ marks_of seat.old.me.0.view }
+        requires busy { (seat.old.me.0.view.packets.busy ≡ Some n) × (seat.old.me.0.view.packets.fresh ≡ None) × (at_rest seat.old.me.0.view.place.position ≡ true) }
         ensures same { (seat.new.table_id ≡ seat.old.table_id) × (seat.new.id ≡ seat.old.id) × (seat.new.me.1 ≡ seat.old.me.1) }
         ensures given { seat.new.me.0.view ≡ give_turn_view owner rank seat.old.me.0.view }
         ensures told { marks.new ≡ marks_of seat.new.me.0.view }

@@ -3,7 +3,6 @@ use Rattle.lq_model.specs.Positions.{holds_lock}
 use Rattle.lq_model.specs.Band.{held_of}
 use Rattle.lq_band_laws.specs.Three.{at}
 use Rattle.lq_band_laws.specs.Ring.{Ends, after_take}
-use Rattle.lq_band_laws.proofs.Three.{at_put_same}
 use Rattle.lq_table.specs.Views.{View, Left}
 use Rattle.lq_table.specs.Rule.{shown, IsResting}
 use Rattle.lq_table.specs.Sees.{view, setup, steps}
@@ -14,7 +13,7 @@ use Rattle.lq_ring.specs.Changes.{PurgesEach, none_yet, one_more, purging_steps}
 use Rattle.lq_ring.specs.Purged.{purged_by, IsPurgedTo}
 use Rattle.lq_ring.proofs.Seats.{seat_on}
 use Rattle.lq_ring.proofs.TakeSteps.{sized_none, rest_at, rest_put}
-use Rattle.lq_ring.proofs.PurgeSteps.{none_purged, next_purged, all_purged, still_held, taken_next_of, taken_all}
+use Rattle.lq_ring.proofs.PurgeSteps.{none_purged, next_purged, all_purged, still_held, taken_next_of, taken_all, ends_after}
 use Rattle.lq_ring.proofs.purges.purge_band.Goals as goal
 
 pub loop-n-init : goal.loop-n-init
@@ -62,12 +61,11 @@ loop-n-preserved g c =
       purged = next;
       made = λ l left.
           let p = i.purged l left in let t = c.purge_one.ensures.taken c.if-not-purge_one.false (purged_by b k l) (ap (λ (x : View). x.holder.left) p.is) in let held : List ℕ = held_of (at b l.bands) in
-          let here : at b (view c.loop-n.cpu).holder.ends ≡ p.ends = ap (λ (x : View). at b x.holder.ends) p.is ∙ at_put_same b p.ends v.holder.ends in
           let made_ = c.purge_one.ensures.made.first c.if-not-purge_one.false (purged_by b k l) t.0 (ap (λ (x : View). x.holder.left) p.is) t.1 in
           let size : (view c.loop-n.cpu).holder.size ≡ v.holder.size = ap (λ (x : View). x.holder.size) p.is in
-          let then : at b (view c.purge_one.new.cpu).holder.ends ≡ after_take v.holder.size p.ends = ap (λ (x : View). at b x.holder.ends) (next l left).is ∙ at_put_same b (next l left).ends v.holder.ends in
+          let then = ends_after b t.0 (purged_by b k l) (view c.loop-n.cpu) (view c.purge_one.new.cpu) t.2 in
           subst (λ (z : List ℕ × Ends × List Made). PurgesEach (setup c.args.shared.now) b (fate.Purged c.args.cause) v.holder.size (at b v.holder.ends) (steps c.args.cpu.now ⊳ load_size_log v.holder.size) z.0 z.1 z.2)
-          (λ j. (taken_next_of b k t.0 l t.1 j, ((λ m. after_take v.holder.size (here m)) ∙ sym then) j, ((λ m. purging_steps (setup c.args.shared.now) b (fate.Purged c.args.cause) (sym size m) (at b (view c.loop-n.cpu).holder.ends) t.0 (steps c.loop-n.cpu)) ∙ sym made_) j))
+          (λ j. (taken_next_of b k t.0 l t.1 j, ((λ m. after_take (sym size m) (at b (view c.loop-n.cpu).holder.ends)) ∙ sym then) j, ((λ m. purging_steps (setup c.args.shared.now) b (fate.Purged c.args.cause) (sym size m) (at b (view c.loop-n.cpu).holder.ends) t.0 (steps c.loop-n.cpu)) ∙ sym made_) j))
           (one_more (take k held) (at b (view c.loop-n.cpu).holder.ends) t.0 (steps c.loop-n.cpu) (i.made l left));
     }
 

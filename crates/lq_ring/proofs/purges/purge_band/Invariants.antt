@@ -1,4 +1,4 @@
-use Rattle.std.proofs.Common.{◌≡◌, ℕ, Some, take}
+use Rattle.std.proofs.Common.{◌≡◌, Some, take}
 use Rattle.lq_model.specs.Band.{held_of}
 use Rattle.lq_band_laws.specs.Three.{at}
 use Rattle.lq_table.specs.Views.{Left}

@@ -102,33 +102,33 @@ returns-then-found-eq0 g c = record {
 pub returns : goal.returns
 returns g c =
     let first : PurgesFirst c.args.band (view c.args.cpu.now) (view c.discard_one.new.cpu) = λ l left. let b = c.args.band in let v = view c.args.cpu.now in let n = c.purge_slot-found.result - 1 in
-      let took_ = c.purge_slot-found.ensures.taken l left c.if-found-eq0.false in (
-        n,
-        took_.0,
-        takes_end b c.args.size v.holder.size (at_ b v) (at b v.whole.state.ends) (settle_view_owed (purge_slot_view b n l v)) (view c.settle.new.cpu) (view c.discard_one.new.cpu) (sym c.requires.may.rests.2)
-            (c.settle.ensures.settled ∙ ap settle_view_owed took_.1) (at_put_same b _ v.holder.ends) (at_put_same b _ v.whole.state.ends) c.discard_one.ensures.emptied c.discard_one.ensures.rested,
-      ) in record {
-  same = search rules;
-  none = search rules;
-  taken = λ _. first;
-  station =
-      let at = c.requires.may.at in let b = c.args.band in let v = view c.args.cpu.now in let n = c.purge_slot-found.result - 1 in
-      purged_station b n at.1 v (view c.discard_one.new.cpu) c.discard_one.new.cpu.station c.requires.may.below (first at.1 at.5).2
-      (c.discard_one.ensures.station (shown v.holder) (c.settle.ensures.same.1 ∙ (c.purge_slot-found.ensures.same.0.1 ∙ c.requires.may.station)));
-  made =
-      let b = c.args.band in let v = view c.args.cpu.now in let own : Ends = at_ b v in let k = setup c.args.shared.now in let found = c.purge_slot-found.result in let n = found - 1 in let old = steps c.args.cpu.now in
-      let some_ = c.if-found-eq0.false in let back : found ≡ n + 1 = omega arith in let at = c.requires.may.at in
-      let took = c.settle.ensures.settled ∙ ap settle_view_owed (c.purge_slot-found.ensures.taken at.1 at.5 c.if-found-eq0.false).1 in
-      let ends : at_ b (view c.settle.new.cpu) ≡ taken_on own = ap (λ (x : View). at_ b x) took ∙ at_put_same b (taken_on own) v.holder.ends in
-      let stored : steps c.settle.new.cpu ≡ old ⊳ load_slot_log k b own.head (n + 1) ⊳ settle_log k n (word_of (fate.Purged c.args.cause)) =
-      c.settle.ensures.made ∙ ((λ j. c.purge_slot-found.ensures.made j ⊳ settle_log k n (word_of (fate.Purged c.args.cause))) ∙ (λ j. old ⊳ load_slot_log k b own.head (back j) ⊳ settle_log k n (word_of (fate.Purged c.args.cause)))) in
-      let now : Ends = at_ b (view c.settle.new.cpu) in let fate_ = fate.Purged c.args.cause in
-      let zeroes = zeroed_as k b c.args.size now (steps c.settle.new.cpu) (steps c.discard_one.new.cpu) c.discard_one.ensures.made.0 c.discard_one.ensures.made.1 in
-      let here : steps c.discard_one.new.cpu ≡ purging_steps k b fate_ v.holder.size own n old =
-      zeroes ∙ (λ j. zeroed k b (ends j).head (emptied_count (sym c.requires.may.rests.2 j) (ends j)) (stored j)) in
-      record {
-        first = λ _ l m left is. subst (λ (x : ℕ). steps c.discard_one.new.cpu ≡ purging_steps k b fate_ v.holder.size own x old)
-            (same_Some n m (sym (c.purge_slot-found.ensures.taken l left some_).0 ∙ is)) here;
-        none = λ e. cc;
-      };
-}
+    let took_ = c.purge_slot-found.ensures.taken l left c.if-found-eq0.false in (
+      n,
+      took_.0,
+      takes_end b c.args.size v.holder.size (at_ b v) (at b v.whole.state.ends) (settle_view_owed (purge_slot_view b n l v)) (view c.settle.new.cpu) (view c.discard_one.new.cpu) (sym c.requires.may.rests.2)
+          (c.settle.ensures.settled ∙ ap settle_view_owed took_.1) (at_put_same b _ v.holder.ends) (at_put_same b _ v.whole.state.ends) c.discard_one.ensures.emptied c.discard_one.ensures.rested,
+    ) in record {
+      same = search rules;
+      none = search rules;
+      taken = λ _. first;
+      station =
+          let at = c.requires.may.at in let b = c.args.band in let v = view c.args.cpu.now in let n = c.purge_slot-found.result - 1 in
+          purged_station b n at.1 v (view c.discard_one.new.cpu) c.discard_one.new.cpu.station c.requires.may.below (first at.1 at.5).2
+          (c.discard_one.ensures.station (shown v.holder) (c.settle.ensures.same.1 ∙ (c.purge_slot-found.ensures.same.0.1 ∙ c.requires.may.station)));
+      made =
+          let b = c.args.band in let v = view c.args.cpu.now in let own : Ends = at_ b v in let k = setup c.args.shared.now in let found = c.purge_slot-found.result in let n = found - 1 in let old = steps c.args.cpu.now in
+          let some_ = c.if-found-eq0.false in let back : found ≡ n + 1 = omega arith in let at = c.requires.may.at in
+          let took = c.settle.ensures.settled ∙ ap settle_view_owed (c.purge_slot-found.ensures.taken at.1 at.5 c.if-found-eq0.false).1 in
+          let ends : at_ b (view c.settle.new.cpu) ≡ taken_on own = ap (λ (x : View). at_ b x) took ∙ at_put_same b (taken_on own) v.holder.ends in
+          let stored : steps c.settle.new.cpu ≡ old ⊳ load_slot_log k b own.head (n + 1) ⊳ settle_log k n (word_of (fate.Purged c.args.cause)) =
+          c.settle.ensures.made ∙ ((λ j. c.purge_slot-found.ensures.made j ⊳ settle_log k n (word_of (fate.Purged c.args.cause))) ∙ (λ j. old ⊳ load_slot_log k b own.head (back j) ⊳ settle_log k n (word_of (fate.Purged c.args.cause)))) in
+          let now : Ends = at_ b (view c.settle.new.cpu) in let fate_ = fate.Purged c.args.cause in
+          let zeroes = zeroed_as k b c.args.size now (steps c.settle.new.cpu) (steps c.discard_one.new.cpu) c.discard_one.ensures.made.0 c.discard_one.ensures.made.1 in
+          let here : steps c.discard_one.new.cpu ≡ purging_steps k b fate_ v.holder.size own n old =
+          zeroes ∙ (λ j. zeroed k b (ends j).head (emptied_count (sym c.requires.may.rests.2 j) (ends j)) (stored j)) in
+          record {
+            first = λ _ l m left is. subst (λ (x : ℕ). steps c.discard_one.new.cpu ≡ purging_steps k b fate_ v.holder.size own x old)
+                (same_Some n m (sym (c.purge_slot-found.ensures.taken l left some_).0 ∙ is)) here;
+            none = λ e. cc;
+          };
+    }

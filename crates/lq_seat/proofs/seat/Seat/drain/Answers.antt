@@ -10,8 +10,8 @@ returns-then-raised g c =
     let made = made-is sh cpu c.args.table.now c.args.self.now c.table.view_is c.self.view_is c.requires.here in
     subst (λ (s : SeatState). Drains s (seat_seen now)) c.self.view_is (drained-by sh cpu now made d.same d.served d.steps.1 d.alone d.steps)
 
-pub invariant_of-self-then-raised : goal.invariant_of-self-then-raised
-invariant_of-self-then-raised g c =
+pub invariant_of-self : goal.invariant_of-self
+invariant_of-self g c =
     let e = c.drain.ensures in let s = e.served in
     between-kept c.self.inside.cpu c.drain.new.cpu e.at.0 e.at.1 s.kept.share s.control s.trail c.self.invariant
 
@@ -19,4 +19,4 @@ pub returns-else-raised : goal.returns-else-raised
 returns-else-raised g c =
     let sh = c.table.inside.shared in let cpu = c.self.inside.cpu in
     let made = made-is sh cpu c.args.table.now c.args.self.now c.table.view_is c.self.view_is c.requires.here in
-    subst (λ (s : SeatState). Drains s (seat_seen cpu)) c.self.view_is (drained-none sh cpu made (sym c.raised.ensures ∙ c.if-raised.false))
+    subst (λ (s : SeatState). Drains s s) c.self.view_is (drained-none sh cpu made (sym c.raised.ensures ∙ c.if-raised.false))

@@ -42,8 +42,8 @@ sends g c s drains =
     (sent-drained sh cpu c.transmit-sending.new.cpu made c.args.n c.transmit-sending.result s c.transmit-sending.ensures.kept sent sent.turns sent.trail sent.came
     (c.transmit-sending.ensures.first turn) (c.transmit-sending.ensures.alone turn (ap (λ (s : SeatState). s.raised) c.self.view_is ∙ c.requires.raised)) drains)
 
-pub invariant_of-self-then-raised : goal.invariant_of-self-then-raised
-invariant_of-self-then-raised g c = between g (goal.at.invariant_of-self-then-raised g c).After-transmit-sending
+pub invariant_of-self : goal.invariant_of-self
+invariant_of-self g c = between g (goal.at.invariant_of-self g c).After-transmit-sending
 
 pub returns-then-raised : goal.returns-then-raised
 returns-then-raised g c = sends g (goal.at.returns-then-raised g c).After-transmit-sending c.drain.new.self c.drain.ensures

@@ -18,3 +18,6 @@ give_turn_at-requires-clause-packet g c κs within =
     let t = c.args.self.now in let infos = t.infos.now in let p = c.requires.packet in
     let owner = owner_read infos c.args.n no_info p.0 in
     (owner, rank_read infos c.args.n no_info p.0, subst (λ (o : ℕ). o < t.senders) (sym owner) p.1)
+
+pub give_turn_at-requires-clause-busy : goal.give_turn_at-requires-clause-busy
+give_turn_at-requires-clause-busy g c κs within = (c.requires.busy.0, c.requires.busy.1, c.requires.left.0)

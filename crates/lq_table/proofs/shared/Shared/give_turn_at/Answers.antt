@@ -19,5 +19,5 @@ store-requires g c =
       c.requires.seat.0,
       (let wide = t.sized.0 in let small = p.2 in let q = c.turn_word-word.ensures in let x : c.turn_word-word.result < t.table.kit.shared.table_id.words = omega arith in x),
       subst (λ (z : ℕ × ℕ × ℕ). Allows (Rule k) slots seat.id (seen seat.me) z.2 (λ _. 2 * z.1 + 2) (give_turn_told z.0 z.1 (step slots z.2 (2 * z.1 + 2) 0 none) (seen seat.me)))
-          (λ j. (sym owner j, sym rank j, (ap turn_place (sym owner) ∙ sym c.turn_word-word.ensures) j)) (gives_turn k slots seat.id (seen seat.me) n c.requires.rests c.requires.busy.0 c.requires.busy.1 c.requires.seat.1),
+          (λ j. (sym owner j, sym rank j, (ap turn_place (sym owner) ∙ sym c.turn_word-word.ensures) j)) (gives_turn k slots seat.id (seen seat.me) n c.requires.busy.2 c.requires.busy.0 c.requires.busy.1 c.requires.seat.1),
     )

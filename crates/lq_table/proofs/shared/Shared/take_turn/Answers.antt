@@ -32,4 +32,4 @@ pub take_turn_at-found-requires-clause-owner : goal.take_turn_at-found-requires-
 take_turn_at-found-requires-clause-owner g c κs within =
     let t = c.args.self.now in let owners = c.args.cpu.now.known.seat.me.0.view.share.owners in
     let owner = sym (owner_read t.infos.now c.args.n no_info c.requires.packet.0) in
-    subst (λ (o : ℕ). (0 < times o owners) × (o < t.senders)) owner c.requires.owner
+    let mine = subst (λ (o : ℕ). (0 < times o owners) × (o < t.senders)) owner c.requires.owner in (mine.0, mine.1, c.requires.idle)

@@ -23,5 +23,5 @@ compare_exchange-found-requires g c =
       c.requires.seat.0,
       (let wide = t.sized.0 in let small = c.requires.owner.1 in let q = c.turn_word-word.ensures in let x : c.turn_word-word.result < t.table.kit.shared.table_id.words = omega arith in x),
       subst (λ (z : ℕ × ℕ × ℕ). Allows (Rule k) slots seat.id (seen seat.me) z.2 (λ x. either (eqb x (2 * z.1)) (2 * z.1 + 1) x) (take_turn_told n z.0 z.1 (step slots z.2 (2 * z.1) (2 * z.1 + 1) none) (seen seat.me)))
-          (λ j. (sym owner j, sym rank j, (ap turn_place (sym owner) ∙ sym c.turn_word-word.ensures) j)) (takes_turn k slots seat.id (seen seat.me) n inside here mine c.requires.idle c.requires.seat.1),
+          (λ j. (sym owner j, sym rank j, (ap turn_place (sym owner) ∙ sym c.turn_word-word.ensures) j)) (takes_turn k slots seat.id (seen seat.me) n inside here mine c.requires.owner.2 c.requires.seat.1),
     )
