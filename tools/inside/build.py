@@ -53,7 +53,7 @@ class Builder:
         values = size.compiled()
         defines = [f"-D{name.upper()}={value}" for name, value in values.items()]
         if size.world == "path":
-            defines.append(f"-DPACKETS={values['seats'] * size.options()['sends']}")
+            defines.append(f"-DPACKETS={values['seats'] * size.options()['sends'] + size.options()['waiting']}")
         if "net_tx_action(void)" in cut.text:
             defines.append("-DNET_TX_ACTION_TAKES_NOTHING=1")
         out = self.folder / f"{size.world}{self.level}-{checksum(self.sources, cut.text, defines)}"

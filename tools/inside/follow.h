@@ -410,6 +410,12 @@ static void machine_init()
 {
 	memset(&machine, 0, sizeof machine);
 	machine.control = -1;
-	for (auto &m : machine.of)
-		m.bypass = path_bypass();
+	for (int c = 0; c < path_children(); c++) {
+		Machine &m = machine.of[c];
+		view v{};
+		path_view(c, &v);
+		m.bypass = path_bypass(), m.len = v.len, m.xoff = v.xoff, m.draining = v.state >> 3 & 1;
+		for (int b = 0; b < 3; b++)
+			m.n[b] = v.n[b], std::copy(v.band[b], v.band[b] + v.n[b], m.band[b]);
+	}
 }

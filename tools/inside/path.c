@@ -12,9 +12,9 @@
 
 /* what has come, and what may still come; not the kernel's */
 struct counts {
-	unsigned char sends[SEATS], band[PACKETS], queue[PACKETS], last[SEATS][3][QUEUES], wakes, stops, busy, downs, lengths, is_down, inside, waits, spare;
+	unsigned char sends[SEATS], band[PACKETS], queue[PACKETS], last[SEATS + 1][3][QUEUES], wakes, stops, busy, downs, lengths, is_down, inside, waits, spare;
 	signed char alone;
-	unsigned short sent, freed;
+	unsigned long long sent, freed;
 };
 struct world {
 	union { struct Qdisc q; char room[sizeof(struct Qdisc) + sizeof(struct pfifo_fast_priv)]; } u[CHILDREN];
@@ -39,9 +39,10 @@ static struct Qdisc_ops ops;
 
 /* options, and what they are when nothing is said */
 static struct { const char *name; long value; } options[] = {
-	{"sends", 1}, {"bypass", 1}, {"stops", 0}, {"wakes", 0}, {"busy", 0}, {"quota", 64}, {"bands", 1}, {"downs", 0}, {"lengths", 0}};
-enum { SENDS, BYPASS, STOPS, WAKES, BUSY_ANSWERS, QUOTA, BANDS, DOWNS, LENGTHS, OPTIONS };
+	{"sends", 1}, {"bypass", 1}, {"stops", 0}, {"wakes", 0}, {"busy", 0}, {"quota", 64}, {"bands", 1}, {"downs", 0}, {"lengths", 0}, {"waiting", 0}};
+enum { SENDS, BYPASS, STOPS, WAKES, BUSY_ANSWERS, QUOTA, BANDS, DOWNS, LENGTHS, WAITING, OPTIONS };
 #define OPTION(n) options[n].value
+#define FIRST_WAITING (SEATS * (int)OPTION(SENDS)) /* the packets before it are the seats' */
 
 PLAIN int world_option(const char *name, long value)
 {
@@ -94,7 +95,7 @@ PLAIN static void free_packet(int n)
 {
 	if ((COUNTS->freed | COUNTS->sent) >> n & 1)
 		wrong("a packet is freed that was freed or sent before");
-	COUNTS->freed |= 1 << n;
+	COUNTS->freed |= 1ull << n;
 }
 
 static void kfree_skb(struct sk_buff *skb) { free_packet(skb->number); }
@@ -112,12 +113,12 @@ static void kfree_skb_list_reason(struct sk_buff *skb, int reason)
 
 PLAIN static void send_packet(int n)
 {
-	int owner = n / OPTION(SENDS), band = COUNTS->band[n], queue = COUNTS->queue[n];
+	int owner = n < FIRST_WAITING ? n / OPTION(SENDS) : SEATS, band = COUNTS->band[n], queue = COUNTS->queue[n];
 	unsigned char *last = &COUNTS->last[owner][band][queue];
 
 	if ((COUNTS->freed | COUNTS->sent) >> n & 1)
 		wrong("a packet is sent that was sent or freed before");
-	COUNTS->sent |= 1 << n;
+	COUNTS->sent |= 1ull << n;
 	/* with bulk dequeue Linux 6.1 itself sends out of order (docs/LINUX.md, 'put ahead') */
 	if (*last > n + 1 && !path_has_bulk())
 		wrong("a sender's packets of a band are sent out of order");

@@ -2,7 +2,7 @@
 #ifndef INSIDE_PATH_H
 #define INSIDE_PATH_H
 
-enum { MOST_CHILDREN = 2, MOST_QUEUES = 2, MOST_PACKETS = 12, MOST_LEN = 32 };
+enum { MOST_CHILDREN = 2, MOST_QUEUES = 2, MOST_PACKETS = 44, MOST_LEN = 32 };
 /* a: the packet, or the queue; b: the band, and the queue of a packet times 4 */
 enum path_call { TRANSMIT = 1, SOFTIRQ, WAKE, DOWN, UP, CHANGE_LENGTH };
 enum path_question { DEVICE = 1, GRACE, SLEEP };

@@ -18,6 +18,20 @@ PLAIN static void init_child(int c)
 	}
 }
 
+/* packets that wait in band 1 while the queue is stopped, as a run leaves them that finds it stopped */
+PLAIN static void init_waiting(void)
+{
+	struct ptr_ring *ring = &((struct pfifo_fast_priv *)qdisc_priv(qdisc_of(0)))->q[1].ring;
+
+	for (int i = 0; i < OPTION(WAITING); i++) {
+		COUNTS->band[FIRST_WAITING + i] = 1;
+		ring->queue[i] = &world.skb[FIRST_WAITING + i];
+	}
+	ring->producer = OPTION(WAITING) % LEN;
+	world.txq[0].state = BIT(__QUEUE_STATE_DRV_XOFF);
+	qdisc_of(0)->state = BIT(__QDISC_STATE_DRAINING);
+}
+
 PLAIN void world_init(void)
 {
 	struct counts first = {.wakes = OPTION(WAKES), .stops = OPTION(STOPS), .busy = OPTION(BUSY_ANSWERS), .downs = OPTION(DOWNS), .lengths = OPTION(LENGTHS), .alone = -1};
@@ -43,6 +57,8 @@ PLAIN void world_init(void)
 	for (int i = 0; i < PACKETS; i++)
 		world.skb[i].len = 60, world.skb[i].number = i;
 	*COUNTS = first;
+	if (OPTION(WAITING))
+		init_waiting();
 }
 
 static const char *const state_bits[] = {"SCHED", "DEACTIVATED", "MISSED", "DRAINING", NULL};
@@ -169,10 +185,11 @@ PLAIN void path_view(int child, struct view *v)
 		v->slots++, v->slot = s->number;
 	for (int b = 0; b < 3; b++) {
 		struct ptr_ring *r = &priv->q[b].ring;
-		int n = 0;
+		/* packets of these slots were taken, and the slots aren't emptied yet */
+		int n = 0, stale = r->consumer_head - r->consumer_tail;
 
 		v->len = r->size;
-		for (int i = (r->consumer_head + v->taken[b]) % r->size; n + v->taken[b] < r->size && r->queue[i]; i = i + 1 == r->size ? 0 : i + 1)
+		for (int i = (r->consumer_head + v->taken[b]) % r->size; n + v->taken[b] + stale < r->size && r->queue[i]; i = i + 1 == r->size ? 0 : i + 1)
 			v->band[b][n++] = ((struct sk_buff *)r->queue[i])->number;
 		v->n[b] = n;
 	}
@@ -192,6 +209,8 @@ PLAIN int world_left(void)
 	for (int t = 0; t < SEATS; t++)
 		for (int n = t * OPTION(SENDS); n < t * OPTION(SENDS) + COUNTS->sends[t]; n++)
 			left += !((COUNTS->sent | COUNTS->freed) >> n & 1);
+	for (int n = FIRST_WAITING; n < FIRST_WAITING + OPTION(WAITING); n++)
+		left += !((COUNTS->sent | COUNTS->freed) >> n & 1);
 	return left;
 }
 

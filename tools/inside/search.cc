@@ -25,7 +25,7 @@ static vector<Choice> path_to(uint32_t id, const Choice *last)
 }
 
 #ifdef WITH_MACHINE
-static bool has_schedule() { return path_children() == 1 && !path_has_bulk() && !path_has_control() && path_quota == 64 && options.model == SEQUENTIAL; }
+static bool has_schedule() { return path_children() == 1 && !path_has_bulk() && !path_has_control() && !path_option("waiting") && path_quota == 64 && options.model == SEQUENTIAL; }
 
 // Brings the machine to its end: each seat ends its call, soft interrupts and wakes come.
 static void finish_schedule()
@@ -56,7 +56,7 @@ static void finish_schedule()
 static void print_schedule(const vector<Choice> &path)
 {
 	if (!has_schedule()) {
-		printf("No schedule: it has one queue, one discipline, the quota of 64, no control, and sequentially consistent steps.\n");
+		printf("No schedule: it has one queue, one discipline, the quota of 64, no control, no packets at first, and sequentially consistent steps.\n");
 		return;
 	}
 	load(first_state);
@@ -291,11 +291,6 @@ int main(int count, char **arguments)
 		options.compare = 0;
 	bounds = {path_option("sends"), path_option("bands"), path_option("wakes"), path_option("stops"), path_option("busy")};
 	machine_init();
-	for (int c = 0; c < path_children(); c++) {
-		view v{};
-		path_view(c, &v);
-		machine.of[c].len = v.len;
-	}
 #endif
 	make_seats();
 	first_state = save();

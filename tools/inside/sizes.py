@@ -4,10 +4,10 @@ from typing import NamedTuple
 # what a text is compiled with, and its values when nothing is said
 COMPILED = {"seats": 2, "len": 2, "children": 1, "queues": 1, "new_len": 0}
 # what a search is given
-OPTIONS = {"sends": 1, "bypass": 1, "stops": 0, "wakes": 0, "busy": 0, "quota": 64, "bands": 1, "downs": 0, "lengths": 0}
+OPTIONS = {"sends": 1, "bypass": 1, "stops": 0, "wakes": 0, "busy": 0, "quota": 64, "bands": 1, "downs": 0, "lengths": 0, "waiting": 0}
 TAP_COMPILED = {"seats": 2, "len": 2, "new_len": 0}
 TAP_OPTIONS = {"puts": 2, "gets": 2, "batch": 2, "backs": 0, "resizes": 0}
-MOST = {"seats": 4, "len": 32, "children": 2, "queues": 2, "new_len": 32, "sends": 3, "bands": 3, "quota": 64, "bypass": 1, "puts": 3, "gets": 6, "batch": 3}
+MOST = {"seats": 4, "len": 32, "children": 2, "queues": 2, "new_len": 32, "sends": 3, "bands": 3, "quota": 64, "bypass": 1, "puts": 3, "gets": 6, "batch": 3, "waiting": 32}
 LEAST = {"seats": 1, "len": 1, "children": 1, "queues": 1, "sends": 1, "bands": 1, "quota": 1, "puts": 1, "gets": 1, "batch": 1}
 
 
@@ -36,6 +36,7 @@ STANDARD = [
     Size("a stop and a wake", {"stops": 1, "wakes": 1}),
     Size("two transmits each, no bypass", {"sends": 2, "bypass": 0}),
     Size("two transmits each, no bypass, rings of 32", {"sends": 2, "bypass": 0, "len": 32}),
+    Size("32 packets wait in a ring of 32 slots, a wake, no bypass", {"len": 32, "waiting": 32, "wakes": 1, "bypass": 0}),
     Size("a deactivation and an activation", {"downs": 1}),
     Size("the same, with a stop and a wake, no bypass", {"downs": 1, "stops": 1, "wakes": 1, "bypass": 0}),
     Size("the same, with a busy answer", {"downs": 1, "busy": 1}),
@@ -51,7 +52,9 @@ LARGE = [
     Size("a stop, a wake, a busy answer, quota 1", {"stops": 1, "wakes": 1, "busy": 1, "quota": 1}),
     Size("a stop, two wakes, a busy answer", {"stops": 1, "wakes": 2, "busy": 1}),
     Size("two transmits each", {"sends": 2}),
+    Size("two transmits each, a stop and a wake, no bypass", {"sends": 2, "stops": 1, "wakes": 1, "bypass": 0}),
     Size("two transmits each, rings of 32", {"sends": 2, "len": 32}),
+    Size("31 packets wait in a ring of 32 slots, a wake", {"len": 32, "waiting": 31, "wakes": 1}),
     Size("three seats, one transmit each, no bypass", {"seats": 3, "bypass": 0}),
     Size("two transmits each and a deactivation, no bypass", {"sends": 2, "bypass": 0, "downs": 1}),
     Size("two queues on one discipline, two transmits each, no bypass", {"sends": 2, "bypass": 0, "queues": 2}),
@@ -85,6 +88,8 @@ def read(text):
     size = Size(text, values, world)
     if size.compiled().get("queues", 1) < size.compiled().get("children", 1):
         raise WrongSize("children=2 needs queues=2: each child has a queue")
+    if values.get("waiting") and (size.compiled()["queues"] > 1 or values["waiting"] > size.compiled()["len"]):
+        raise WrongSize("waiting is of one queue, and no more than its slots, len")
     if values.get("lengths") and not values.get("new_len"):
         raise WrongSize("lengths needs new_len, the new length")
     if values.get("resizes") and not values.get("new_len"):

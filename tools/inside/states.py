@@ -3,9 +3,9 @@ from lib import machine
 
 
 def applies(size):
-    """Whether the machine is searched alone at this size: one discipline with one queue, no control, the quota of 64."""
+    """Whether the machine is searched alone at this size: one discipline with one queue, no control, no packets at first, the quota of 64."""
     values = {**size.compiled(), **size.options()}
-    return size.world == "path" and values["queues"] == 1 and not (values["downs"] or values["lengths"]) and values["quota"] == 64
+    return size.world == "path" and values["queues"] == 1 and not (values["downs"] or values["lengths"] or values["waiting"]) and values["quota"] == 64
 
 
 def settled(m, i, bypass):

@@ -9,6 +9,7 @@ standard output is one line, and an interrupt ends the tool by its signal, so th
 before what takes longer to import (lib/__init__.py).
 """
 import os
+import shutil
 import signal
 import subprocess
 import sys
@@ -60,6 +61,12 @@ def ending_of(fault):
     if isinstance(fault, subprocess.TimeoutExpired):
         return f"it hasn't ended in {fault.timeout:g} s"
     return f"it was ended by signal {-fault.returncode}" if fault.returncode < 0 else f"it ended with {fault.returncode}"
+
+
+def need_program(name: str) -> None:
+    """Ends where a program that is to be measured or compared can't be run."""
+    if not shutil.which(name):
+        raise Failed(f"{name} can't be run: a built program is one in build/ after `./lqtx`, or crates/lqtx/out/lqtx after `rt ci`")
 
 
 def leave_output() -> None:

@@ -5,7 +5,8 @@ import shutil
 import subprocess
 import sys
 
-from tests.bench import HERE, ROOM, case, expect, fault, repository, run
+from lib import packed
+from tests.bench import HERE, ROOM, case, expect, fault, is_equal, repository, run
 
 
 @case
@@ -35,6 +36,28 @@ def first_build():
         fault("first-build leaves files behind")
     if not shutil.which("rt", path="/usr/bin:/bin"):
         expect("first-build, no rt", run(top / "tools/first-build", room, env=os.environ | {"PATH": "/usr/bin:/bin"}), 1, "there is no 'rt' on the PATH")
+
+
+@case
+def packed_libraries():
+    """Equal interfaces are one file, others aren't; a packed library comes back as it was, and counts where a part of its folder is there too."""
+    room, texts = ROOM / "libraries", {"low": "a", "high": "a", "other": "b"}
+    libraries = [room / f"{it}.rlib" for it in texts]
+    for library, text in zip(libraries, texts.values()):
+        file = library / "below/std/interface/toolchain/mir.json"
+        file.parent.mkdir(parents=True)
+        file.write_text(text, encoding="utf-8")
+        packed.share(library, libraries)
+    is_equal("equal interfaces", sorted(it.stat().st_nlink for it in room.rglob("mir.json")), [1, 2, 2])
+    packed.pack(libraries)
+    is_equal("packed libraries", sorted(it.name for it in room.iterdir()), ["high.packed", "low.packed", "other.packed"])
+    (libraries[0] / "part").mkdir(parents=True)
+    packed.unpack(libraries)
+    is_equal("unpacked libraries", {it.parts[-6]: it.read_text(encoding="utf-8") for it in room.rglob("*.json")}, {it.name: text for it, text in zip(libraries, texts.values())})
+    is_equal("what a packing left in part", [*room.rglob("part"), *room.glob("*.packed")], [])
+    packed.pack(libraries)
+    packed.forget(libraries[0])
+    is_equal("libraries that are there", [packed.is_there(it) for it in libraries], [False, True, True])
 
 
 # a stand-in for the gate: provers of two crates, with tests and edits, that take some processor time

@@ -6,7 +6,6 @@ import shutil
 import signal
 import subprocess
 import sys
-import time
 from concurrent.futures import ThreadPoolExecutor
 
 from tests.bench import HERE, ROOM, TOP, case, expect, fates_of, fault, heeding, repository, run
@@ -192,7 +191,8 @@ def what_goes_wrong_outside():
         if said[0] not in (1, 4) or "Traceback" in said[2] or "none" not in said[2]:
             fault(f"{words[0]}, a file that isn't there: ends with {said[0]} and says {said[2][-300:]!r}")
     process = subprocess.Popen([HERE / "explore", "--large"], stdout=subprocess.PIPE, stderr=subprocess.PIPE, preexec_fn=heeding)
-    time.sleep(1)
+    # what it says first comes after a first search
+    process.stdout.readline()
     process.send_signal(signal.SIGINT)
     said = process.communicate()[1].decode()
     if process.returncode != -signal.SIGINT or "Traceback" in said:

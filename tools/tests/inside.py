@@ -192,7 +192,7 @@ def inside_calls_words():
     expect("inside-calls, no such line", run(tool, "--source", "5.10"), 2, "5.10")
     expect("inside-calls, no such option", run(tool, ROOM, "--frob"), 2, "--frob")
     expect("inside-calls, no such break", run(tool, ROOM, "--breaks", "--named", "none"), 2, "second-try-left-out")
-    for size, text in {"sends=9": "sends is a number from 1 to 3", "frob=1": "no word of a size: 'frob'", "sends": "NAME=NUMBER", "lengths=1": "needs new_len", "children=2": "needs queues=2",
+    for size, text in {"sends=9": "sends is a number from 1 to 3", "frob=1": "no word of a size: 'frob'", "sends": "NAME=NUMBER", "lengths=1": "needs new_len", "waiting=3": "no more than its slots", "waiting=1,queues=2": "of one queue", "children=2": "needs queues=2",
                        "tap,sends=1": "no word of a size: 'sends'"}.items():  # fmt: skip
         expect(f"inside-calls --size {size}", run(tool, ROOM, "--size", size), 2, text)
     expect("inside-calls, no folder", run(tool, ROOM / "none"), 3, "is no folder")

@@ -1,0 +1,56 @@
+"""Libraries that nothing but a next build needs: once the program is built each is one file, an eighth of its size."""
+import filecmp
+import os
+import shutil
+import tarfile
+from concurrent.futures import ThreadPoolExecutor
+
+
+def file_of(library):
+    """The file of a packed library. Where it is there, it counts, and not the folder: that may be there in part."""
+    return library.with_suffix(".packed")
+
+
+def is_there(library):
+    return library.is_dir() or file_of(library).is_file()
+
+
+def forget(library):
+    """Removes a library that is to be made anew."""
+    file_of(library).unlink(missing_ok=True)
+    shutil.rmtree(library, ignore_errors=True)
+
+
+def _pack(library):
+    part = library.with_suffix(".part")
+    with tarfile.open(part, "w:gz", compresslevel=1) as it:
+        it.add(library, library.name)
+    part.rename(file_of(library))
+    shutil.rmtree(library)
+
+
+def _unpack(library):
+    shutil.rmtree(library, ignore_errors=True)
+    with tarfile.open(file_of(library)) as it:
+        it.extractall(library.parent)
+    file_of(library).unlink()
+
+
+def pack(libraries):
+    with ThreadPoolExecutor(os.cpu_count()) as pool:
+        list(pool.map(_pack, (it for it in libraries if it.is_dir() and not file_of(it).is_file())))
+
+
+def unpack(libraries):
+    with ThreadPoolExecutor(os.cpu_count()) as pool:
+        list(pool.map(_unpack, (it for it in libraries if file_of(it).is_file())))
+
+
+def share(library, others):
+    """Each library has the interfaces of those below it: those that another library has too become one file with it."""
+    for file in library.glob("below/*/interface/toolchain/mir.json"):
+        same = (it / file.relative_to(library) for it in others)
+        found = next((it for it in same if it.is_file() and filecmp.cmp(it, file, shallow=False)), None)
+        if found and not found.samefile(file):
+            file.unlink()
+            os.link(found, file)
