@@ -14,5 +14,5 @@ ready infos number plan station t c m = let queues = m.6 in let senders = m.7 in
   (ap (λ v. v.share.shares) v, ap (λ v. v.share.owners) v, ap (λ v. v.packets) v),
 )
 
-pub returns-in-Ok : goal.returns-in-Ok
-returns-in-Ok c = ready _ _ _ _ c.in-Ok.made.0 c.in-Ok.made.1 c.in-Ok.ensures.ok
+pub returns-in-Ok-make : goal.returns-in-Ok-make
+returns-in-Ok-make c = ready _ _ _ _ c.in-Ok-make.made.0 c.in-Ok-make.made.1 c.in-Ok-make.ensures.ok
