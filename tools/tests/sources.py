@@ -89,7 +89,7 @@ def of_sources(name, files):
     """A repository with these files, and no tool but those that read them: the comments of others name files that it doesn't have."""
     top = repository(name, files)
     for it in (top / "tools").glob("**/*"):
-        if it.is_file() and it.name not in ("dead", "names", "names-left", "words.py", "definitions.py", "comments.py"):
+        if it.is_file() and it.name not in ("dead", "names", "names-left", "__init__.py", "words.py", "definitions.py", "comments.py"):
             it.unlink()
     return top
 
