@@ -1,6 +1,7 @@
 """Libraries that nothing but a next build needs: once the program is built each is one file, an eighth of its size."""
 import filecmp
 import os
+import pathlib
 import shutil
 import tarfile
 from concurrent.futures import ThreadPoolExecutor
@@ -42,13 +43,16 @@ def pack(libraries):
 
 
 def unpack(libraries):
+    libraries = list(libraries)
     with ThreadPoolExecutor(os.cpu_count()) as pool:
         list(pool.map(_unpack, (it for it in libraries if file_of(it).is_file())))
+    for at, library in enumerate(libraries):
+        share(library, libraries[:at])
 
 
 def share(library, others):
-    """Each library has the interfaces of those below it: those that another library has too become one file with it."""
-    for file in library.glob("below/*/interface/toolchain/mir.json"):
+    """Each library has the interfaces of those below it: the files that another library has too become one file with it."""
+    for file in filter(pathlib.Path.is_file, library.glob("below/**/*")):
         same = (it / file.relative_to(library) for it in others)
         found = next((it for it in same if it.is_file() and filecmp.cmp(it, file, shallow=False)), None)
         if found and not found.samefile(file):

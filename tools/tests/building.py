@@ -54,6 +54,7 @@ def packed_libraries():
     (libraries[0] / "part").mkdir(parents=True)
     packed.unpack(libraries)
     is_equal("unpacked libraries", {it.parts[-6]: it.read_text(encoding="utf-8") for it in room.rglob("*.json")}, {it.name: text for it, text in zip(libraries, texts.values())})
+    is_equal("equal interfaces, unpacked", sorted(it.stat().st_nlink for it in room.rglob("mir.json")), [1, 2, 2])
     is_equal("what a packing left in part", [*room.rglob("part"), *room.glob("*.packed")], [])
     packed.pack(libraries)
     packed.forget(libraries[0])
