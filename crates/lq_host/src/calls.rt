@@ -68,10 +68,15 @@ impl CallCount {
 // The calls of each kind.
 #[derive(Drop)]
 pub(crate) struct CallCounts {
+    // The calls of `open_read`.
     pub(crate) open_read: CallCount,
+    // The calls of `create`.
     pub(crate) create: CallCount,
+    // The calls of `read`.
     pub(crate) read: CallCount,
+    // The calls of `write`.
     pub(crate) write: CallCount,
+    // The calls of `finish`.
     pub(crate) finish: CallCount,
 }
 

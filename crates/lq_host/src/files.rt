@@ -5,9 +5,12 @@ ghost use Rattle.lq_host.specs.Files.{lookup, IsFirstAt};
 
 use std::alloc::{AllocError, Global};
 
+// A file of a host in memory.
 #[derive(Drop)]
 pub(crate) struct MemFile {
+    // The name by which it is opened.
     pub(crate) name: String,
+    // All of its bytes, from the first on.
     pub(crate) bytes: Vec<u8>,
 }
 

@@ -8,11 +8,20 @@ use crate::HostError;
 // A handle that was given out, and what it is open for.
 #[derive(Drop)]
 pub(crate) enum Slot {
+    // Nothing: it was finished.
     Closed,
-    // A file, and the place of the byte that is read next.
-    Reader { name: String, place: usize },
-    // A file, at whose end is written.
-    Writer { name: String },
+    // Reading.
+    Reader {
+        // The file's name.
+        name: String,
+        // The byte that is read next, counted from 0.
+        place: usize,
+    },
+    // Writing at the end of a file.
+    Writer {
+        // The file's name.
+        name: String,
+    },
 }
 
 // Opens a slot, and answers its handle. There is no room only where each handle was given out, or the list has to grow.

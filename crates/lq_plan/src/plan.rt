@@ -12,13 +12,21 @@ pub const MAX_STATIONS: u32 = 8;
 /// A plan that was read. Contracts see the record `Plan` of `lq_model`.
 #[derive(Drop)]
 pub struct Plan {
+    /// The version of its text, 1 to 4.
     pub(crate) version: u32,
+    /// How many threads send, 1 to 64.
     pub(crate) senders: u32,
+    /// How the packets are split among them.
     pub(crate) split: Split,
+    /// By what each packet's station, queue and child are chosen.
     pub(crate) spread: Spread,
+    /// When the stopped queues are opened: after so many packets, or at each multiple of so many microseconds.
     pub(crate) irq: Irq,
+    /// The stations, 1 to 8, group by group.
     pub(crate) stations: Vec<StationPlan>,
+    /// How many stations each group has, 1 to 8.
     pub(crate) groups: Vec<u32>,
+    /// What is done to stations on the way, in the order of the document; at most 64.
     pub(crate) events: Vec<EventPlan>,
 }
 

@@ -10,23 +10,37 @@ use std::marker::Model;
 /// The words, the lists of the bands and the requeue slot.
 #[derive(Drop)]
 pub(crate) struct Qdisc {
+    /// SCHED of the state word: a soft interrupt is to come.
     pub(crate) sched: bool,
+    /// DEACTIVATED of the state word.
     pub(crate) deactivated: bool,
+    /// MISSED of the state word.
     pub(crate) missed: bool,
+    /// DRAINING of the state word.
     pub(crate) draining: bool,
+    /// Whether a seat has the run lock.
     pub(crate) locked: bool,
-    /// The stop word of each queue, of which there are at most 8.
+    /// The stop word of each queue, of which there are at most 8: 0 open, 1 stopped, 2 hung.
     pub(crate) xoff: Vec<u64>,
+    /// How many transmits and soft interrupts are under way.
     pub(crate) inside: u64,
-    /// The lists of the bands 0, 1 and 2; each has room for `len` packets.
+    /// The packets of band 0, the first to be served at the front. Each band has room for `len` packets.
     pub(crate) first: VecDeque<Packet>,
+    /// The packets of band 1.
     pub(crate) second: VecDeque<Packet>,
+    /// The packets of band 2.
     pub(crate) third: VecDeque<Packet>,
+    /// How many packets a band may hold, at most 4096.
     pub(crate) len: u32,
+    /// The packet in the requeue slot.
     pub(crate) slot: Option<Packet>,
+    /// Whether a packet may go past the bands.
     pub(crate) bypass: bool,
+    /// How many packets the device accepted. It stands still at `u64::MAX`.
     pub(crate) sent: u64,
+    /// How many packets were dropped since their band was full. It stands still at `u64::MAX`.
     pub(crate) full: u64,
+    /// How far control has come.
     pub(crate) phase: Phase,
 }
 
