@@ -1,13 +1,12 @@
 //! Puts by many senders, under a band's producer lock.
 ghost use Rattle.std.specs.Prelude.{◌≡◌, ◌<◌};
-ghost use Rattle.lq_ring_core.specs.Ring.{next_place};
 ghost use Rattle.lq_band_laws.specs.Ring.{unlocked};
 ghost use Rattle.lq_table.specs.Sees.{lock_at, IsSeatOf};
 ghost use Rattle.lq_ring.specs.Calls.{LocksBand, MayPut, MayPutLocked, PutsLocked, PutsPacket};
 
 use crossbeam_utils::Backoff;
 use lq_device::TxDevice;
-use lq_ring_core::Full;
+use lq_ring_core::{Full, next_place};
 use lq_table::{Cpu, Shared};
 use std::sync::Wait;
 
@@ -36,14 +35,6 @@ pub(crate) fn lock_producer<'a, D: TxDevice, R: Wait>(
     unreachable!()
 }
 
-/// The index behind another, with 0 behind the last.
-fn next_index(index: u32, size: u32) -> u32
-    requires { index < 65536 }
-    ensures { result ≡ next_place size index }
-{
-    if index + 1 == size { 0 } else { index + 1 }
-}
-
 /// `__ptr_ring_produce` with the end of `ptr_ring_produce`: the slot at the index is looked at, and written where it is
 /// empty, and the producer lock is given back.
 fn produce_locked<'a, D: TxDevice>(
@@ -66,7 +57,7 @@ fn produce_locked<'a, D: TxDevice>(
         });
     }
     shared.store_slot(cpu, band, n);
-    let next = next_index(index, size as u32);
+    let next = next_place(index, size as u32);
     shared.give_producer(cpu, band, next);
     Ok(())
 }

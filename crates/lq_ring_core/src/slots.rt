@@ -6,7 +6,7 @@ ghost use Rattle.lq_ring_core.specs.Slots.{IsCleared, IsCopied, distance, round,
 
 /// The place behind another, round a ring of this size.
 pub fn next_place(place: u32, size: u32) -> u32
-    requires { place < size }
+    requires { place < 4294967295 }
     ensures { result ≡ next_place size place }
 {
     if place + 1 == size { 0 } else { place + 1 }

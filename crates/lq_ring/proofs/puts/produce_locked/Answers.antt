@@ -73,7 +73,7 @@ pub give_producer-requires-2-clause-index : goal.give_producer-requires-2-clause
 give_producer-requires-2-clause-index g c _ _ =
     let b = c.args.band in let locked = c.requires.may.locked in let v1 = view c.load_size-size.new.cpu in let v2 = view c.producer_slot-found.new.cpu in let z = c.load_size-size.result in
     let e = lock3 b z c.args.index c.args.n (view c.args.cpu.now) v1 locked.0 c.load_size-size.ensures.size.0 v2 (c.producer_slot-found.ensures.room c.if-found-ne0.false) (view c.store_slot.new.cpu) c.store_slot.ensures.joined in
-    (z, ap (λ (x : Lock). x.size) e, c.next_index-next.ensures ∙ sym (ap (index_given z) e))
+    (z, ap (λ (x : Lock). x.size) e, c.next_place-next.ensures ∙ sym (ap (index_given z) e))
 
 pub returns : goal.returns
 returns g c = record {
@@ -90,7 +90,7 @@ returns g c = record {
       let at2 : (at b v2.locks).index ≡ i = ap (λ (x : Lock). x.index) (lock2 b z i c.args.n (view c.args.cpu.now) v1 locked.0 c.load_size-size.ensures.size.0 v2 (c.producer_slot-found.ensures.room c.if-found-ne0.false)) in (
         z,
         c.give_producer-2.ensures.made
-            ∙ ((λ j. steps c.store_slot.new.cpu ⊳ give_producer_log b (c.next_index-next.ensures j))
+            ∙ ((λ j. steps c.store_slot.new.cpu ⊳ give_producer_log b (c.next_place-next.ensures j))
             ∙ ((λ j. c.store_slot.ensures.made j ⊳ give_producer_log b (next_place z i))
             ∙ ((λ j. c.producer_slot-found.ensures.made j ⊳ store_slot_log k b (at2 j) (c.args.n + 1) ⊳ give_producer_log b (next_place z i))
             ∙ (λ j. c.load_size-size.ensures.made j ⊳ load_slot_log k b (at1 j) (empty j) ⊳ store_slot_log k b i (c.args.n + 1) ⊳ give_producer_log b (next_place z i))))),
