@@ -171,10 +171,7 @@ fn purge_hung<'a, D: TxDevice, R: Wait>(rt: &R, shared: &Shared<'a, D>, cpu: &mu
 {
     wait_until_left(rt, shared, cpu);
     take_lock(rt, shared, cpu);
-    let Some(station) = &cpu.station else {
-        unreachable!()
-    };
-    let unit = station.unit();
+    let unit = cpu.station().unit();
     shared.begin_hung_purge(cpu);
     let purged = purge_held(shared, cpu, Cause::Hung(unit));
     end_resize(shared, cpu);

@@ -15,10 +15,7 @@ fn purge_slot<'a, D: TxDevice>(shared: &Shared<'a, D>, cpu: &mut Cpu<D>, cause: 
     requires slot { HasSlotToPurge shared.now cause cpu.old }
     ensures { PurgesRequeueSlot shared.now cause result cpu.old cpu.new }
 {
-    let Some(station) = &mut cpu.station else {
-        unreachable!()
-    };
-    let Some(n) = station.take_slot() else {
+    let Some(n) = cpu.station_mut().take_slot() else {
         return 0;
     };
     shared.settle(cpu, n, Fate::Purged { cause });

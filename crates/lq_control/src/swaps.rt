@@ -26,10 +26,7 @@ fn change_device<D: TxDevice>(cpu: &mut Cpu<D>, unit: u32, device: D) -> D
     ensures changed { (h : HolderPart) → cpu.old.station ≡ Some (shown h)
         → (cpu.new.station ≡ Some (with_device (shown h) unit (D.state device))) × (D.state result ≡ h.station.device) }
 {
-    let Some(station) = &mut cpu.station else {
-        unreachable!()
-    };
-    station.change(unit, device)
+    cpu.station_mut().change(unit, device)
 }
 
 /// Opens the queues after the first, whose stop word the swap has stored.

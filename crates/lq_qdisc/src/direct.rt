@@ -44,10 +44,7 @@ fn fill_requeue_slot<D: TxDevice>(cpu: &mut Cpu<D>, n: u32)
     requires station { (st : StationState) × (cpu.old.station ≡ Some st) × (st.slot ≡ None) }
     ensures { ChangesStation (λ st. with_slot st (Some n)) cpu.old cpu.new }
 {
-    let Some(station) = &mut cpu.station else {
-        unreachable!()
-    };
-    station.set_slot(n);
+    cpu.station_mut().set_slot(n);
 }
 
 /// The queue of packet `n` is stopped: `n` goes to the requeue slot, and MISSED is set.
@@ -69,9 +66,7 @@ fn ask_device<D: TxDevice>(cpu: &mut Cpu<D>, queue: u32, n: u32) -> (Tx, Fate)
     ensures handed { HandsOver n queue result.0 result.1 cpu.old cpu.new }
     ensures made { steps cpu.new ≡ steps cpu.old }
 {
-    let Some(station) = &mut cpu.station else {
-        unreachable!()
-    };
+    let station = cpu.station_mut();
     let unit = station.unit();
     let serial = station.sent();
     let answer = station.xmit(queue, n);

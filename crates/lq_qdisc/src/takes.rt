@@ -51,10 +51,7 @@ fn requeued<D: TxDevice>(cpu: &Cpu<D>) -> Option<u32>
     requires station { cpu.now.station ≡ Some (shown (view cpu.now).holder) }
     ensures { result ≡ (view cpu.now).holder.slot }
 {
-    let Some(station) = &cpu.station else {
-        unreachable!()
-    };
-    station.slot()
+    cpu.station().slot()
 }
 
 /// Takes the packet out of the requeue slot, where its step has told so.
@@ -62,10 +59,7 @@ fn take_requeued<D: TxDevice>(cpu: &mut Cpu<D>)
     requires station { (st : StationState) × (cpu.old.station ≡ Some st) }
     ensures { ChangesStation (λ st. with_slot st None) cpu.old cpu.new }
 {
-    let Some(station) = &mut cpu.station else {
-        unreachable!()
-    };
-    let _ = station.take_slot();
+    let _ = cpu.station_mut().take_slot();
 }
 
 /// Takes packet `n` of the requeue slot, where its queue is open.

@@ -9,8 +9,8 @@ ghost use Rattle.lq_ring.specs.Seats.{HasLocksOfTurned, IsReadyToTurn};
 ghost use Rattle.lq_ring.specs.Calls.{LocksBands, MayResizeAll, MayTurnAll, ResizesRings, RestartsRings, TurnsAt, TurnsEach, UnlocksBands};
 
 use crate::puts::lock_producer;
-use crate::takes::{head_of, set_ends, tail_of};
-use crate::turns::{Ends, Resize, turn_band};
+use crate::takes::{ends_of, set_ends};
+use crate::turns::{Resize, turn_band};
 use lq_device::TxDevice;
 use lq_table::{Cpu, Shared};
 use std::sync::Wait;
@@ -55,9 +55,8 @@ fn turn_at<'a, D: TxDevice>(
     requires ready { IsReadyToTurn shared.now band resize.size resize.len resize.event cpu.old }
     ensures { TurnsAt shared.now band resize result cpu.old cpu.new }
 {
-    let tail = tail_of(cpu, band);
-    let head = head_of(cpu, band);
-    let done = turn_band(shared, cpu, band, Ends { tail, head }, resize);
+    let ends = ends_of(cpu, band);
+    let done = turn_band(shared, cpu, band, ends, resize);
     let index = index_after(done.kept, resize.len);
     shared.set_producer(cpu, band, index);
     Turned {

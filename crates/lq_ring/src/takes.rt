@@ -5,30 +5,23 @@ ghost use Rattle.lq_table.specs.Sees.{IsSeatOf};
 ghost use Rattle.lq_ring.specs.Seats.{HasBatchToEmpty, HoldsRings};
 ghost use Rattle.lq_ring.specs.Calls.{ChangesStation, DiscardsOne, EmptiesTail, MayConsume, MayDiscard, TakesFrom};
 
+use crate::turns::Ends;
 use lq_device::TxDevice;
 use lq_model::batch;
 use lq_table::{Cpu, Shared};
 
-pub(crate) fn head_of<D: TxDevice>(cpu: &Cpu<D>, band: u32) -> u32
+/// The ends of a band's ring, as the station has them.
+pub(crate) fn ends_of<D: TxDevice>(cpu: &Cpu<D>, band: u32) -> Ends
     requires band { band < 3 }
     requires station { (st : StationState) × (cpu.now.station ≡ Some st) }
-    ensures { (st : StationState) → cpu.now.station ≡ Some st → result ≡ slice_index st.heads band }
+    ensures { (st : StationState) → cpu.now.station ≡ Some st
+        → (result.tail ≡ slice_index st.tails band) × (result.head ≡ slice_index st.heads band) }
 {
-    let Some(station) = &cpu.station else {
-        unreachable!()
-    };
-    station.head(band)
-}
-
-pub(crate) fn tail_of<D: TxDevice>(cpu: &Cpu<D>, band: u32) -> u32
-    requires band { band < 3 }
-    requires station { (st : StationState) × (cpu.now.station ≡ Some st) }
-    ensures { (st : StationState) → cpu.now.station ≡ Some st → result ≡ slice_index st.tails band }
-{
-    let Some(station) = &cpu.station else {
-        unreachable!()
-    };
-    station.tail(band)
+    let station = cpu.station();
+    Ends {
+        tail: station.tail(band),
+        head: station.head(band),
+    }
 }
 
 pub(crate) fn set_ends<D: TxDevice>(cpu: &mut Cpu<D>, band: u32, head: u32, tail: u32)
@@ -36,10 +29,7 @@ pub(crate) fn set_ends<D: TxDevice>(cpu: &mut Cpu<D>, band: u32, head: u32, tail
     requires station { (st : StationState) × (cpu.old.station ≡ Some st) }
     ensures { ChangesStation (λ st. with_ends st band head tail) cpu.old cpu.new }
 {
-    let Some(station) = &mut cpu.station else {
-        unreachable!()
-    };
-    station.set_ends(band, head, tail);
+    cpu.station_mut().set_ends(band, head, tail);
 }
 
 /// The loop of `__ptr_ring_discard_one`: empties the slots from the entry just taken down to the tail.
@@ -73,8 +63,8 @@ pub(crate) fn discard_one<'a, D: TxDevice>(
     requires may { MayDiscard shared.now band size cpu.old }
     ensures { DiscardsOne shared.now band size cpu.old cpu.new }
 {
-    let head = head_of(cpu, band) + 1;
-    let tail = tail_of(cpu, band);
+    let Ends { tail, head } = ends_of(cpu, band);
+    let head = head + 1;
     if tail + batch(size) <= head || head == size {
         zero_tail(shared, cpu, band, tail, head);
         let end = if head == size { 0 } else { head };

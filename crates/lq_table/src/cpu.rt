@@ -1,9 +1,11 @@
-//! What a seat tells at run time.
-ghost use Rattle.std.specs.Prelude.{◌≡◌};
+//! What a seat tells at run time, and the station that it carries.
+ghost use Rattle.std.specs.Prelude.{◌≡◌, Some, IsSome};
+ghost use Rattle.std.specs.Borrow.{sem};
+ghost use Rattle.lq_table.specs.Carried.{LendsStation};
 ghost use Rattle.lq_table.specs.Sees.{view};
 
 use crate::shared::Cpu;
-use lq_device::TxDevice;
+use lq_device::{Station, TxDevice};
 
 impl<D: TxDevice> Cpu<D> {
     /// Whether it is the first seat, which alone does control.
@@ -26,5 +28,28 @@ impl<D: TxDevice> Cpu<D> {
         ensures { result ≡ (view self.now).place.raised }
     {
         self.known.marks.raised
+    }
+
+    /// The station that it carries.
+    pub fn station(&self) -> &Station<D>
+        requires carries { IsSome self.now.station }
+        ensures { self.now.station ≡ Some result.now }
+    {
+        match &self.station {
+            Some(station) => station,
+            None => unreachable!(),
+        }
+    }
+
+    /// The station that it carries, to change. Afterwards the seat has the station as it was left, and is else as it was.
+    pub fn station_mut(&mut self) -> &mut Station<D>
+        requires carries { IsSome self.old.station }
+        ensures* writes_back { sem 𝓛 (LendsStation D.row D.TxDevice self.entry result) }
+        ensures value { self.old.station ≡ Some result.now }
+    {
+        match &mut self.station {
+            Some(station) => station,
+            None => unreachable!(),
+        }
     }
 }

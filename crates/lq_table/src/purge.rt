@@ -67,10 +67,7 @@ impl<'a, D: TxDevice> Shared<'a, D> {
             → TakesFirstLeft band (result - 1) l cpu.old cpu.new }
         ensures made { steps cpu.new ≡ load_slot_log (setup self.now) band (ends_at band cpu.old).head result ∷ steps cpu.old }
     {
-        let Some(station) = &cpu.station else {
-            unreachable!()
-        };
-        let head = station.head(band);
+        let head = cpu.station().head(band);
         let word = self.slot_word(band, head);
         self.table
             .load::<Brand, _>(&mut cpu.known.seat, word, &band)

@@ -52,7 +52,7 @@ module _ (g : given.Over) (c : goal.After-purge_held-arg-1 g) where
 
   of_unit : v2.holder.station.unit ≡ c.unit-unit.result
   of_unit =
-      let same = same_Some _ _ (sym c.in-Some.is ∙ c.take_lock.ensures.station.1) in
+      let same = same_Some _ _ (sym c.station.ensures ∙ c.take_lock.ensures.station.1) in
       sym (c.unit-unit.ensures ∙ ap (λ (s : StationState). s.unit) same)
 
   begun : view c.begin_hung_purge.new.cpu ≡ begin_purge_view by c.begin_hung_purge.ensures.begun.0 v2

@@ -16,8 +16,8 @@ turn_band-done-requires-clause-may g c _ _ = record {
   place = search rules;
   turner = search rules;
   whole =
-      let r = c.requires.ready in let tail = c.tail_of-tail.ensures r.0 r.1 in let head = c.head_of-head.ensures r.0 r.1 in
-      (r.2.held, subst (λ (z : ℕ × ℕ). IsWorkBegun c.args.shared.now.max_len c.args.resize.size z.0 z.1 c.args.resize.len r.2.held (work_at c.args.band (view c.args.cpu.now))) (λ j. (sym tail j, sym head j)) r.2.whole);
+      let r = c.requires.ready in let ends = c.ends_of-ends.ensures r.0 r.1 in
+      (r.2.held, subst (λ (z : ℕ × ℕ). IsWorkBegun c.args.shared.now.max_len c.args.resize.size z.0 z.1 c.args.resize.len r.2.held (work_at c.args.band (view c.args.cpu.now))) (λ j. (sym ends.0 j, sym ends.1 j)) r.2.whole);
   packets = λ n l. let r = c.requires.ready.2 in r.packets n (drop-in c.args.resize.len r.held n (subst (λ (ls : List ℕ). Contains ls n) r.whole.waiting_is l));
 }
 

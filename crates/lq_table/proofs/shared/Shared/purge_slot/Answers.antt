@@ -7,9 +7,7 @@ use Rattle.lq_table.specs.Keyed.{keyed_setup}
 use Rattle.lq_table.proofs.ByName.{slot_within}
 use Rattle.lq_table.proofs.PurgeSlotKept.{purge_sees}
 use Rattle.lq_log.specs.Made.{seen}
-use Rattle.std.specs.Prelude.{is_some}
 use Rattle.std.specs.Option.{unwrap_or}
-use Rattle.std.proofs.lemmas.Bool.{false≢true}
 use Rattle.lq_model.specs.Machine.{Purge}
 use Rattle.lq_table.specs.Views.{Left, no_left}
 use Rattle.lq_table.specs.Purges.{purge_slot_told, first_purge, purge_slot_view_empty, purge_slot_view}
@@ -25,7 +23,7 @@ pub load-requires : goal.load-requires
 load-requires g c =
     let t = c.args.self.now in let k = keyed_setup t.table.kit.shared.key in let slots = t.table.kit.shared.table_id.slots in let seat = c.args.cpu.now.known.seat in let b = c.args.band in
     let i = c.head-head.result in let at = c.requires.at in let left = ap (λ (x : Option Left). unwrap_or x no_left) at.5 in let purge = ap (λ (x : Option Purge). unwrap_or x first_purge) at.3 in
-    let head = head_read c.args.cpu.now.station c.in-Some.station c.args.band c.head-head.result (ends_at c.args.band c.args.cpu.now).head c.in-Some.is c.head-head.ensures c.requires.station.1 in
+    let head = head_read c.args.cpu.now.station c.station.result.now c.args.band c.head-head.result (ends_at c.args.band c.args.cpu.now).head c.station.ensures c.head-head.ensures c.requires.station.1 in
     let inside : i < k.max_len = let x = c.requires.head in let h = head in let y = t.same.2 in omega arith in
     let place : slot_word k b i ≡ c.slot_word-word.result = sym c.slot_word-word.ensures in
     let word : c.slot_word-word.result < t.table.kit.shared.table_id.words = let wide = t.sized.0 in let h = slot_within k b i c.requires.band inside in let x = t.same.1 in let y = t.same.2 in let p = place in omega arith in
@@ -36,13 +34,10 @@ load-requires g c =
           (purge_sees k slots seat.id (seen seat.me) b i at.0 at.1 c.requires.band inside few at.2 at.3 at.4 at.5 c.requires.packets.0 c.requires.packets.1 c.requires.rests.0 c.requires.rests.1 head c.requires.seat.1),
     )
 
-pub unreachable-requires : goal.unreachable-requires
-unreachable-requires g c = absurd (false≢true (ap is_some (sym c.in_default.is) ∙ c.requires.station.0))
-
 pub returns-clause-made : goal.returns-clause-made
 returns-clause-made g c =
     let t = c.args.self.now in let old = c.args.cpu.now in let found = c.load.result in
-    let head = head_read old.station c.in-Some.station c.args.band c.head-head.result (ends_at c.args.band old).head c.in-Some.is c.head-head.ensures c.requires.station.1 in
+    let head = head_read old.station c.station.result.now c.args.band c.head-head.result (ends_at c.args.band old).head c.station.ensures c.head-head.ensures c.requires.station.1 in
     let made : c.load.new.seat.me.0.steps ≡ load_slot_log (setup t) c.args.band c.head-head.result found ∷ steps old = search rules in
     made ∙ ap (λ (i : ℕ). load_slot_log (setup t) c.args.band i found ∷ steps old) head
 
