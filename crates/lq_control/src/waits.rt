@@ -3,7 +3,8 @@ ghost use Rattle.std.specs.Prelude.{◌≡◌, false};
 ghost use Rattle.lq_model.specs.declared.machine.Phase.TheVariants.{Closing};
 ghost use Rattle.lq_model.specs.declared.machine.Position.TheVariants.{Control};
 ghost use Rattle.lq_table.specs.Sees.{view, position, IsSeatOf};
-ghost use Rattle.lq_run.specs.Runs.{HasStation, HasNone, Rests};
+ghost use Rattle.lq_run.specs.Calls.{MayReleaseRunLock};
+ghost use Rattle.lq_run.specs.Runs.{HasNone};
 ghost use Rattle.lq_control.specs.Seats.{MayRelease};
 ghost use Rattle.lq_control.specs.Calls.{FindsNoCalls, ReleasesDeactivated, TakesRunLock};
 
@@ -55,9 +56,7 @@ pub(crate) fn take_lock<'a, D: TxDevice, R: Wait>(rt: &R, shared: &Shared<'a, D>
 /// Gives the station back and releases the run lock of a deactivated station.
 pub(crate) fn release<'a, D: TxDevice>(shared: &Shared<'a, D>, cpu: &mut Cpu<D>)
     requires seat { IsSeatOf shared.now cpu.old }
-    requires at { MayRelease cpu.old }
-    requires rests { Rests cpu.old }
-    requires back { HasStation cpu.old }
+    requires may { MayReleaseRunLock MayRelease cpu.old }
     ensures { ReleasesDeactivated cpu.old cpu.new }
 {
     shared.move_station(cpu);

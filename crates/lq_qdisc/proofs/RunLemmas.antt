@@ -24,7 +24,7 @@ use Rattle.lq_model.specs.Account.{Back}
 use Rattle.lq_table.specs.Solo.{Solo, heard}
 use Rattle.lq_qdisc.proofs.ViewRelations.{Directs}
 use Rattle.lq_qdisc.specs.Calls.{Dequeues, FindsPacket, KeepsFates, Picks}
-use Rattle.lq_qdisc.specs.Runs.{position_in_run}
+use Rattle.lq_qdisc.specs.Direct.{position_in_run}
 use Rattle.lq_qdisc.specs.declared.answers.Taken.{Taken}
 use Rattle.lq_qdisc.specs.declared.answers.Taken.TheVariants as taken
 use Rattle.lq_qdisc.specs.declared.answers.Through.{Through}

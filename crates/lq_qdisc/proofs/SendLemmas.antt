@@ -19,8 +19,8 @@ use Rattle.lq_table.specs.declared.shared.Shared.{Shared}
 use Rattle.lq_table.specs.Views.{PacketPart, View}
 use Rattle.lq_qdisc.specs.Calls.{KeepsFates}
 use Rattle.lq_qdisc.specs.Steps.{with_state_loaded}
-use Rattle.lq_qdisc.specs.Parts.{BringsBy, EndsCallBy}
-use Rattle.lq_qdisc.specs.Sends.{Enqueues, HasCome, IsBringing, IsCallKept, IsFreeInside, IsInsideKept, came_as, trail_with}
+use Rattle.lq_qdisc.specs.Parts.{BringsBy, EndsCallBy, IsFreeInside, LeavesBy}
+use Rattle.lq_qdisc.specs.Sends.{Enqueues, HasCome, IsBringing, IsCallKept, came_as, trail_with}
 use Rattle.lq_qdisc.specs.declared.answers.Sending.{Sending}
 use Rattle.lq_qdisc.specs.declared.answers.Sending.TheVariants as sending
 use Rattle.lq_qdisc.proofs.RunLemmas.{fates_same, fates_then}
@@ -71,20 +71,6 @@ module _ {D : Type 0} where
   called_from b m a seat share control told k =
       record { seat = (k.seat.0 ∙ seat.0, k.seat.1 ∙ seat.1); share = k.share ∙ share; control = k.control ∙ control; told = k.told ∙ told }
 
-  -- what serving the bands leaves as it was, likewise
-  pub inside_from : (b m a : Cpu D) → IsSameSeat b m → (view m).share ≡ (view b).share → (view m).packets ≡ (view b).packets → (view m).locks ≡ (view b).locks → (view m).control ≡ (view b).control → (view m).turns ≡ (view b).turns
-      → (view m).trail ≡ (view b).trail → (view m).whole.told ≡ (view b).whole.told → IsInsideKept m a → IsInsideKept b a
-  inside_from b m a seat share packets locks control turns trail told k = record {
-    seat = (k.seat.0 ∙ seat.0, k.seat.1 ∙ seat.1);
-    share = k.share ∙ share;
-    packets = k.packets ∙ packets;
-    locks = k.locks ∙ locks;
-    control = k.control ∙ control;
-    turns = k.turns ∙ turns;
-    trail = k.trail ∙ trail;
-    told = k.told ∙ told;
-  }
-
   -- What is known of a step of a call that leaves what a call does: the seat is still one of the table, and what the rest of the call
   -- leaves as it was, the whole does.
   pub record KeepsCall (t : Shared D) (b m : Cpu D) : Type 0 where
@@ -126,31 +112,29 @@ module _ {D : Type 0} where
     pub seat : IsSameSeat b m
     pub share : (view m).share ≡ (view b).share
     pub packets : (view m).packets ≡ (view b).packets
-    pub locks : (view m).locks ≡ (view b).locks
     pub control : (view m).control ≡ (view b).control
     pub turns : (view m).turns ≡ (view b).turns
     pub trail : (view m).trail ≡ (view b).trail
     pub told : (view m).whole.told ≡ (view b).whole.told
     pub settled : (view m).settled ≡ (view b).settled
 
-  pub serves_then : {by to : Known → Known → Type 0} (b m a : Cpu D) → LeavesTheRest b m → EndsCallBy by m a → to (known b) (known a) → EndsCallBy to b a
-  serves_then b m a i r steps = record {
-    kept = inside_from b m a i.seat i.share i.packets i.locks i.control i.turns i.trail i.told r.kept;
-    fates = fates_then (view b) (view m) (view a) (fates_same (view b) (view m) i.settled) r.fates;
-    at = r.at;
-    free = r.free;
-    steps = steps;
-  }
-
-  pub brings_then : {by to : Known → Known → Type 0} (infos : List Info) (n : ℕ) (answer : Sending) (b m a : Cpu D) → LeavesTheRest b m → BringsBy infos n answer by m a → to (known b) (known a) → BringsBy infos n answer to b a
-  brings_then infos n answer b m a i r steps = record {
+  ends_then : {comes : View → View → Type 0} {by to : Known → Known → Type 0} (b m a : Cpu D) → LeavesTheRest b m → LeavesBy comes by m a → comes (view b) (view a) → to (known b) (known a) → LeavesBy comes to b a
+  ends_then b m a i r came steps = record {
     kept = called_from b m a i.seat i.share i.control i.told r.kept;
     fates = fates_then (view b) (view m) (view a) (fates_same (view b) (view m) i.settled) r.fates;
     at = r.at;
     free = r.free;
-    came = come_from infos n answer (view b) (view m) (view a) i.share i.packets i.turns i.trail r.came;
+    came = came;
     steps = steps;
   }
+
+  pub serves_then : {by to : Known → Known → Type 0} (b m a : Cpu D) → LeavesTheRest b m → EndsCallBy by m a → to (known b) (known a) → EndsCallBy to b a
+  serves_then b m a i r steps =
+      ends_then b m a i r (record { share = r.came.share ∙ i.share; packets = r.came.packets ∙ i.packets; turns = r.came.turns ∙ i.turns; trail = r.came.trail ∙ i.trail }) steps
+
+  pub brings_then : {by to : Known → Known → Type 0} (infos : List Info) (n : ℕ) (answer : Sending) (b m a : Cpu D) → LeavesTheRest b m → BringsBy infos n answer by m a → to (known b) (known a)
+      → BringsBy infos n answer to b a
+  brings_then infos n answer b m a i r steps = ends_then b m a i r (come_from infos n answer (view b) (view m) (view a) i.share i.packets i.turns i.trail r.came) steps
 
   -- and after a load of the state, which goes on with the packet
   pub brings_looked_by : {by to : Known → Known → Type 0} (t : Shared D) (n state : ℕ) (answer : Sending) (b m a : Cpu D) → IsLooked t n state b m → BringsBy t.infos.now n answer by m a → to (known b) (known a)

@@ -1,5 +1,5 @@
 -- What handing a packet to the device leaves of what the holder of the run lock knows.
-use Rattle.std.specs.Prelude.{◌≡◌, ◌≢◌, ◌==◌, ℕ, zero, suc, Bool, true, false, if◌then◌else◌, slice_index, List, ◌∷◌, Some, None}
+use Rattle.std.specs.Prelude.{◌≡◌, ◌≢◌, ◌==◌, ◌+◌, ℕ, zero, suc, Bool, true, false, if◌then◌else◌, length, slice_index, List, ◌∷◌, Some, None}
 use Rattle.lq_device.specs.Station.{StationState, HasAnswered}
 use Rattle.lq_model.specs.Account.{Event, Back, Send, Stop}
 use Rattle.lq_model.specs.Device.{is_busy}
@@ -89,9 +89,13 @@ pub record LaysAside (n queue : ℕ) (old new : View) : Type 0 where
   pub settled : new.settled ≡ old.settled
   pub sole : IsSole old → (slice_index (account_of old).stops queue ≢ 0) × (solo new ≡ missed_to true (heard Back (draining_to true (missed_to false (solo old)))))
 
--- where the seat stands after it
+-- where the seat stands in a run, by how many packets that has sent
+abbrev pub position_in_run : View → Position
+position_in_run v = if v.place.run == QUOTA then Quota else begins v
+
+-- where it stands after it
 abbrev pub position_after : Through → Bool → View → Position
-position_after through.Yes direct v = if direct then Post else if v.place.run == QUOTA then Quota else begins v
+position_after through.Yes direct v = if direct then Post else position_in_run v
 position_after (through.Back reason) direct v = Unlock
 
 -- where it stands once the fate of a packet of this queue is stored, which the device accepted with this answer
@@ -122,3 +126,11 @@ pub record IsSentAs (answer : Tx) (n queue : ℕ) (direct : Bool) (st : StationS
 abbrev pub run_after : Through → ℕ → ℕ
 run_after through.Yes run = run_counted run
 run_after (through.Back reason) run = run
+
+-- one more packet was sent in the run, and nothing is in hand or in the requeue slot
+abbrev pub HasSentOneMore : View → View → Type 0
+HasSentOneMore old new = (new.place.run ≡ old.place.run + 1) × (new.holder.hand ≡ None) × (new.holder.slot ≡ None)
+
+-- how many packets the device has accepted
+abbrev pub accepted_count : View → ℕ
+accepted_count v = length v.holder.station.device.accepted

@@ -53,6 +53,13 @@ module _ {D : Type 0} where
     pub trail : (view a).trail ≡ (view b).trail
     pub steps : by (known b) (known a)
 
+  -- The device of the station that the seat carries gave this answer to packet n of this queue, whose fate is f where it was accepted.
+  pub record AsksDevice (n queue : ℕ) (answer : Tx) (f : Fate) (b a : Cpu D) : Type 0 where
+    pub same : KeepsSeatAndView b a
+    pub station : a.station ≡ Some (carried a)
+    pub handed : (st : StationState) → b.station ≡ Some st → (f ≡ fate_sent st) × HasAnswered answer queue n st (carried a)
+    pub made : steps a ≡ steps b
+
 -- THE REQUEUE SLOT
 
 module _ {D : Type 0} where

@@ -1,9 +1,7 @@
 -- what a dequeue leaves of what a seat knows
 pub mod Calls
--- what handing a packet to the device leaves
+-- what handing a packet to the device leaves, and a run
 pub mod Direct
--- what a run leaves
-pub mod Runs
 -- what a transmit and a soft interrupt leave
 pub mod Sends
 -- stations of the run of one sender, with one queue or several
@@ -14,7 +12,7 @@ pub mod Alone
 pub mod Steps
 -- what its calls ask of a seat, and what they leave of it
 pub mod Seats
--- what the parts of a transmit ask, and what each leaves
+-- what a transmit, the interrupts and their parts ask, and what each leaves
 pub mod Parts
 -- what the parts of handing a packet to the device ask, and what each leaves
 pub mod Handing

@@ -1,18 +1,26 @@
--- The parts of a transmit: what each requires of the seat (`May..`), and what each ensures of it.
-use Rattle.std.specs.Prelude.{◌≡◌, ℕ, true, false, List, Some, None}
+-- A transmit, the interrupts, and their parts: what each requires of the seat (`May..`), and what each ensures of it.
+use Rattle.std.specs.Prelude.{◌≡◌, ℕ, true, false, Bool, if◌then◌else◌, List, None}
 use Rattle.lq_model.specs.declared.fate.Info.{Info}
 use Rattle.lq_model.specs.declared.machine.Attempt.{Attempt}
-use Rattle.lq_model.specs.declared.machine.Attempt.TheVariants.{Direct as ToPass}
-use Rattle.lq_model.specs.declared.machine.Position.TheVariants.{Check, Gate, Leave, Put, Recheck, Try1}
-use Rattle.lq_run.specs.Runs.{begins}
+use Rattle.lq_model.specs.declared.machine.Attempt.TheVariants.{Interrupt}
+use Rattle.lq_model.specs.declared.machine.Position.{Position}
+use Rattle.lq_model.specs.declared.machine.Position.TheVariants.{Idle, Leave, Try1}
+use Rattle.lq_run.specs.Runs.{HasNone, begins}
+use Rattle.lq_ring.specs.Put.{no_locks}
+use Rattle.lq_ring.specs.Seats.{GoesOnFromPut}
+use Rattle.lq_table.specs.Fates.{settle_view_owed}
 use Rattle.lq_table.specs.Made.{Known}
-use Rattle.lq_table.specs.Sees.{view, known, setup, position, packet_at}
+use Rattle.lq_table.specs.Sees.{view, known, steps, setup, position, slot, IsElseSame, IsSameSeat}
 use Rattle.lq_table.specs.Moves.{IsPacketOf}
+use Rattle.lq_table.specs.Solo.{solo}
+use Rattle.lq_table.specs.Views.{View}
 use Rattle.lq_table.specs.declared.shared.Cpu.{Cpu}
 use Rattle.lq_table.specs.declared.shared.Shared.{Shared}
 use Rattle.lq_qdisc.specs.Calls.{IsServing, IsSlotOf, KeepsFates}
 use Rattle.lq_qdisc.specs.Direct.{position_after}
-use Rattle.lq_qdisc.specs.Sends.{HasCome, IsBringing, IsCallKept, IsFreeInside, IsInsideKept, serves_bands}
+use Rattle.lq_qdisc.specs.Seats.{BringsPacket, FindsOtherTurn, HasOwnerOf, IsNotTurnOf, IsPacketOfStation, IsTurnOf}
+use Rattle.lq_qdisc.specs.Sends.{HasCome, IsBringing, IsCallKept, IsReadyToSend, IsRefusedAsOnTrail, IsStill, IsStillWithHolder, serves_bands}
+use Rattle.lq_qdisc.specs.Steps.{EnqueuesBy, IsDueBy, StoresRefused, TransmitsBy}
 use Rattle.lq_qdisc.specs.declared.answers.Sending.{Sending}
 use Rattle.lq_qdisc.specs.declared.answers.Through.{Through}
 use Rattle.lq_qdisc.specs.declared.answers.Through.TheVariants.{Yes}
@@ -20,6 +28,14 @@ use Rattle.lq_qdisc.specs.declared.answers.Through.TheVariants.{Yes}
 -- WHAT THEY REQUIRE
 
 module _ {D : Type 0} where
+  -- between the two steps on the calls inside: no producer lock and no station, and no resize is half done
+  abbrev pub IsFreeInside : Cpu D → Type 0
+  IsFreeInside c = HasNone c × ((view c).locks ≡ no_locks) × ((view c).holder.resizing ≡ None)
+
+  -- no producer lock, and no resize half done
+  abbrev pub IsUnlocked : Cpu D → Type 0
+  IsUnlocked c = ((view c).locks ≡ no_locks) × ((view c).holder.resizing ≡ None)
+
   -- The seat has the run lock and the station, and no packet in hand.
   pub record MayServe (t : Shared D) (c : Cpu D) : Type 0 where
     pub serving : IsServing c
@@ -43,63 +59,79 @@ module _ {D : Type 0} where
     pub serving : IsServing c
     pub empty : through ≡ Yes → ((view c).holder.hand ≡ None) × ((view c).holder.slot ≡ None)
 
-module _ {D : Type 0} (t : Shared D) (n : ℕ) (c : Cpu D) where
-  -- The seat brings packet n, without the run lock, and may put it into its band.
-  pub record MayEnqueue : Type 0 where
-    pub at : position c ≡ Put (packet_at t n) false
-    pub brings : IsBringing t n c
-    pub free : IsFreeInside c
-
-  -- The seat brings packet n, with the run lock, and may put it into its band.
-  pub record MayEnqueueLocked : Type 0 where
-    pub at : position c ≡ Put (packet_at t n) true
-    pub brings : IsBringing t n c
-    pub serves : MayServe t c
-
-  -- The seat has the run lock and packet n in hand, and may hand n to the device past the bands.
-  pub record MayBypass : Type 0 where
-    pub at : position c ≡ Gate (packet_at t n) true
-    pub packet : IsPacketOf (setup t) n
-    pub serving : IsServing c
-    pub hand : (view c).holder.hand ≡ Some n
-
-  -- The seat brings packet n, with the run lock, and may load the state again to see whether n goes past the bands.
-  pub record MayRecheck : Type 0 where
-    pub at : position c ≡ Recheck (packet_at t n)
+  -- The seat brings packet n, stands here in its call, and has the run lock or is without it as this says.
+  pub record MayBring (t : Shared D) (n : ℕ) (here : Position) (has : Cpu D → Type 0) (c : Cpu D) : Type 0 where
+    pub at : position c ≡ here
     pub brings : IsBringing t n c
     pub packet : IsPacketOf (setup t) n
-    pub serves : MayServe t c
+    pub holds : has c
 
-  -- The seat brings packet n, and may try the run lock in order to hand n to the device past the bands.
-  pub record MayTryBypass : Type 0 where
-    pub at : position c ≡ Try1 (ToPass (packet_at t n))
-    pub brings : IsBringing t n c
-    pub packet : IsPacketOf (setup t) n
-    pub free : IsFreeInside c
-
-  -- The seat brings packet n, and may load the state for the first time.
-  pub record MayCheck : Type 0 where
-    pub at : position c ≡ Check (packet_at t n)
-    pub brings : IsBringing t n c
-    pub packet : IsPacketOf (setup t) n
-    pub free : IsFreeInside c
+  -- The seat is in no call, has nothing in hand, and has the owner of packet n, which is one of the station.
+  pub record MayTransmit (t : Shared D) (n : ℕ) (c : Cpu D) : Type 0 where
+    pub at : position c ≡ Idle
+    pub ready : IsReadyToSend c
+    pub packet : IsPacketOfStation t n
+    pub owner : HasOwnerOf t n c
 
 -- WHAT THEY ENSURE
 
 module _ {D : Type 0} where
-  -- The seat ran the bands, or found the run lock held, by these steps. Its call is at its end, without the run lock.
-  pub record EndsCallBy (by : Known → Known → Type 0) (b a : Cpu D) : Type 0 where
-    pub kept : IsInsideKept b a
-    pub fates : KeepsFates (view b) (view a)
-    pub at : position a ≡ Leave
-    pub free : IsFreeInside a
-    pub steps : by (known b) (known a)
-
-  -- The seat brought packet n with this answer, by these steps. Its call is at its end, without the run lock.
-  pub record BringsBy (infos : List Info) (n : ℕ) (answer : Sending) (by : Known → Known → Type 0) (b a : Cpu D) : Type 0 where
+  -- The seat is at the end of its call, without the run lock, by these steps; this came of what it knew.
+  pub record LeavesBy (comes : View → View → Type 0) (by : Known → Known → Type 0) (b a : Cpu D) : Type 0 where
     pub kept : IsCallKept b a
     pub fates : KeepsFates (view b) (view a)
     pub at : position a ≡ Leave
     pub free : IsFreeInside a
-    pub came : HasCome infos n answer (view b) (view a)
+    pub came : comes (view b) (view a)
     pub steps : by (known b) (known a)
+
+  -- so it is where it tried to run the bands
+  abbrev pub EndsCallBy : (Known → Known → Type 0) → Cpu D → Cpu D → Type 0
+  EndsCallBy by b a = LeavesBy IsStill by b a
+
+  -- and where it brought packet n with this answer
+  abbrev pub BringsBy : List Info → ℕ → Sending → (Known → Known → Type 0) → Cpu D → Cpu D → Type 0
+  BringsBy infos n answer by b a = LeavesBy (HasCome infos n answer) by b a
+
+  -- Packet n was put into its band, or dropped as full with its fate stored, as the answer says.
+  pub record EnqueuesAs (t : Shared D) (n : ℕ) (answer : Sending) (b a : Cpu D) : Type 0 where
+    pub same : IsSameSeat b a × (a.station ≡ b.station) × (slot a ≡ slot b)
+    pub at : GoesOnFromPut t n b a
+    pub put : EnqueuesBy (setup t) n answer (known b) (known a)
+
+  -- Packet n was refused by the event that this word of the state tells, and its fate is stored.
+  pub record RefusesAs (t : Shared D) (n state : ℕ) (answer : Sending) (b a : Cpu D) : Type 0 where
+    pub same : IsElseSame b a
+    pub settled : view a ≡ settle_view_owed (view b)
+    pub event : StoresRefused (setup t) n state answer (steps b) (steps a)
+    pub step : solo (view a) ≡ solo (view b)
+
+  -- A packet was transmitted where it is its turn: the seat is in no call, and has nothing in hand.
+  pub record TransmitsAs (t : Shared D) (n : ℕ) (answer : Sending) (b a : Cpu D) : Type 0 where
+    pub kept : IsCallKept b a
+    pub fates : KeepsFates (view b) (view a)
+    pub at : position a ≡ Idle
+    pub ready : IsReadyToSend a
+    pub in_turn : IsTurnOf t n b → TransmitsBy (setup t) n answer (known b) (known a)
+    pub first : IsTurnOf t n b → (view b).control.first ≡ true → IsRefusedAsOnTrail answer (view b)
+    pub alone : IsTurnOf t n b → (view b).place.raised ≡ false → BringsPacket t n b a
+    pub out_of_turn : IsNotTurnOf t n b → FindsOtherTurn t n answer b a
+
+  -- SCHED was cleared, and the seat goes on to the run lock where the bands are to be served, as the answer says.
+  pub record BeginsSoftirq (answer : Bool) (b a : Cpu D) : Type 0 where
+    pub same : IsElseSame b a
+    pub at : position a ≡ (if answer then Try1 Interrupt else Leave)
+    pub still : IsStillWithHolder (view b) (view a)
+    pub due : IsDueBy answer (known b) (known a)
+    pub mark : (view a).place.raised ≡ (view b).place.raised
+
+  -- An interrupt was done by these steps, with these fates stored: the seat is in no call, and has nothing in hand. A seat that has the table
+  -- alone knows this.
+  pub record InterruptsAs (stored : View → View → Type 0) (by : Known → Known → Type 0) (told : Cpu D → Cpu D → Type 0) (b a : Cpu D) : Type 0 where
+    pub kept : IsCallKept b a
+    pub fates : stored (view b) (view a)
+    pub at : position a ≡ Idle
+    pub ready : IsReadyToSend a
+    pub still : IsStill (view b) (view a)
+    pub steps : by (known b) (known a)
+    pub alone : told b a

@@ -2,24 +2,22 @@
 use Rattle.std.specs.Prelude.{◌≡◌, ◌≢◌, ℕ, ◌*◌, ◌<◌, Bool, false, length, slice_index, Option, Some, None}
 use Rattle.std.specs.Option.{option_map_or}
 use Rattle.lq_device.specs.Station.{StationState, HasAnswered}
-use Rattle.lq_model.specs.Alone.{RunningStation, brought_in}
+use Rattle.lq_model.specs.Alone.{RunningStation, brought_in, opened}
 use Rattle.lq_model.specs.Device.{is_busy}
 use Rattle.lq_model.specs.Plan.{band_in, owner_in, queue_in, rank_in, station_in}
 use Rattle.lq_model.specs.declared.device.Tx.{Tx}
-use Rattle.lq_model.specs.declared.fate.Fate.{Fate}
 use Rattle.lq_model.specs.declared.machine.Position.{Position}
 use Rattle.lq_model.specs.declared.machine.Position.TheVariants.{Gate, Scan, Xmit}
 use Rattle.lq_table.specs.Views.{first_account}
 use Rattle.lq_table.specs.Rule.{shown, times}
 use Rattle.lq_table.specs.Sees.{view, steps, setup, position, packet_at, carried}
 use Rattle.lq_table.specs.Moves.{IsPacketOf}
-use Rattle.lq_table.specs.Fates.{fate_sent}
 use Rattle.lq_table.specs.Made.{◌⊳◌}
 use Rattle.lq_table.specs.Turns.{take_turn_log}
 use Rattle.lq_table.specs.Solo.{IsAccounts, solo}
 use Rattle.lq_table.specs.declared.shared.Cpu.{Cpu}
 use Rattle.lq_table.specs.declared.shared.Shared.{Shared}
-use Rattle.lq_qdisc.specs.Alone.{BringsAlone, IsOneSender, RunsAlone, account_in}
+use Rattle.lq_qdisc.specs.Alone.{BringsAlone, Does, IsOneSender, RunsAlone, account_in}
 use Rattle.lq_qdisc.specs.Calls.{looking_at}
 use Rattle.lq_qdisc.specs.Direct.{IsSentAs, position_after}
 use Rattle.lq_qdisc.specs.declared.answers.Sending.{Sending}
@@ -43,10 +41,6 @@ module _ {D : Type 0} where
   -- the device of the station that it carries has room for a packet, and doesn't hang
   abbrev pub CarriesDeviceWithRoom : Cpu D → Type 0
   CarriesDeviceWithRoom c = (st : StationState) × (c.station ≡ Some st) × (0 < st.device.spare) × (st.device.hung ≡ false) × (length st.device.accepted < 1000000)
-
-  -- that device gave this answer to the packet n of this queue, whose fate is f where it was accepted
-  abbrev pub HandsOver : ℕ → ℕ → Tx → Fate → Cpu D → Cpu D → Type 0
-  HandsOver n queue answer f b a = (st : StationState) → b.station ≡ Some st → (f ≡ fate_sent st) × HasAnswered answer queue n st (carried a)
 
   -- that device accepted the packet n since the last step
   abbrev pub CarriesAccepted : Shared D → ℕ → Cpu D → Type 0
@@ -94,6 +88,10 @@ module _ {D : Type 0} where
   -- by the packet n
   abbrev pub BringsPacket : Shared D → ℕ → Cpu D → Cpu D → Type 0
   BringsPacket t n b a = BringsStation t (brought_in t.infos.now t.bypass n) b a
+
+  -- it opens the station's queues
+  abbrev pub OpensStation : Shared D → Cpu D → Cpu D → Type 0
+  OpensStation t b a = Does t.infos.now (first_account (setup t)) opened (solo (view b)) (solo (view a))
 
   -- where its station is active it serves that as the run of one sender does; with several queues, where what it has as holder is the
   -- account's

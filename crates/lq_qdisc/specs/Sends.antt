@@ -37,22 +37,6 @@ module _ {D : Type 0} where
     pub control : (view a).control ≡ (view b).control
     pub told : (view a).whole.told ≡ (view b).whole.told
 
-module _ {D : Type 0} where
-  -- between the two steps on the calls inside: no producer lock and no station, and no resize is half done
-  abbrev pub IsFreeInside : Cpu D → Type 0
-  IsFreeInside c = HasNone c × ((view c).locks ≡ no_locks) × ((view c).holder.resizing ≡ None)
-
-  -- what serving the bands leaves as it was
-  pub record IsInsideKept (b a : Cpu D) : Type 0 where
-    pub seat : IsSameSeat b a
-    pub share : (view a).share ≡ (view b).share
-    pub packets : (view a).packets ≡ (view b).packets
-    pub locks : (view a).locks ≡ (view b).locks
-    pub control : (view a).control ≡ (view b).control
-    pub turns : (view a).turns ≡ (view b).turns
-    pub trail : (view a).trail ≡ (view b).trail
-    pub told : (view a).whole.told ≡ (view b).whole.told
-
   -- the seat brings the packet n, which has no fate and no place yet
   abbrev pub IsBringing : Shared D → ℕ → Cpu D → Type 0
   IsBringing t n c = (n < length t.infos.now) × (band_in t.infos.now n < 3) × ((view c).packets.fresh ≡ Some n) × ((view c).packets.owed ≡ None)
@@ -114,9 +98,7 @@ pub record IsLockReleased (old new : View) : Type 0 where
 abbrev pub Enqueues : ℕ → ℕ → Sending → View → View → Type 0
 Enqueues n band sending.Queued old new = (new ≡ putting band n old) × SeesEnd band old 0 × (solo new ≡ heard (Join n band) (solo old))
 Enqueues n band (sending.FullSeen seen) old new = (new ≡ settle_view_owed (dropped n seen old)) × SeesEnd band old (seen + 1) × (solo new ≡ heard (Full n seen) (solo old))
-Enqueues n band sending.Direct old new = ⊥
-Enqueues n band (sending.Refused event) old new = ⊥
-Enqueues n band (sending.OutOfTurn found) old new = ⊥
+Enqueues n band _ old new = ⊥
 
 -- The station is deactivated by the event: the packet is refused, and that is its fate.
 abbrev pub IsRefused : ℕ → ℕ → ℕ → View → View → Type 0

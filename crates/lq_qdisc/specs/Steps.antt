@@ -205,9 +205,7 @@ abbrev pub EnqueuesBy : Setup → ℕ → Sending → Known → Known → Type 0
 EnqueuesBy k n sending.Queued old new = Enqueues n (band_in k.infos n) sending.Queued old.view new.view × Puts k (band_in k.infos n) n old new
 EnqueuesBy k n (sending.FullSeen seen) old new = Enqueues n (band_in k.infos n) (sending.FullSeen seen) old.view new.view
     × (full : Known) × FindsFull k (band_in k.infos n) n seen old full × (new.steps ≡ full.steps ⊳ settle_log k n (word_of (fate.Full seen)))
-EnqueuesBy k n sending.Direct old new = ⊥
-EnqueuesBy k n (sending.Refused event) old new = ⊥
-EnqueuesBy k n (sending.OutOfTurn found) old new = ⊥
+EnqueuesBy k n _ old new = ⊥
 
 -- by a seat that doesn't have the run lock, which then tries that
 abbrev pub GoesThroughBy : Setup → ℕ → Sending → Known → Known → Type 0

@@ -1,19 +1,20 @@
 -- The parts of a run: what each requires of the holder of the run lock (`May..`), and what each ensures of it.
-use Rattle.std.specs.Prelude.{⊤, ◌≡◌, ◌≢◌, ◌≤◌, ℕ, ◌+◌, Bool, true, false, if◌then◌else◌, is_none, Option, Some, None, MatchOption}
-use Rattle.lq_model.specs.declared.machine.Position.TheVariants.{ClearMissed, Deq, Gate, Scan, Test, Unlock}
+use Rattle.std.specs.Prelude.{⊤, ◌≡◌, ◌≢◌, ◌≤◌, ℕ, ◌+◌, Bool, if◌then◌else◌, is_none, Option, Some, None, MatchOption}
+use Rattle.lq_model.specs.declared.machine.Position.{Position}
+use Rattle.lq_model.specs.declared.machine.Position.TheVariants.{Deq, Gate, Unlock}
 use Rattle.lq_run.specs.Runs.{begins}
 use Rattle.lq_table.specs.Made.{Known}
 use Rattle.lq_table.specs.Sees.{view, known, setup, position, slot, packet_at}
-use Rattle.lq_table.specs.Solo.{IsSole, solo}
+use Rattle.lq_table.specs.Solo.{Solo, solo}
 use Rattle.lq_table.specs.States.{set_bit_alone}
 use Rattle.lq_table.specs.Moves.{IsPacketOf}
 use Rattle.lq_table.specs.declared.shared.Cpu.{Cpu}
 use Rattle.lq_table.specs.declared.shared.Shared.{Shared}
 use Rattle.lq_table.specs.Views.{Setup}
-use Rattle.lq_qdisc.specs.Calls.{ClearsMissedAlone, Dequeues, Finds, FindsNone, IsKeptInRun, IsServing, IsSettledSame, IsSlotOf, IsTakenOf, KeepsFates, KeepsHolder, Looks, SeesOneQueue, after_blocked, after_dequeue, cleared, laid_aside, with_back}
-use Rattle.lq_qdisc.specs.Runs.{HasSentOneMore, accepted_count, position_in_run}
+use Rattle.lq_qdisc.specs.Calls.{ClearsMissedAlone, Dequeues, Finds, FindsNone, IsKeptInRun, IsServing, IsSettledSame, IsSlotOf, IsTakenOf, KeepsFates, KeepsHolder, Looks, SeesOneQueue, after_blocked, after_dequeue, laid_aside, with_back}
+use Rattle.lq_qdisc.specs.Direct.{HasSentOneMore, accepted_count, position_in_run}
 use Rattle.lq_qdisc.specs.Seats.{GoesOnFromBands, ServesStation}
-use Rattle.lq_qdisc.specs.Steps.{ClearsBothBy, ClearsMissedBy, DequeuesBy, DequeuesFrom, LoadsBitsBy, LooksThrough, RestartsBy, RunsBy, Scans}
+use Rattle.lq_qdisc.specs.Steps.{ClearsMissedBy, DequeuesBy, DequeuesFrom, LooksThrough, RestartsBy, RunsBy, Scans}
 use Rattle.lq_qdisc.specs.declared.answers.Ran.{Ran}
 use Rattle.lq_qdisc.specs.declared.answers.RunEnd.{RunEnd}
 use Rattle.lq_qdisc.specs.declared.answers.RunEnd.TheVariants.{Quota}
@@ -69,26 +70,15 @@ module _ {D : Type 0} where
     pub packet : MatchOption found ⊤ (λ n. IsPacketOf (setup t) n)
     pub made : Scans (setup t) found (known b) (known a)
 
-  -- After a scan that found nothing: whether MISSED or DRAINING is set was loaded.
-  pub record LoadsNonEmpty (answer : Bool) (b a : Cpu D) : Type 0 where
+  -- After a scan that found nothing the seat goes on to this position, by these steps. A seat that has the table alone knows this.
+  pub record TakesNothing (next : Position) (told : Solo → Solo) (by : Known → Known → Type 0) (b a : Cpu D) : Type 0 where
     pub kept : IsKeptInRun b a
     pub run : (view a).place.run ≡ (view b).place.run
     pub station : (a.station ≡ b.station) × (slot a ≡ slot b)
-    pub at : position a ≡ (if answer then ClearMissed else Unlock)
+    pub at : position a ≡ next
     pub fates : IsSettledSame b a
-    pub same : KeepsHolder (solo (view b)) (view b) (view a)
-    pub sole : IsSole (view b) → answer ≡ false → solo (view a) ≡ cleared (solo (view b))
-    pub made : LoadsBitsBy answer (known b) (known a)
-
-  -- Both bits were cleared.
-  pub record ClearsNonEmpty (b a : Cpu D) : Type 0 where
-    pub kept : IsKeptInRun b a
-    pub run : (view a).place.run ≡ (view b).place.run
-    pub station : (a.station ≡ b.station) × (slot a ≡ slot b)
-    pub at : position a ≡ Scan 0 true
-    pub fates : IsSettledSame b a
-    pub same : KeepsHolder (cleared (solo (view b))) (view b) (view a)
-    pub made : ClearsBothBy (known b) (known a)
+    pub same : KeepsHolder (told (solo (view b))) (view b) (view a)
+    pub made : by (known b) (known a)
 
   -- At a stopped queue: MISSED was cleared, and set again where the queue was open by then; else DRAINING was set.
   pub record ClearsAtStop (t : Shared D) (queue : ℕ) (b a : Cpu D) : Type 0 where
@@ -105,10 +95,10 @@ module _ {D : Type 0} where
 -- A RUN
 
 module _ {D : Type 0} where
-  -- Packet n, which the holder has in hand, may be handed to the device.
-  pub record MayXmit (t : Shared D) (n : ℕ) (c : Cpu D) : Type 0 where
+  -- Packet n, which the holder has in hand, may be handed to the device: past the bands (`direct`) or out of them.
+  pub record MayXmit (t : Shared D) (n : ℕ) (direct : Bool) (c : Cpu D) : Type 0 where
     pub packet : IsPacketOf (setup t) n
-    pub at : (direct : Bool) × (position c ≡ Gate (packet_at t n) direct)
+    pub at : position c ≡ Gate (packet_at t n) direct
     pub serving : IsServing c
     pub hand : (view c).holder.hand ≡ Some n
 

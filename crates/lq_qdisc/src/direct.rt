@@ -3,16 +3,13 @@ ghost use Rattle.std.specs.Prelude.{◌≡◌, Bool, true, Some, None};
 ghost use Rattle.lq_device.specs.Station.{StationState, with_slot};
 ghost use Rattle.lq_model.specs.Device.{is_busy};
 ghost use Rattle.lq_model.specs.Plan.{queue_in};
+ghost use Rattle.lq_model.specs.declared.device.Tx.TheVariants.{SentHang};
 ghost use Rattle.lq_model.specs.declared.machine.Position.TheVariants.{Gate, StoreXoff, Xmit};
-ghost use Rattle.lq_table.specs.Sees.{view, steps, setup, position, packet_at, carried, IsSeatOf, IsElseSame};
-ghost use Rattle.lq_table.specs.Solo.{solo, heard};
+ghost use Rattle.lq_table.specs.Sees.{view, setup, position, packet_at, IsSeatOf};
 ghost use Rattle.lq_ring.specs.Calls.{ChangesStation};
-ghost use Rattle.lq_ring.specs.Seats.{KeepsSeatAndView};
-ghost use Rattle.lq_qdisc.specs.Steps.{DirectsBy, OffersBy, hung_stored};
-ghost use Rattle.lq_qdisc.specs.Handing.{MayRequeueBusy, MayRequeueStopped, MaySettleSent, MayStartXmit, MayStop, RequeuesBusy, RequeuesStopped, SettlesSent, StoresStops, XmitsBy};
-ghost use Rattle.lq_qdisc.specs.Direct.{StaysAt, hearing_hung, hung_below};
-ghost use Rattle.lq_qdisc.specs.Seats.{CarriesDeviceWithRoom, GoesOnFrom, HandsOver};
-ghost use Rattle.lq_qdisc.specs.declared.answers.Through.TheVariants.{Yes};
+ghost use Rattle.lq_qdisc.specs.Steps.{DirectsBy, OffersBy};
+ghost use Rattle.lq_qdisc.specs.Handing.{AsksDevice, MayRequeueBusy, MayRequeueStopped, MaySettleSent, MayStartXmit, MayStop, RequeuesBusy, RequeuesStopped, SettlesSent, StoresStops, XmitsBy};
+ghost use Rattle.lq_qdisc.specs.Seats.{CarriesDeviceWithRoom};
 ghost use Rattle.lq_qdisc.specs.Takes.{MayXmit};
 
 use crate::answers::{Through, Why};
@@ -28,7 +25,7 @@ use lq_table::{Cpu, Shared};
 /// queue was loaded as 1 or 2 in this call, Busy only where the device answered so.
 pub fn direct_xmit<'a, D: TxDevice>(shared: &Shared<'a, D>, cpu: &mut Cpu<D>, n: u32) -> Through
     requires seat { IsSeatOf shared.now cpu.old }
-    requires may { MayXmit shared.now n cpu.old }
+    requires may { (direct : Bool) × MayXmit shared.now n direct cpu.old }
     ensures { XmitsBy (Gate (packet_at shared.now n)) result (DirectsBy (setup shared.now) result n (queue_in shared.now.infos.now n)) cpu.old cpu.new }
 {
     let queue = queue_of(shared, n);
@@ -61,10 +58,7 @@ fn requeue_stopped<'a, D: TxDevice>(shared: &Shared<'a, D>, cpu: &mut Cpu<D>, n:
 /// Hands packet `n` to the device. Gives its answer, and the fate that the packet has where it was accepted.
 fn ask_device<D: TxDevice>(cpu: &mut Cpu<D>, queue: u32, n: u32) -> (Tx, Fate)
     requires station { CarriesDeviceWithRoom cpu.old }
-    ensures same { KeepsSeatAndView cpu.old cpu.new }
-    ensures station { cpu.new.station ≡ Some (carried cpu.new) }
-    ensures handed { HandsOver n queue result.0 result.1 cpu.old cpu.new }
-    ensures made { steps cpu.new ≡ steps cpu.old }
+    ensures { AsksDevice n queue result.0 result.1 cpu.old cpu.new }
 {
     let station = cpu.station_mut();
     let unit = station.unit();
@@ -88,12 +82,7 @@ fn store_hung<'a, D: TxDevice>(shared: &Shared<'a, D>, cpu: &mut Cpu<D>)
     requires seat { IsSeatOf shared.now cpu.old }
     requires at { (direct : Bool) × (position cpu.old ≡ StoreXoff 0 true direct) }
     requires hung { (view cpu.old).holder.station.device.hung ≡ true }
-    ensures same { IsElseSame cpu.old cpu.new }
-    ensures at { GoesOnFrom (StoreXoff 0 true) Yes cpu.old cpu.new }
-    ensures stays { StaysAt (view cpu.old) (view cpu.new) }
-    ensures heard { (view cpu.new).whole.state.past ≡ hung_below shared.now.queues (view cpu.old).whole.state.past }
-    ensures step { solo (view cpu.new) ≡ hearing_hung shared.now.queues (solo (view cpu.old)) }
-    ensures made { steps cpu.new ≡ hung_stored (setup shared.now) shared.now.queues (steps cpu.old) }
+    ensures { StoresStops shared.now 0 SentHang cpu.old cpu.new }
 {
     for queue in 0..shared.queues() {
         shared.store_xoff(cpu, queue, 2);

@@ -1,17 +1,13 @@
 //! Soft interrupts, and a driver's interrupts.
-ghost use Rattle.std.specs.Prelude.{◌≡◌, ◌<◌, true, if◌then◌else◌};
-ghost use Rattle.lq_model.specs.declared.machine.Attempt.TheVariants.{Interrupt};
-ghost use Rattle.lq_model.specs.declared.machine.Position.TheVariants.{Idle, Leave, Soft, Try1};
-ghost use Rattle.lq_model.specs.Alone.{opened};
-ghost use Rattle.lq_table.specs.Views.{first_account};
-ghost use Rattle.lq_qdisc.specs.Alone.{Does};
+ghost use Rattle.std.specs.Prelude.{◌≡◌, ◌<◌, true};
+ghost use Rattle.lq_model.specs.declared.machine.Position.TheVariants.{Idle, Soft};
 ghost use Rattle.lq_table.specs.Sees.{view, known, setup, position, IsSeatOf, IsElseSame};
-ghost use Rattle.lq_table.specs.Solo.{solo};
 ghost use Rattle.lq_table.specs.Moves.{at_rest};
 ghost use Rattle.lq_qdisc.specs.Calls.{KeepsFates};
-ghost use Rattle.lq_qdisc.specs.Steps.{InterruptsBy, IsDueBy};
-ghost use Rattle.lq_qdisc.specs.Sends.{IsCallKept, IsReadyToSend, IsStill, IsStillWithHolder, Wakes, WakesBelow};
-ghost use Rattle.lq_qdisc.specs.Seats.{BringsStation};
+ghost use Rattle.lq_qdisc.specs.Steps.{InterruptsBy};
+ghost use Rattle.lq_qdisc.specs.Sends.{IsReadyToSend, Wakes, WakesBelow};
+ghost use Rattle.lq_qdisc.specs.Parts.{BeginsSoftirq, InterruptsAs};
+ghost use Rattle.lq_qdisc.specs.Seats.{BringsStation, OpensStation};
 
 use crate::sends::{is_deactivated, qdisc_run};
 use lq_device::TxDevice;
@@ -26,13 +22,7 @@ pub fn softirq<'a, D: TxDevice>(shared: &Shared<'a, D>, cpu: &mut Cpu<D>)
     requires at { at_rest (position cpu.old) ≡ true }
     requires raised { (view cpu.old).place.raised ≡ true }
     requires ready { IsReadyToSend cpu.old }
-    ensures kept { IsCallKept cpu.old cpu.new }
-    ensures fates { KeepsFates (view cpu.old) (view cpu.new) }
-    ensures at { position cpu.new ≡ Idle }
-    ensures ready { IsReadyToSend cpu.new }
-    ensures still { IsStill (view cpu.old) (view cpu.new) }
-    ensures interrupts { InterruptsBy (setup shared.now) (known cpu.old) (known cpu.new) }
-    ensures alone { BringsStation shared.now (λ s. s) cpu.old cpu.new }
+    ensures { InterruptsAs KeepsFates (InterruptsBy (setup shared.now)) (BringsStation shared.now (λ s. s)) cpu.old cpu.new }
 {
     shared.enter(cpu);
     if begin_softirq(shared, cpu) {
@@ -45,11 +35,7 @@ pub fn softirq<'a, D: TxDevice>(shared: &Shared<'a, D>, cpu: &mut Cpu<D>)
 fn begin_softirq<'a, D: TxDevice>(shared: &Shared<'a, D>, cpu: &mut Cpu<D>) -> bool
     requires seat { IsSeatOf shared.now cpu.old }
     requires at { position cpu.old ≡ Soft }
-    ensures same { IsElseSame cpu.old cpu.new }
-    ensures at { position cpu.new ≡ (if result then Try1 Interrupt else Leave) }
-    ensures still { IsStillWithHolder (view cpu.old) (view cpu.new) }
-    ensures due { IsDueBy result (known cpu.old) (known cpu.new) }
-    ensures mark { (view cpu.new).place.raised ≡ (view cpu.old).place.raised }
+    ensures { BeginsSoftirq result cpu.old cpu.new }
 {
     let first = shared.load_state(cpu);
     unschedule(shared, cpu);
@@ -66,13 +52,8 @@ pub fn irq<'a, D: TxDevice>(shared: &Shared<'a, D>, cpu: &mut Cpu<D>)
     requires seat { IsSeatOf shared.now cpu.old }
     requires at { position cpu.old ≡ Idle }
     requires ready { IsReadyToSend cpu.old }
-    ensures kept { IsCallKept cpu.old cpu.new }
-    ensures at { position cpu.new ≡ Idle }
-    ensures ready { IsReadyToSend cpu.new }
-    ensures still { IsStill (view cpu.old) (view cpu.new) }
-    ensures settled { (view cpu.new).settled ≡ (view cpu.old).settled }
-    ensures wakes { WakesBelow (setup shared.now) shared.now.queues (known cpu.old) (known cpu.new) }
-    ensures alone { Does shared.now.infos.now (first_account (setup shared.now)) opened (solo (view cpu.old)) (solo (view cpu.new)) }
+    ensures { InterruptsAs (λ v w. w.settled ≡ v.settled) (WakesBelow (setup shared.now) shared.now.queues)
+        (OpensStation shared.now) cpu.old cpu.new }
 {
     for queue in 0..shared.queues() {
         wake_queue(shared, cpu, queue);

@@ -1,16 +1,14 @@
 //! Transmits, and attempts to run the queue discipline.
-ghost use Rattle.std.specs.Prelude.{◌≡◌, ◌<◌, Bool, None, length};
-ghost use Rattle.lq_model.specs.declared.machine.Position.TheVariants.{Put};
-ghost use Rattle.lq_ring.specs.Put.{no_locks};
-ghost use Rattle.lq_ring.specs.Seats.{GoesOnFromPut};
-ghost use Rattle.lq_table.specs.Sees.{view, known, steps, setup, position, slot, packet_at, IsSeatOf, IsSameSeat, IsElseSame};
+ghost use Rattle.std.specs.Prelude.{◌≡◌, ◌<◌, Bool, true, false, length};
+ghost use Rattle.lq_model.specs.declared.machine.Attempt.TheVariants.{Direct as ToPass};
+ghost use Rattle.lq_model.specs.declared.machine.Position.TheVariants.{Check, Put, Recheck, Try1};
+ghost use Rattle.lq_table.specs.Sees.{view, setup, packet_at, IsSeatOf};
 ghost use Rattle.lq_table.specs.Moves.{is_set};
 ghost use Rattle.lq_table.specs.States.{some_bit};
-ghost use Rattle.lq_table.specs.Fates.{settle_view_owed};
-ghost use Rattle.lq_table.specs.Solo.{solo};
-ghost use Rattle.lq_qdisc.specs.Steps.{AttemptsBy, EnqueuesAndRunsBy, EnqueuesBy, FollowsBy, GoesBy, GoesLockedBy, GoesThroughBy, PassesBandsBy, RunsToEndBy, StoresRefused, TriesToPassBy};
-ghost use Rattle.lq_qdisc.specs.Sends.{IsBringing, OwesRefused};
-ghost use Rattle.lq_qdisc.specs.Parts.{BringsBy, MayBypass, MayCheck, MayEnqueue, MayEnqueueLocked, MayFollow, MayRecheck, MayRun, MayTryBypass, MayTryRun, EndsCallBy};
+ghost use Rattle.lq_qdisc.specs.Steps.{AttemptsBy, EnqueuesAndRunsBy, FollowsBy, GoesBy, GoesLockedBy, GoesThroughBy, PassesBandsBy, RunsToEndBy, TriesToPassBy};
+ghost use Rattle.lq_qdisc.specs.Sends.{OwesRefused};
+ghost use Rattle.lq_qdisc.specs.Parts.{BringsBy, EndsCallBy, EnqueuesAs, IsFreeInside, IsUnlocked, MayBring, MayFollow, MayRun, MayServe, MayTryRun, RefusesAs};
+ghost use Rattle.lq_qdisc.specs.Takes.{MayXmit};
 
 use crate::answers::{Sending, Through};
 use crate::direct::direct_xmit;
@@ -68,12 +66,8 @@ fn enqueue<'a, D: TxDevice, R: Wait>(
     n: u32,
 ) -> Sending
     requires seat { IsSeatOf shared.now cpu.old }
-    requires at { (holds : Bool) × (position cpu.old ≡ Put (packet_at shared.now n) holds) }
-    requires packet { IsBringing shared.now n cpu.old }
-    requires idle { ((view cpu.old).locks ≡ no_locks) × ((view cpu.old).holder.resizing ≡ None) }
-    ensures same { IsSameSeat cpu.old cpu.new × (cpu.new.station ≡ cpu.old.station) × (slot cpu.new ≡ slot cpu.old) }
-    ensures at { GoesOnFromPut shared.now n cpu.old cpu.new }
-    ensures put { EnqueuesBy (setup shared.now) n result (known cpu.old) (known cpu.new) }
+    requires may { (holds : Bool) × MayBring shared.now n (Put (packet_at shared.now n) holds) IsUnlocked cpu.old }
+    ensures { EnqueuesAs shared.now n result cpu.old cpu.new }
 {
     let band = shared.infos()[n as usize].band as u32;
     match produce(rt, shared, cpu, band, n) {
@@ -93,7 +87,7 @@ fn enqueue_and_run<'a, D: TxDevice, R: Wait>(
     n: u32,
 ) -> Sending
     requires seat { IsSeatOf shared.now cpu.old }
-    requires may { MayEnqueue shared.now n cpu.old }
+    requires may { MayBring shared.now n (Put (packet_at shared.now n) false) IsFreeInside cpu.old }
     ensures { BringsBy shared.now.infos.now n result (GoesThroughBy (setup shared.now) n result) cpu.old cpu.new }
 {
     let sending = enqueue(rt, shared, cpu, n);
@@ -109,7 +103,7 @@ fn enqueue_and_run_locked<'a, D: TxDevice, R: Wait>(
     n: u32,
 ) -> Sending
     requires seat { IsSeatOf shared.now cpu.old }
-    requires may { MayEnqueueLocked shared.now n cpu.old }
+    requires may { MayBring shared.now n (Put (packet_at shared.now n) true) (MayServe shared.now) cpu.old }
     ensures { BringsBy shared.now.infos.now n result (EnqueuesAndRunsBy (setup shared.now) n result) cpu.old cpu.new }
 {
     let sending = enqueue(rt, shared, cpu, n);
@@ -134,7 +128,7 @@ fn run_after_bypass<'a, D: TxDevice>(shared: &Shared<'a, D>, cpu: &mut Cpu<D>, t
 /// Hands packet `n` to the device, past the bands: neither MISSED nor DRAINING was set under the run lock.
 fn xmit_bypass<'a, D: TxDevice>(shared: &Shared<'a, D>, cpu: &mut Cpu<D>, n: u32)
     requires seat { IsSeatOf shared.now cpu.old }
-    requires may { MayBypass shared.now n cpu.old }
+    requires may { MayXmit shared.now n true cpu.old }
     ensures { EndsCallBy (PassesBandsBy (setup shared.now) n) cpu.old cpu.new }
 {
     let through = direct_xmit(shared, cpu, n);
@@ -150,7 +144,7 @@ fn bypass_locked<'a, D: TxDevice, R: Wait>(
     n: u32,
 ) -> Sending
     requires seat { IsSeatOf shared.now cpu.old }
-    requires may { MayRecheck shared.now n cpu.old }
+    requires may { MayBring shared.now n (Recheck (packet_at shared.now n)) (MayServe shared.now) cpu.old }
     ensures { BringsBy shared.now.infos.now n result (GoesLockedBy (setup shared.now) n result) cpu.old cpu.new }
 {
     let state = shared.recheck(cpu, n);
@@ -170,7 +164,7 @@ fn try_bypass<'a, D: TxDevice, R: Wait>(
     n: u32,
 ) -> Sending
     requires seat { IsSeatOf shared.now cpu.old }
-    requires may { MayTryBypass shared.now n cpu.old }
+    requires may { MayBring shared.now n (Try1 (ToPass (packet_at shared.now n))) IsFreeInside cpu.old }
     ensures { BringsBy shared.now.infos.now n result (TriesToPassBy (setup shared.now) n result) cpu.old cpu.new }
 {
     if begin(shared, cpu) {
@@ -185,10 +179,7 @@ fn refuse<'a, D: TxDevice>(shared: &Shared<'a, D>, cpu: &mut Cpu<D>, n: u32, sta
     requires seat { IsSeatOf shared.now cpu.old }
     requires packet { n < length shared.now.infos.now }
     requires state { OwesRefused n state (view cpu.old) }
-    ensures same { IsElseSame cpu.old cpu.new }
-    ensures view { view cpu.new ≡ settle_view_owed (view cpu.old) }
-    ensures event { StoresRefused (setup shared.now) n state result (steps cpu.old) (steps cpu.new) }
-    ensures step { solo (view cpu.new) ≡ solo (view cpu.old) }
+    ensures { RefusesAs shared.now n state result cpu.old cpu.new }
 {
     let event = (state / 256 - 1) as u32;
     shared.settle(cpu, n, Fate::Refused { event });
@@ -204,7 +195,7 @@ pub(crate) fn xmit_skb<'a, D: TxDevice, R: Wait>(
     n: u32,
 ) -> Sending
     requires seat { IsSeatOf shared.now cpu.old }
-    requires may { MayCheck shared.now n cpu.old }
+    requires may { MayBring shared.now n (Check (packet_at shared.now n)) IsFreeInside cpu.old }
     ensures { BringsBy shared.now.infos.now n result (GoesBy (setup shared.now) n result) cpu.old cpu.new }
 {
     let state = shared.check(cpu, n);

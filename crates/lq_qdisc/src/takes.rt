@@ -1,16 +1,18 @@
 //! Taking the packet that is served next.
-ghost use Rattle.std.specs.Prelude.{◌≡◌, ◌<◌, Bool, false, length, Some, None};
+ghost use Rattle.std.specs.Prelude.{◌≡◌, ◌<◌, Bool, true, false, if◌then◌else◌, length, Some, None};
 ghost use Rattle.lq_model.specs.Plan.{queue_in};
 ghost use Rattle.lq_model.specs.Steps.{queue_of_blocked};
 ghost use Rattle.lq_model.specs.declared.machine.Blocked.{Blocked};
-ghost use Rattle.lq_model.specs.declared.machine.Position.TheVariants.{BlockedClear, Scan, Test, ClearMissed, Deq};
+ghost use Rattle.lq_model.specs.declared.machine.Position.TheVariants.{BlockedClear, Scan, Test, ClearMissed, Deq, Unlock};
 ghost use Rattle.lq_table.specs.Sees.{view, setup, position, slot, IsSeatOf};
 ghost use Rattle.lq_table.specs.Moves.{IsPacketOf};
 ghost use Rattle.lq_device.specs.Station.{StationState, with_slot};
 ghost use Rattle.lq_table.specs.Rule.{shown};
 ghost use Rattle.lq_ring.specs.Calls.{ChangesStation};
-ghost use Rattle.lq_qdisc.specs.Calls.{IsServing};
-ghost use Rattle.lq_qdisc.specs.Takes.{ClearsAtStop, ClearsNonEmpty, DequeuesAs, DequeuesBands, DequeuesNext, DequeuesWith, LoadsNonEmpty, MayDequeue, MayDequeueOpen, ScansBands};
+ghost use Rattle.lq_table.specs.Solo.{IsSole, solo};
+ghost use Rattle.lq_qdisc.specs.Calls.{IsServing, cleared};
+ghost use Rattle.lq_qdisc.specs.Steps.{ClearsBothBy, LoadsBitsBy};
+ghost use Rattle.lq_qdisc.specs.Takes.{ClearsAtStop, DequeuesAs, DequeuesBands, DequeuesNext, DequeuesWith, MayDequeue, MayDequeueOpen, ScansBands, TakesNothing};
 
 use crate::answers::Taken;
 use lq_device::TxDevice;
@@ -112,7 +114,8 @@ fn scan<'a, D: TxDevice>(shared: &Shared<'a, D>, cpu: &mut Cpu<D>) -> Option<u32
 fn load_is_non_empty<'a, D: TxDevice>(shared: &Shared<'a, D>, cpu: &mut Cpu<D>) -> bool
     requires seat { IsSeatOf shared.now cpu.old }
     requires at { position cpu.old ≡ Test }
-    ensures { LoadsNonEmpty result cpu.old cpu.new }
+    ensures loads { TakesNothing (if result then ClearMissed else Unlock) (λ s. s) (LoadsBitsBy result) cpu.old cpu.new }
+    ensures sole { IsSole (view cpu.old) → result ≡ false → solo (view cpu.new) ≡ cleared (solo (view cpu.old)) }
 {
     let state = shared.load_state(cpu);
     state & MISSED != 0 || state & DRAINING != 0
@@ -122,7 +125,7 @@ fn load_is_non_empty<'a, D: TxDevice>(shared: &Shared<'a, D>, cpu: &mut Cpu<D>) 
 fn clear_non_empty<'a, D: TxDevice>(shared: &Shared<'a, D>, cpu: &mut Cpu<D>)
     requires seat { IsSeatOf shared.now cpu.old }
     requires at { position cpu.old ≡ ClearMissed }
-    ensures { ClearsNonEmpty cpu.old cpu.new }
+    ensures { TakesNothing (Scan 0 true) cleared ClearsBothBy cpu.old cpu.new }
 {
     shared.clear_missed(cpu);
     shared.clear_draining(cpu);

@@ -1,11 +1,6 @@
 //! The transmit of a packet by its sender.
-ghost use Rattle.std.specs.Prelude.{◌≡◌, true, false};
-ghost use Rattle.lq_model.specs.declared.machine.Position.TheVariants.{Idle};
-ghost use Rattle.lq_qdisc.specs.Steps.{TransmitsBy};
-ghost use Rattle.lq_table.specs.Sees.{view, known, setup, position, IsSeatOf};
-ghost use Rattle.lq_qdisc.specs.Calls.{KeepsFates};
-ghost use Rattle.lq_qdisc.specs.Sends.{IsCallKept, IsReadyToSend, IsRefusedAsOnTrail};
-ghost use Rattle.lq_qdisc.specs.Seats.{BringsPacket, FindsOtherTurn, HasOwnerOf, IsNotTurnOf, IsPacketOfStation, IsTurnOf};
+ghost use Rattle.lq_table.specs.Sees.{IsSeatOf};
+ghost use Rattle.lq_qdisc.specs.Parts.{MayTransmit, TransmitsAs};
 
 use crate::answers::Sending;
 use crate::sends::xmit_skb;
@@ -30,18 +25,8 @@ pub fn transmit<'a, D: TxDevice, R: Wait>(
     n: u32,
 ) -> Sending
     requires seat { IsSeatOf shared.now cpu.old }
-    requires at { position cpu.old ≡ Idle }
-    requires ready { IsReadyToSend cpu.old }
-    requires packet { IsPacketOfStation shared.now n }
-    requires owner { HasOwnerOf shared.now n cpu.old }
-    ensures kept { IsCallKept cpu.old cpu.new }
-    ensures fates { KeepsFates (view cpu.old) (view cpu.new) }
-    ensures at { position cpu.new ≡ Idle }
-    ensures ready { IsReadyToSend cpu.new }
-    ensures in_turn { IsTurnOf shared.now n cpu.old → TransmitsBy (setup shared.now) n result (known cpu.old) (known cpu.new) }
-    ensures first { IsTurnOf shared.now n cpu.old → (view cpu.old).control.first ≡ true → IsRefusedAsOnTrail result (view cpu.old) }
-    ensures alone { IsTurnOf shared.now n cpu.old → (view cpu.old).place.raised ≡ false → BringsPacket shared.now n cpu.old cpu.new }
-    ensures out_of_turn { IsNotTurnOf shared.now n cpu.old → FindsOtherTurn shared.now n result cpu.old cpu.new }
+    requires may { MayTransmit shared.now n cpu.old }
+    ensures { TransmitsAs shared.now n result cpu.old cpu.new }
 {
     if let Err(found) = shared.take_turn(cpu, n) {
         return Sending::OutOfTurn { found };

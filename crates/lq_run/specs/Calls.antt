@@ -1,5 +1,5 @@
 -- What the run lock's calls ask of the seat that makes them, and what they leave of it.
-use Rattle.std.specs.Prelude.{◌≡◌, ◌⊎◌, Bool, true, false}
+use Rattle.std.specs.Prelude.{◌≡◌, Bool, true, false}
 use Rattle.lq_model.specs.declared.machine.Position.{Position}
 use Rattle.lq_model.specs.declared.machine.Position.TheVariants.{Idle, Leave, Unlock}
 use Rattle.lq_table.specs.Made.{◌⊳◌}
@@ -9,7 +9,7 @@ use Rattle.lq_table.specs.Sees.{view, known, position, slot, steps, IsSameSeat, 
 use Rattle.lq_table.specs.Solo.{IsSole, missed_to, solo}
 use Rattle.lq_table.specs.Moves.{pass_view}
 use Rattle.lq_table.specs.declared.shared.Cpu.{Cpu}
-use Rattle.lq_run.specs.Runs.{BeginsAlone, BeginsAsHolder, IsElseKept, IsEventless, IsRaisedAsBefore, HasStation, MayReleaseActive, Rests, StandsWithoutStation, StaysRaised, after_missed, ended}
+use Rattle.lq_run.specs.Runs.{BeginsAlone, BeginsAsHolder, IsElseKept, IsEventless, IsRaisedAsBefore, HasStation, Rests, StandsWithoutStation, StaysRaised, after_missed, ended}
 use Rattle.lq_run.specs.Tries.{BeginsBy, EndsRun, SetsMissed, TriesOnce}
 
 -- after a release: a run is at the end of its call, and control in no call
@@ -18,10 +18,9 @@ released_to Unlock = Leave
 released_to position = Idle
 
 module _ {D : Type 0} where
-  -- The run lock may be released: at the end of a run, or by control of an active station. The seat carries the station, and no take
-  -- or resize is half done.
-  pub record MayReleaseRunLock (c : Cpu D) : Type 0 where
-    pub at : (position c ≡ Unlock) ⊎ MayReleaseActive c
+  -- The run lock may be released where the seat stands so. It carries the station, and no take or resize is half done.
+  pub record MayReleaseRunLock (here : Cpu D → Type 0) (c : Cpu D) : Type 0 where
+    pub at : here c
     pub rests : Rests c
     pub back : HasStation c
 

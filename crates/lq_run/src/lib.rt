@@ -1,14 +1,14 @@
 //! The run lock is tried and released, and what was missed meanwhile is scheduled.
 #![tactic(auto)]
 
-ghost use Rattle.std.specs.Prelude.{◌≡◌, true};
+ghost use Rattle.std.specs.Prelude.{◌≡◌, ◌⊎◌, true};
 ghost use Rattle.lq_model.specs.declared.machine.Position.TheVariants.{Try1, Unlock as AtUnlock, Leave as AtLeave, Idle as AtIdle};
 ghost use Rattle.lq_model.specs.declared.machine.Attempt.{Attempt};
 ghost use Rattle.lq_table.specs.Sees.{position, IsSeatOf};
 ghost use Rattle.lq_table.specs.Locks.{try_lock_at};
 ghost use Rattle.lq_table.specs.States.{miss_at, set_sched_at, clear_sched_at};
 ghost use Rattle.lq_run.specs.Calls.{released_to, BeginsRun, ClearsSched, MayReleaseRunLock, NotesMissed, ReleasesTo, TriesRunLock};
-ghost use Rattle.lq_run.specs.Runs.{HasStation, HasNone, MayReleaseActive, Rests, SetsSched};
+ghost use Rattle.lq_run.specs.Runs.{HasNone, MayReleaseActive, SetsSched};
 
 use lq_device::TxDevice;
 use lq_model::state::MISSED;
@@ -64,7 +64,7 @@ pub fn begin<'a, D: TxDevice>(shared: &Shared<'a, D>, cpu: &mut Cpu<D>) -> bool
 /// Releases the run lock, and schedules where MISSED is set after it.
 fn release<'a, D: TxDevice>(shared: &Shared<'a, D>, cpu: &mut Cpu<D>)
     requires seat { IsSeatOf shared.now cpu.old }
-    requires may { MayReleaseRunLock cpu.old }
+    requires may { MayReleaseRunLock (λ c. (position c ≡ AtUnlock) ⊎ MayReleaseActive c) cpu.old }
     ensures { ReleasesTo (released_to (position cpu.old)) cpu.old cpu.new }
 {
     shared.move_station(cpu);
@@ -79,9 +79,7 @@ fn release<'a, D: TxDevice>(shared: &Shared<'a, D>, cpu: &mut Cpu<D>)
 /// does.
 pub fn end<'a, D: TxDevice>(shared: &Shared<'a, D>, cpu: &mut Cpu<D>)
     requires seat { IsSeatOf shared.now cpu.old }
-    requires at { position cpu.old ≡ AtUnlock }
-    requires rests { Rests cpu.old }
-    requires back { HasStation cpu.old }
+    requires may { MayReleaseRunLock (λ c. position c ≡ AtUnlock) cpu.old }
     ensures { ReleasesTo AtLeave cpu.old cpu.new }
 {
     release(shared, cpu);
@@ -91,9 +89,7 @@ pub fn end<'a, D: TxDevice>(shared: &Shared<'a, D>, cpu: &mut Cpu<D>)
 /// end of a run.
 pub fn end_resize<'a, D: TxDevice>(shared: &Shared<'a, D>, cpu: &mut Cpu<D>)
     requires seat { IsSeatOf shared.now cpu.old }
-    requires at { MayReleaseActive cpu.old }
-    requires rests { Rests cpu.old }
-    requires back { HasStation cpu.old }
+    requires may { MayReleaseRunLock MayReleaseActive cpu.old }
     ensures { ReleasesTo AtIdle cpu.old cpu.new }
 {
     release(shared, cpu);

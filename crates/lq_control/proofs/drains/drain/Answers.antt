@@ -39,7 +39,7 @@ loop-preserved g c =
       ready = c.softirq.ensures.ready;
       served = served_then (view c.args.cpu.now) (view c.loop.cpu) (view c.softirq.new.cpu) i.served one;
       alone = λ h. let before = i.alone h in let now = c.softirq.ensures.alone before.0 in (now.0, now.1 ∙ before.1);
-      interrupted = once_more (known c.loop.cpu) (known c.softirq.new.cpu) i.interrupted (sym c.if-not-raised.ensures) (record { by = c.softirq.ensures.interrupts; served = one });
+      interrupted = once_more (known c.loop.cpu) (known c.softirq.new.cpu) i.interrupted (sym c.if-not-raised.ensures) (record { by = c.softirq.ensures.steps; served = one });
     }
 
 pub returns-then-not-raised : goal.returns-then-not-raised

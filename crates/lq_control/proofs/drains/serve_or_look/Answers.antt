@@ -26,12 +26,12 @@ returns-then-raised g c = record {
     ready_kept c.softirq.new.cpu c.begin_control.new.cpu b.same (ap (λ (x : View). x.packets) b.view) (ap (λ (x : View). x.locks) b.view) (ap (λ (x : View). x.holder.resizing) b.view) c.softirq.ensures.ready,
   );
   clear = search rules;
-  off = λ sole down. let i = interrupts_view (setup c.args.shared.now) (known c.args.cpu.now) (known c.softirq.new.cpu) c.softirq.ensures.interrupts in
+  off = λ sole down. let i = interrupts_view (setup c.args.shared.now) (known c.args.cpu.now) (known c.softirq.new.cpu) c.softirq.ensures.steps in
       ap (λ v. unmarked (solo v)) c.begin_control.ensures.view ∙ off_served c.args.shared.now.infos.now (view c.args.cpu.now) i.0 (view c.softirq.new.cpu) sole down c.requires.at.2.1 i.1 i.3;
   found = search rules;
   again = λ _. let e = c.begin_control.ensures.made in let k = c.softirq.ensures.kept in let s = c.softirq.ensures.still in
       round_served (setup c.args.shared.now) (known c.args.cpu.now) (known c.softirq.new.cpu) (known c.begin_control.new.cpu) e.0 (sym c.if-raised.ensures) (record {
-        by = c.softirq.ensures.interrupts;
+        by = c.softirq.ensures.steps;
         served = record {
           kept = record { share = k.share; turns = s.turns; first = ap (λ (x : FirstPart). x.first) k.control; told = k.told };
           control = k.control;

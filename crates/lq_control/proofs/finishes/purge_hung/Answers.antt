@@ -132,19 +132,20 @@ end_resize-requires-clause-seat g c _ _ =
     let share = ap (λ (x : View). x.share) (left g c).is in
     seat_on c.args.shared.now c.args.cpu.now c.purge_held-purged.new.cpu c.requires.seat (seat g c) share
 
-pub end_resize-requires-clause-at : goal.end_resize-requires-clause-at
-end_resize-requires-clause-at g c _ _ =
-    let is = (left g c).is in let active = c.requires.hung.active in (
-      ap (λ (x : View). x.place.position) is,
-      ap (λ (b : FirstPart). b.phase) (control g c) ∙ active.0,
-      ap (λ (b : FirstPart). b.purge) (control g c) ∙ active.1,
-      ap (λ (x : View). x.holder.shut) is ∙ c.take_lock.ensures.got.6,
-    )
-
-pub end_resize-requires-clause-rests : goal.end_resize-requires-clause-rests
-end_resize-requires-clause-rests g c _ _ =
-    let holder = ap (λ (x : View). x.holder) (purged g c).is in
-    (subst (λ (h : HolderPart). IsResting h.size h.ends) (sym holder) (purged g c).rests, resizing g c)
+pub end_resize-requires-clause-may : goal.end_resize-requires-clause-may
+end_resize-requires-clause-may g c _ _ = record {
+  at =
+      let is = (left g c).is in let active = c.requires.hung.active in (
+        ap (λ (x : View). x.place.position) is,
+        ap (λ (b : FirstPart). b.phase) (control g c) ∙ active.0,
+        ap (λ (b : FirstPart). b.purge) (control g c) ∙ active.1,
+        ap (λ (x : View). x.holder.shut) is ∙ c.take_lock.ensures.got.6,
+      );
+  rests =
+      let holder = ap (λ (x : View). x.holder) (purged g c).is in
+      (subst (λ (h : HolderPart). IsResting h.size h.ends) (sym holder) (purged g c).rests, resizing g c);
+  back = search rules;
+}
 
 -- What the calls come to, up to the end of the run.
 module _ (g : given.Over) (c : goal.After-end_resize g) where

@@ -70,16 +70,18 @@ returns-then-info-number g c = record {
 pub load_turn-requires-clause-owner : goal.load_turn-requires-clause-owner
 load_turn-requires-clause-owner g c _ _ = (entry c.infos.ensures c.requires.packet c.requires.may.made).sender
 
-pub transmit-sending-requires-clause-packet : goal.transmit-sending-requires-clause-packet
-transmit-sending-requires-clause-packet g c _ _ =
-    let n = c.args.n in let made = c.requires.may.made.infos in let e = entry c.infos.ensures c.requires.packet c.requires.may.made in
-    let own = e.station ∙ (c.if-info-number.false ∙ c.number.ensures) in
-    ((c.requires.packet, made.queues_are n c.requires.packet own), own, made.bands n c.requires.packet)
-
-pub transmit-sending-requires-clause-owner : goal.transmit-sending-requires-clause-owner
-transmit-sending-requires-clause-owner g c _ _ =
-    let owner = owner_in (setup c.args.shared.now).infos c.args.n in let sender = c.requires.may.made.infos.owners c.args.n c.requires.packet in
-    (subst (λ (x : View). 0 < times owner x.share.owners) (sym c.load_turn.ensures.same.1) (c.requires.may.made.owners owner sender), sender)
+pub transmit-sending-requires-clause-may : goal.transmit-sending-requires-clause-may
+transmit-sending-requires-clause-may g c _ _ = record {
+  at = search rules;
+  ready = search rules;
+  packet =
+      let n = c.args.n in let made = c.requires.may.made.infos in let e = entry c.infos.ensures c.requires.packet c.requires.may.made in
+      let own = e.station ∙ (c.if-info-number.false ∙ c.number.ensures) in
+      ((c.requires.packet, made.queues_are n c.requires.packet own), own, made.bands n c.requires.packet);
+  owner =
+      let owner = owner_in (setup c.args.shared.now).infos c.args.n in let sender = c.requires.may.made.infos.owners c.args.n c.requires.packet in
+      (subst (λ (x : View). 0 < times owner x.share.owners) (sym c.load_turn.ensures.same.1) (c.requires.may.made.owners owner sender), sender);
+}
 
 -- What is known where it was left: its turn is due, so it was transmitted in turn.
 module _ (g : given.Over) (c : goal.After-drain g) where

@@ -72,7 +72,7 @@ loop-preserved g c =
       kept = record { share = n.kept.share; turns = n.still.turns; first = ap (λ (x : FirstPart). x.first) n.kept.control; told = n.kept.told };
       control = n.kept.control;
       trail = n.still.trail;
-      fates = ([], n.settled);
+      fates = ([], n.fates);
     } in
     let returned : IsServed v1 v4 = served_then v1 v2 v4 (served_begun v1 v2 b.view) (served_then v2 v3 v4 (served_looked v2 v3 l.same.1) (served_returned v3 v4 e.view)) in
     let more : IsServed v1 v6 = served_then v1 v4 v6 returned (served_then v4 v5 v6 woken d.served) in
@@ -93,7 +93,7 @@ loop-preserved g c =
       served = served_then v0 v1 v6 i.served more;
       alike = λ h. alike_further infos start (solo v0) (solo v4) (subst (λ (s : Solo). IsEndedAlike infos start (solo v0) s) (sym same4) (i.alike h)) (ap (λ (s : Solo). s.raised) same4 ∙ i.low) (solo v5) (solo v6) active n.alone d.alone;
       on = serves_more k (known c.args.cpu.now) (known c.loop.cpu) (known c.begin_control.new.cpu) (known c.look.new.cpu) (known c.end_control.new.cpu) (known c.irq.new.cpu) (known c.drain.new.cpu)
-          i.on b.view b.made (subst (λ (x : Seen). LooksBy k x (known c.begin_control.new.cpu) (known c.look.new.cpu)) c.in-Going.is l.looks) e.view e.made n.wakes d.steps;
+          i.on b.view b.made (subst (λ (x : Seen). LooksBy k x (known c.begin_control.new.cpu) (known c.look.new.cpu)) c.in-Going.is l.looks) e.view e.made n.steps d.steps;
     }
 
 pub returns-in-Ended : goal.returns-in-Ended

@@ -74,8 +74,12 @@ returns g c =
 empty-rests : (len : ℕ) → 0 < len → IsAtRest len at_start
 empty-rests len positive = (omega arith, positive, refl, grind (arith, nat_tests))
 
-pub end_resize-requires-clause-rests : goal.end_resize-requires-clause-rests
-end_resize-requires-clause-rests g c _ _ =
-    let empty = empty-rests c.args.len c.requires.len.0 in
-    subst (λ (h : HolderPart). IsResting h.size h.ends × (h.resizing ≡ None))
-    (sym (ap (λ (x : View). x.holder) c.resize_all-shrunk.ensures.resizes.is)) ((empty, empty, empty), refl)
+pub end_resize-requires-clause-may : goal.end_resize-requires-clause-may
+end_resize-requires-clause-may g c _ _ = record {
+  at = search rules;
+  rests =
+      let empty = empty-rests c.args.len c.requires.len.0 in
+      subst (λ (h : HolderPart). IsResting h.size h.ends × (h.resizing ≡ None))
+      (sym (ap (λ (x : View). x.holder) c.resize_all-shrunk.ensures.resizes.is)) ((empty, empty, empty), refl);
+  back = search rules;
+}

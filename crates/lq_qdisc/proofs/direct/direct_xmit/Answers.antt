@@ -19,8 +19,8 @@ returns-then-load_xoff-ne0 g c = record {
   steps =
       let k = setup c.args.shared.now in let q = c.queue_of-queue.result in let s = c.requeue_stopped.ensures.stopped in
       subst (λ (queue : ℕ). DirectsBy k (Back Stopped) c.args.n queue (known c.args.cpu.now) (known c.requeue_stopped.new.cpu)) c.queue_of-queue.ensures (
-        lays_aside c.args.n q c.load_xoff.result (packet_at c.args.shared.now c.args.n) c.requires.may.at.0 c.args.cpu.now c.load_xoff.new.cpu c.requeue_stopped.new.cpu
-            c.if-load_xoff-ne0.true c.requires.may.at.1 c.requires.may.serving.3 c.load_xoff.ensures.view c.load_xoff.ensures.sole c.requeue_stopped.ensures.fates c.requeue_stopped.ensures.holder c.requeue_stopped.ensures.past (s.0, s.1) c.requeue_stopped.ensures.sole,
+        lays_aside c.args.n q c.load_xoff.result (packet_at c.args.shared.now c.args.n) c.requires.may.0 c.args.cpu.now c.load_xoff.new.cpu c.requeue_stopped.new.cpu
+            c.if-load_xoff-ne0.true c.requires.may.1.at c.requires.may.1.serving.3 c.load_xoff.ensures.view c.load_xoff.ensures.sole c.requeue_stopped.ensures.fates c.requeue_stopped.ensures.holder c.requeue_stopped.ensures.past (s.0, s.1) c.requeue_stopped.ensures.sole,
         s.2,
         s.3,
         subst (λ (xs : List Made). ClearsMaybe k q s.0 xs s.2) c.load_xoff.ensures.made s.4,
@@ -39,8 +39,8 @@ returns g c = record {
   steps =
       let k = setup c.args.shared.now in let q = c.queue_of-queue.result in let p = packet_at c.args.shared.now c.args.n in
       subst (λ (queue : ℕ). DirectsBy k c.start_xmit.result c.args.n queue (known c.args.cpu.now) (known c.start_xmit.new.cpu)) c.queue_of-queue.ensures
-      (offers_directs k c.start_xmit.result c.args.n q c.load_xoff.result p c.requires.may.at.0 c.args.cpu.now c.load_xoff.new.cpu c.start_xmit.new.cpu c.if-load_xoff-ne0.false c.requires.may.at.1 c.load_xoff.ensures.view c.load_xoff.ensures.made
-      (sees_open q c.load_xoff.result p c.requires.may.at.0 c.args.cpu.now c.load_xoff.new.cpu c.if-load_xoff-ne0.false c.requires.may.at.1 c.requires.may.serving.3 c.load_xoff.ensures.view c.load_xoff.ensures.sole)
+      (offers_directs k c.start_xmit.result c.args.n q c.load_xoff.result p c.requires.may.0 c.args.cpu.now c.load_xoff.new.cpu c.start_xmit.new.cpu c.if-load_xoff-ne0.false c.requires.may.1.at c.load_xoff.ensures.view c.load_xoff.ensures.made
+      (sees_open q c.load_xoff.result p c.requires.may.0 c.args.cpu.now c.load_xoff.new.cpu c.if-load_xoff-ne0.false c.requires.may.1.at c.requires.may.1.serving.3 c.load_xoff.ensures.view c.load_xoff.ensures.sole)
       c.start_xmit.ensures.steps);
 }
 
@@ -53,5 +53,5 @@ start_xmit-requires-clause-may g c κs within = record {
   hand = search rules;
   room = search rules;
   running = search rules;
-  is_open = sees_open c.queue_of-queue.result c.load_xoff.result (packet_at c.args.shared.now c.args.n) c.requires.may.at.0 c.args.cpu.now c.load_xoff.new.cpu c.if-load_xoff-ne0.false c.requires.may.at.1 c.requires.may.serving.3 c.load_xoff.ensures.view c.load_xoff.ensures.sole;
+  is_open = sees_open c.queue_of-queue.result c.load_xoff.result (packet_at c.args.shared.now c.args.n) c.requires.may.0 c.args.cpu.now c.load_xoff.new.cpu c.if-load_xoff-ne0.false c.requires.may.1.at c.requires.may.1.serving.3 c.load_xoff.ensures.view c.load_xoff.ensures.sole;
 }

@@ -1,11 +1,12 @@
-use Rattle.std.proofs.Common.{◌≡◌, ℕ, ◌<◌, true, refl, sym, ap, ◌∙◌, subst, List, ◌∷◌, arith}
+use Rattle.std.proofs.Common.{rules, ◌≡◌, ℕ, ◌<◌, true, refl, sym, ap, ◌∙◌, subst, List, ◌∷◌, arith}
 use Rattle.lq_model.specs.Account.{Event, Stop}
 use Rattle.lq_model.specs.declared.machine.Position.TheVariants.{StoreXoff}
 use Rattle.lq_table.specs.Views.{View, HolderPart, Setup}
 use Rattle.lq_table.specs.Sees.{view, setup, steps, position}
-use Rattle.lq_table.specs.Solo.{Solo, heard}
+use Rattle.lq_table.specs.Solo.{Solo, heard, solo}
 use Rattle.lq_table.specs.Made.{Made, ◌⊳◌}
 use Rattle.lq_table.specs.Stops.{store_xoff_log}
+use Rattle.lq_qdisc.specs.Direct.{hearing_hung, hung_below}
 use Rattle.lq_qdisc.specs.Steps.{hung_stored}
 use Rattle.lq_qdisc.proofs.StepLemmas.{hung_one_more}
 use Rattle.lq_qdisc.proofs.DirectLemmas.{stored_at, stored_stays, stays_then, hung_leads, if_below, hung_more, hearing_more}
@@ -32,6 +33,15 @@ loop-queue-preserved g c =
       made = c.store_xoff.ensures.made ∙ (ap (λ (xs : List Made). xs ⊳ store_xoff_log (setup c.args.shared.now) q 2) old.made ∙ hung_one_more (setup c.args.shared.now) q (steps c.args.cpu.now));
     }
 
-pub returns-clause-made : goal.returns-clause-made
-returns-clause-made g c = let all : c.loop-queue.queue ≡ c.args.shared.now.queues = omega arith in
-    c.loop-queue.invariant.made ∙ ap (λ (n : ℕ). hung_stored (setup c.args.shared.now) n (steps c.args.cpu.now)) all
+pub returns : goal.returns
+returns g c = record {
+  same = search rules;
+  at = search rules;
+  stays = search rules;
+  past = let all : c.loop-queue.queue ≡ c.args.shared.now.queues = omega arith in
+      c.loop-queue.invariant.heard ∙ ap (λ (n : ℕ). hung_below n (view c.args.cpu.now).whole.state.past) all;
+  step = let all : c.loop-queue.queue ≡ c.args.shared.now.queues = omega arith in
+      c.loop-queue.invariant.step ∙ ap (λ (n : ℕ). hearing_hung n (solo (view c.args.cpu.now))) all;
+  made = let all : c.loop-queue.queue ≡ c.args.shared.now.queues = omega arith in
+      c.loop-queue.invariant.made ∙ ap (λ (n : ℕ). hung_stored (setup c.args.shared.now) n (steps c.args.cpu.now)) all;
+}

@@ -1,4 +1,4 @@
-use Rattle.std.proofs.Common.{sym, ap, ◌∙◌, refl, ◌<◌, ◌≡◌, ℕ, subst, arith}
+use Rattle.std.proofs.Common.{rules, sym, ap, ◌∙◌, refl, ◌<◌, ◌≡◌, ℕ, subst, arith}
 use Rattle.lq_qdisc.specs.Sends.{WakesBelow}
 use Rattle.lq_table.specs.Views.{SharePart}
 use Rattle.lq_qdisc.proofs.StepLemmas.{wakes_more, wake_keeps}
@@ -6,10 +6,18 @@ use Rattle.lq_table.specs.Sees.{known, setup}
 use Rattle.lq_qdisc.proofs.AloneCalls.{irq_alone}
 use Rattle.lq_qdisc.proofs.interrupts.irq.Goals as goal
 
-pub returns-clause-alone : goal.returns-clause-alone
-returns-clause-alone g c =
-    let q : c.loop-queue.queue ≡ c.args.shared.now.queues = omega arith in
-    irq_alone (setup c.args.shared.now) c.args.shared.now.infos.now (known c.args.cpu.now) (known c.loop-queue.cpu) c.requires.seat.2 (subst (λ (n : ℕ). WakesBelow (setup c.args.shared.now) n (known c.args.cpu.now) (known c.loop-queue.cpu)) q c.loop-queue.invariant.wakes)
+pub returns : goal.returns
+returns g c =
+    let q : c.loop-queue.queue ≡ c.args.shared.now.queues = omega arith in let k = setup c.args.shared.now in let old = known c.args.cpu.now in let new = known c.loop-queue.cpu in
+    let all = subst (λ (n : ℕ). WakesBelow k n old new) q c.loop-queue.invariant.wakes in record {
+      kept = search rules;
+      fates = search rules;
+      at = search rules;
+      ready = search rules;
+      still = search rules;
+      steps = all;
+      alone = irq_alone k c.args.shared.now.infos.now old new c.requires.seat.2 all;
+    }
 
 pub loop-queue-preserved : goal.loop-queue-preserved
 loop-queue-preserved g c =

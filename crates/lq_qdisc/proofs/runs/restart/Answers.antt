@@ -121,9 +121,12 @@ pub direct_xmit-requires-clause-seat : goal.direct_xmit-requires-clause-seat
 direct_xmit-requires-clause-seat g c _ _ = seat_in c.args.shared.now c.args.cpu.now c.dequeue.new.cpu c.dequeue.ensures.kept c.requires.seat
 
 pub direct_xmit-requires-clause-may : goal.direct_xmit-requires-clause-may
-direct_xmit-requires-clause-may g c _ _ = record {
-  packet = c.in-Packet.ensures.packet;
-  at = (false, c.in-Packet.ensures.at);
-  serving = c.dequeue.ensures.serving;
-  hand = search rules;
-}
+direct_xmit-requires-clause-may g c _ _ = (
+  false,
+  record {
+    packet = c.in-Packet.ensures.packet;
+    at = c.in-Packet.ensures.at;
+    serving = c.dequeue.ensures.serving;
+    hand = search rules;
+  },
+)

@@ -1,7 +1,7 @@
 use Rattle.std.proofs.Common.{◌≡◌, ◌+◌, None, length}
 use Rattle.lq_table.specs.Sees.{view, known, setup, position, IsSeatOf}
 use Rattle.lq_qdisc.specs.Calls.{KeepsFates, IsKeptInRun, IsServing, IsSlotOf}
-use Rattle.lq_qdisc.specs.Runs.{position_in_run}
+use Rattle.lq_qdisc.specs.Direct.{position_in_run}
 use Rattle.lq_qdisc.specs.Steps.{SendsBy}
 use Rattle.lq_qdisc.proofs.runs.run.Given as goal
 

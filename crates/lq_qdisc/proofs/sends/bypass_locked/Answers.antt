@@ -34,8 +34,9 @@ enqueue_and_run_locked-requires-clause-may g c _ _ =
     let l = c.recheck-state.ensures in let held_ = held g (goal.at.enqueue_and_run_locked-requires-clause-may g c).Then-is_non_empty in let e = held_.is in record {
       at = search rules;
       brings = held_.packet;
-      serves = record {
-        serving = serving_same c.args.cpu.now c.recheck-state.new.cpu l.same.3 l.same.1 (ap (λ (x : View). x.holder) e) (ap (λ (x : View). x.locks) e) c.requires.may.serves.serving;
+      packet = c.requires.may.packet;
+      holds = record {
+        serving = serving_same c.args.cpu.now c.recheck-state.new.cpu l.same.3 l.same.1 (ap (λ (x : View). x.holder) e) (ap (λ (x : View). x.locks) e) c.requires.may.holds.serving;
         hand = search rules;
         slot = search rules;
       };
@@ -66,7 +67,7 @@ returns g c =
     let clear : some_bit state ≡ false = sym c.is_non_empty.ensures ∙ c.if-is_non_empty.false in
     let e : m ≡ gone n state (known c.args.cpu.now) = λ j. record { view = l.direct clear j; steps = l.made j } in
     let call = past g (goal.at.returns g c).Else-is_non_empty in record {
-      kept = call.kept _ (record { seat = x.kept.seat; share = x.kept.share; control = x.kept.control; told = x.kept.told });
+      kept = call.kept _ x.kept;
       fates = call.fates (view c.xmit_bypass.new.cpu) x.fates;
       at = x.at;
       free = x.free;

@@ -21,25 +21,33 @@ band_read infos read n d e within = ap (λ (xs : List Info). (get_or xs n d).ban
 pub settle-requires-clause-may : goal.settle-requires-clause-may
 settle-requires-clause-may g c _ _ = ap (λ (v : View). v.packets.owed) c.in-Err.ensures.puts.0
 
-pub returns-in-Ok-clause-put : goal.returns-in-Ok-clause-put
-returns-in-Ok-clause-put g c =
-    let e = c.in-Ok.ensures in let old = known c.args.cpu.now in let new = known c.produce.new.cpu in
-    subst (λ (b : ℕ). Enqueues c.args.n b sending.Queued old.view new.view × Puts (setup c.args.shared.now) b c.args.n old new)
-    (band_read c.args.shared.now.infos.now c.infos.result.now c.args.n _ c.infos.ensures c.requires.packet.0) ((e.puts.0, e.sole, e.step), e.puts)
+pub returns-in-Ok : goal.returns-in-Ok
+returns-in-Ok g c = record {
+  same = search rules;
+  at = search rules;
+  put =
+      let e = c.in-Ok.ensures in let old = known c.args.cpu.now in let new = known c.produce.new.cpu in
+      subst (λ (b : ℕ). Enqueues c.args.n b sending.Queued old.view new.view × Puts (setup c.args.shared.now) b c.args.n old new)
+      (band_read c.args.shared.now.infos.now c.infos.result.now c.args.n _ c.infos.ensures c.requires.may.1.brings.0) ((e.puts.0, e.sole, e.step), e.puts);
+}
 
-pub returns-in-Err-clause-put : goal.returns-in-Err-clause-put
-returns-in-Err-clause-put g c =
-    let e = c.in-Err.ensures in let s = c.settle.ensures in let old = known c.args.cpu.now in let full = known c.produce.new.cpu in let k = setup c.args.shared.now in let seen = c.in-Err.full.seen in
-    let settled : view c.settle.new.cpu ≡ settle_view_owed full.view = s.settled in let step : solo (view c.settle.new.cpu) ≡ solo full.view = s.step in
-    let all = subst (λ (b : ℕ). FindsFull k b c.args.n seen old full × SeesEnd b old.view (seen + 1))
-    (band_read c.args.shared.now.infos.now c.infos.result.now c.args.n _ c.infos.ensures c.requires.packet.0) (e.puts, e.sole) in
-    ((settled ∙ ap settle_view_owed e.puts.0, all.1, step ∙ e.step), full, all.0, s.made)
+pub returns-in-Err : goal.returns-in-Err
+returns-in-Err g c = record {
+  same = search rules;
+  at = search rules;
+  put =
+      let e = c.in-Err.ensures in let s = c.settle.ensures in let old = known c.args.cpu.now in let full = known c.produce.new.cpu in let k = setup c.args.shared.now in let seen = c.in-Err.full.seen in
+      let settled : view c.settle.new.cpu ≡ settle_view_owed full.view = s.settled in let step : solo (view c.settle.new.cpu) ≡ solo full.view = s.step in
+      let all = subst (λ (b : ℕ). FindsFull k b c.args.n seen old full × SeesEnd b old.view (seen + 1))
+      (band_read c.args.shared.now.infos.now c.infos.result.now c.args.n _ c.infos.ensures c.requires.may.1.brings.0) (e.puts, e.sole) in
+      ((settled ∙ ap settle_view_owed e.puts.0, all.1, step ∙ e.step), full, all.0, s.made);
+}
 
 pub produce-requires-clause-may : goal.produce-requires-clause-may
 produce-requires-clause-may g c _ _ = record {
-  below = let p = c.requires.packet in subst (λ (b : ℕ). b < 3) (sym (band_read c.args.shared.now.infos.now c.infos.result.now c.args.n _ c.infos.ensures p.0)) p.1;
-  at = search rules;
+  below = let p = c.requires.may.1.brings in subst (λ (b : ℕ). b < 3) (sym (band_read c.args.shared.now.infos.now c.infos.result.now c.args.n _ c.infos.ensures p.0)) p.1;
+  at = (c.requires.may.0, c.requires.may.1.at);
   packet =
-      let p = c.requires.packet in ((p.2, sym (band_read c.args.shared.now.infos.now c.infos.result.now c.args.n _ c.infos.ensures p.0)), p.3);
-  idle = search rules;
+      let p = c.requires.may.1.brings in ((p.2, sym (band_read c.args.shared.now.infos.now c.infos.result.now c.args.n _ c.infos.ensures p.0)), p.3);
+  idle = c.requires.may.1.holds;
 }

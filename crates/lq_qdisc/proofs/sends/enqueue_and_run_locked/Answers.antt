@@ -1,10 +1,13 @@
-use Rattle.std.proofs.Common.{rules}
+use Rattle.std.proofs.Common.{rules, true}
 use Rattle.lq_model.specs.Plan.{band_in}
 use Rattle.lq_table.specs.Sees.{view, known, setup}
 use Rattle.lq_qdisc.proofs.RunLemmas.{fates_then}
 use Rattle.lq_qdisc.proofs.ViewLemmas.{enqueues_view}
 use Rattle.lq_qdisc.proofs.SendLemmas.{put_fates}
 use Rattle.lq_qdisc.proofs.sends.enqueue_and_run_locked.Goals as goal
+
+pub enqueue-sending-requires-clause-may : goal.enqueue-sending-requires-clause-may
+enqueue-sending-requires-clause-may g c _ _ = let m = c.requires.may in (true, record { at = m.at; brings = m.brings; packet = m.packet; holds = search rules })
 
 pub returns : goal.returns
 returns g c =

@@ -9,16 +9,17 @@ use Rattle.lq_qdisc.proofs.sends.qdisc_run.Goals as goal
 pub returns-then-begin : goal.returns-then-begin
 returns-then-begin g c =
     let b = c.begin.ensures in let k = b.kept.0 in
-    let calm : LeavesTheRest c.args.cpu.now c.begin.new.cpu = record { seat = k.0; share = k.1; packets = k.2; locks = k.3; control = k.4; turns = k.7; trail = k.9; told = k.5; settled = k.8 } in
+    let calm : LeavesTheRest c.args.cpu.now c.begin.new.cpu = record { seat = k.0; share = k.1; packets = k.2; control = k.4; turns = k.7; trail = k.9; told = k.5; settled = k.8 } in
     serves_then c.args.cpu.now c.begin.new.cpu c.run_to_end.new.cpu calm c.run_to_end.ensures
     (inr (known c.begin.new.cpu, gets_lock c.args.cpu.now c.begin.new.cpu c.begin.result c.if-begin.true b.kept.0 b.kept.1 (b.got c.if-begin.true).0 b.sole b.begins, c.run_to_end.ensures.steps))
 
 pub returns-else-begin : goal.returns-else-begin
 returns-else-begin g c = let b = c.begin.ensures in let k = b.kept.0 in record {
-  kept = record { seat = k.0; share = k.1; packets = k.2; locks = k.3; control = k.4; turns = k.7; trail = k.9; told = k.5 };
+  kept = record { seat = k.0; share = k.1; control = k.4; told = k.5 };
   fates = fates_same (view c.args.cpu.now) (view c.begin.new.cpu) k.8;
   at = search rules;
   free = search rules;
+  came = record { share = k.1; packets = k.2; turns = k.7; trail = k.9 };
   steps = inl (misses c.args.cpu.now c.begin.new.cpu c.begin.result c.if-begin.false b.kept.0 b.kept.1 (b.missed c.if-begin.false).0 b.sole b.begins);
 }
 

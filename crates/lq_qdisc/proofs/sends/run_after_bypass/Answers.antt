@@ -21,7 +21,6 @@ returns-then-is_non_empty g c =
       seat = l.same.0;
       share = ap (λ (x : View). x.share) v;
       packets = ap (λ (x : View). x.packets) v;
-      locks = ap (λ (x : View). x.locks) v;
       control = ap (λ (x : View). x.control) v;
       turns = ap (λ (x : View). x.turns) v;
       trail = ap (λ (x : View). x.trail) v;

@@ -8,6 +8,7 @@ returns g c = let kept = c.end.ensures.kept in record {
   fates = search rules;
   at = search rules;
   free = search rules;
+  came = search rules;
   steps = record {
     ran = c.run.result;
     last = known c.run.new.cpu;

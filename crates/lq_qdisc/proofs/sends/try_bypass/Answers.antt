@@ -8,14 +8,14 @@ use Rattle.lq_qdisc.proofs.sends.try_bypass.Goals as goal
 pub returns-then-begin : goal.returns-then-begin
 returns-then-begin g c =
     let b = c.begin.ensures in let k = b.kept.0 in let r = c.bypass_locked in
-    let calm : LeavesTheRest c.args.cpu.now c.begin.new.cpu = record { seat = k.0; share = k.1; packets = k.2; locks = k.3; control = k.4; turns = k.7; trail = k.9; told = k.5; settled = k.8 } in
+    let calm : LeavesTheRest c.args.cpu.now c.begin.new.cpu = record { seat = k.0; share = k.1; packets = k.2; control = k.4; turns = k.7; trail = k.9; told = k.5; settled = k.8 } in
     brings_then c.args.shared.now.infos.now c.args.n r.result c.args.cpu.now c.begin.new.cpu r.new.cpu calm r.ensures
     (inr (known c.begin.new.cpu, gets_lock c.args.cpu.now c.begin.new.cpu c.begin.result c.if-begin.true b.kept.0 b.kept.1 (b.got c.if-begin.true).0 b.sole b.begins, r.ensures.steps))
 
 pub returns-else-begin : goal.returns-else-begin
 returns-else-begin g c =
     let b = c.begin.ensures in let k = b.kept.0 in let r = c.enqueue_and_run in
-    let calm : LeavesTheRest c.args.cpu.now c.begin.new.cpu = record { seat = k.0; share = k.1; packets = k.2; locks = k.3; control = k.4; turns = k.7; trail = k.9; told = k.5; settled = k.8 } in
+    let calm : LeavesTheRest c.args.cpu.now c.begin.new.cpu = record { seat = k.0; share = k.1; packets = k.2; control = k.4; turns = k.7; trail = k.9; told = k.5; settled = k.8 } in
     brings_then c.args.shared.now.infos.now c.args.n r.result c.args.cpu.now c.begin.new.cpu r.new.cpu calm r.ensures
     (inl (known c.begin.new.cpu, misses c.args.cpu.now c.begin.new.cpu c.begin.result c.if-begin.false b.kept.0 b.kept.1 (b.missed c.if-begin.false).0 b.sole b.begins, r.ensures.steps))
 

@@ -38,7 +38,8 @@ enqueue_and_run-requires-clause-may g c _ _ =
       at = checked_leads (packet_at c.args.shared.now c.args.n) state false (view c.args.cpu.now) (view c.check-state.new.cpu) c.requires.may.at off
           (ap (λ (k : Setup). k.bypass && not (some_bit state)) c.requires.seat.2 ∙ may_not) known_.is;
       brings = known_.packet;
-      free = known_.free c.requires.may.free;
+      packet = c.requires.may.packet;
+      holds = known_.free c.requires.may.holds;
     }
 
 pub returns-then-is_deactivated : goal.returns-then-is_deactivated
@@ -47,7 +48,7 @@ returns-then-is_deactivated g c =
     let l = c.check-state.ensures in let r = c.refuse.ensures.event in
     let on : is_set 2 state ≡ true = sym c.is_deactivated.ensures ∙ c.if-is_deactivated.true in let s = l.refused on in
     let same : s.0 ≡ r.0 = (let a = s.2 in let b = s.4 in let d = r.2 in let e = r.3 in omega arith) in
-    let settled = ap (λ (v : View). v.settled) c.refuse.ensures.view ∙ ap (λ (v : View). (settle_view_owed v).settled) s.5 in record {
+    let settled = ap (λ (v : View). v.settled) c.refuse.ensures.settled ∙ ap (λ (v : View). (settle_view_owed v).settled) s.5 in record {
       kept = search rules;
       fates = ((n, Refused s.0) ∷ [], settled);
       at = search rules;
@@ -63,7 +64,7 @@ returns-then-is_deactivated g c =
           (
             on,
             (r.1, r.2, r.3),
-            c.refuse.ensures.view ∙ (ap (λ (x : View). settle_view_owed x) s.5 ∙ ap (λ (event : ℕ). settle_view_owed (check_view_refused n event state v)) same),
+            c.refuse.ensures.settled ∙ (ap (λ (x : View). settle_view_owed x) s.5 ∙ ap (λ (event : ℕ). settle_view_owed (check_view_refused n event state v)) same),
           ),
           r.5 ∙ ap (λ (xs : List Made). xs ⊳ settle_log k n (word_of (Refused r.0))) l.made,
         );
@@ -117,5 +118,5 @@ try_bypass-requires-clause-may g c _ _ =
       at = checked_leads (packet_at c.args.shared.now c.args.n) c.check-state.result true (view c.args.cpu.now) (view c.check-state.new.cpu) c.requires.may.at off (λ j. bypass j && not (clear j)) known_.is;
       brings = known_.packet;
       packet = c.requires.may.packet;
-      free = known_.free c.requires.may.free;
+      holds = known_.free c.requires.may.holds;
     }
