@@ -14,7 +14,8 @@ use Rattle.lq_model.specs.declared.fate.Info.{Info}
 use Rattle.lq_model.specs.declared.plan.EventKind.TheVariants as kind
 use Rattle.lq_run.specs.Runs.{ended}
 use Rattle.lq_table.specs.Views.{View, Setup, SharePart, first_account, no_packets}
-use Rattle.lq_table.specs.Solo.{Solo, IsSole, account_of, device_to, heard, locked_to, solo}
+use Rattle.lq_table.specs.Sees.{Solo, IsSole, account_of, device_to, heard, solo}
+use Rattle.lq_table.specs.Locks.{locked_to}
 use Rattle.lq_table.specs.States.{clear_sched_alone}
 use Rattle.lq_table.specs.Inside.{enter_view}
 use Rattle.lq_table.specs.Moves.{is_set}

@@ -18,13 +18,12 @@ use Rattle.lq_ring.specs.Resized.{all_lost}
 use Rattle.lq_table.specs.Controls.{open_xoff_view}
 use Rattle.lq_table.specs.Purges.{reset_missed_view, first_purge}
 use Rattle.lq_table.specs.Rule.{HasServed, account, latest_unit, units_of}
-use Rattle.lq_table.specs.Solo.{IsAccounts, IsSole, account_of}
+use Rattle.lq_table.specs.Sees.{IsAccounts, IsSole, account_of}
 use Rattle.lq_table.specs.Moves.{and_settled, is_set}
 use Rattle.lq_table.specs.Locks.{try_lock_view_in_call, try_lock_view_in_control, unlock_view, unlock_view_in_call, unlock_view_in_control}
 use Rattle.lq_table.specs.States.{load_state_view}
 use Rattle.lq_table.specs.Fates.{settle_view_owed}
-use Rattle.lq_table.specs.Views.{FirstPart, HolderPart, Left, PacketPart, Setup, SharePart, View, no_packets}
-use Rattle.lq_table.specs.Made.{Known}
+use Rattle.lq_table.specs.Views.{FirstPart, HolderPart, Left, PacketPart, Setup, SharePart, View, no_packets, Known}
 use Rattle.lq_qdisc.specs.Calls.{KeepsFates}
 use Rattle.lq_control.specs.Control.{IsKeptByControl, IsPurgeDone, IsPurged, IsServed, KeepsDevice, all_purged}
 use Rattle.lq_control.specs.Comes.{LeavesPurged, Shrinks, SwapsFor}

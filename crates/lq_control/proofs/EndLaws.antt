@@ -8,9 +8,8 @@ use Rattle.lq_model.specs.Legal.{brought}
 use Rattle.lq_model.specs.declared.fate.Cause.{Cause}
 use Rattle.lq_model.specs.declared.fate.Cause.TheVariants as cause
 use Rattle.lq_model.specs.declared.fate.Fate.TheVariants as fate
-use Rattle.lq_table.specs.Made.{Known}
-use Rattle.lq_table.specs.Solo.{account_of}
-use Rattle.lq_table.specs.Views.{View, Setup}
+use Rattle.lq_table.specs.Sees.{account_of}
+use Rattle.lq_table.specs.Views.{View, Setup, Known}
 use Rattle.lq_qdisc.specs.Calls.{KeepsFates}
 use Rattle.lq_control.specs.Comes.{ComesToEnd, PurgesAtMost}
 use Rattle.lq_control.specs.Control.{IsServed}

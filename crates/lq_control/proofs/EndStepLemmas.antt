@@ -3,12 +3,12 @@ use Rattle.std.proofs.Common.{◌≡◌, ◌≢◌, ℕ, suc, ◌+◌, inr, Bool
 use Rattle.std.specs.Option.{option_map_or}
 use Rattle.lq_model.specs.Plan.{owner_in}
 use Rattle.lq_model.specs.declared.fate.Info.{Info}
-use Rattle.lq_table.specs.Views.{Setup}
+use Rattle.lq_table.specs.Views.{Setup, Known}
 use Rattle.lq_table.specs.Controls.{begin_control_view, end_control_view}
 use Rattle.lq_table.specs.Inside.{load_inside_view, load_inside_log}
 use Rattle.lq_table.specs.Moves.{is_set}
 use Rattle.lq_table.specs.States.{load_state_view, load_state_log}
-use Rattle.lq_table.specs.Made.{Known, Made, ◌⊳◌, load_base_log}
+use Rattle.lq_table.specs.Made.{Made, ◌⊳◌, load_base_log}
 use Rattle.lq_table.specs.Locks.{load_lock_log}
 use Rattle.lq_table.specs.Turns.{load_turn_log}
 use Rattle.lq_qdisc.specs.Steps.{with_state_loaded}

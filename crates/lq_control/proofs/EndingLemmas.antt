@@ -11,7 +11,7 @@ use Rattle.lq_model.specs.Alone.{RunningStation, finished, is_done, next_taken, 
 use Rattle.lq_model.specs.declared.fate.Cause.TheVariants as cause
 use Rattle.lq_model.specs.declared.fate.Fate.TheVariants as fate
 use Rattle.lq_model.specs.declared.fate.Info.{Info}
-use Rattle.lq_table.specs.Solo.{Solo}
+use Rattle.lq_table.specs.Sees.{Solo}
 use Rattle.lq_qdisc.specs.Alone.{IsAlone, Does, account_in, running}
 use Rattle.lq_qdisc.proofs.AloneRests.{rests_served}
 use Rattle.lq_control.proofs.Rounds.{all_of, each_of, finished_next, is_round, opened_none}

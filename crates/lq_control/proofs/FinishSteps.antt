@@ -18,11 +18,10 @@ use Rattle.lq_table.specs.Views.{View, Setup, HolderPart, FirstPart, SharePart, 
 use Rattle.lq_table.specs.Controls.{end_control_view, begin_control_view}
 use Rattle.lq_table.specs.Rule.{times}
 use Rattle.lq_table.specs.AtRest.{KnowsRest}
-use Rattle.lq_table.specs.Solo.{Solo, IsSole, IsAccounts, solo, account_of, heard, locked_to, missed_to, draining_to}
-use Rattle.lq_table.specs.States.{SeesState, set_sched_alone, load_state_view}
+use Rattle.lq_table.specs.States.{SeesState, set_sched_alone, load_state_view, missed_to, draining_to}
 use Rattle.lq_table.specs.Moves.{is_set}
-use Rattle.lq_table.specs.Locks.{try_lock_view_in_control}
-use Rattle.lq_table.specs.Sees.{view, IsElseSame}
+use Rattle.lq_table.specs.Locks.{try_lock_view_in_control, locked_to}
+use Rattle.lq_table.specs.Sees.{view, IsElseSame, Solo, IsSole, IsAccounts, solo, account_of, heard}
 use Rattle.lq_table.specs.declared.shared.Cpu.{Cpu}
 use Rattle.lq_qdisc.specs.Alone.{account_in}
 use Rattle.lq_qdisc.specs.Sends.{IsReadyToSend}

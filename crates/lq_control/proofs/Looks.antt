@@ -8,8 +8,7 @@ use Rattle.lq_table.specs.Inside.{load_inside_view}
 use Rattle.lq_table.specs.Made.{◌⊳◌}
 use Rattle.lq_table.specs.Locks.{load_lock_log}
 use Rattle.lq_table.specs.States.{load_state_log, SeesState, load_state_view}
-use Rattle.lq_table.specs.Sees.{view, known, position, IsElseSame}
-use Rattle.lq_table.specs.Solo.{IsSole, account_of}
+use Rattle.lq_table.specs.Sees.{view, known, position, IsElseSame, IsSole, account_of}
 use Rattle.lq_table.specs.Moves.{at_rest, is_set}
 use Rattle.lq_table.specs.Views.{View, Setup}
 use Rattle.lq_table.specs.declared.shared.Cpu.{Cpu}

@@ -11,13 +11,13 @@ use Rattle.lq_model.specs.declared.fate.Fate.TheVariants as fate
 use Rattle.lq_band_laws.specs.Three.{Three, at}
 use Rattle.lq_band_laws.specs.Ring.{IsAtRest}
 use Rattle.lq_table.specs.Views.{View, Setup, Left}
-use Rattle.lq_table.specs.Sees.{view, IsSameSeat}
+use Rattle.lq_table.specs.Sees.{view, IsSameSeat, Whole, solo}
 use Rattle.lq_table.specs.declared.shared.Cpu.{Cpu}
 use Rattle.lq_table.specs.Rule.{IsResting}
 use Rattle.lq_table.specs.Moves.{IsKnownSlot}
 use Rattle.std.specs.Prelude.{IfSome}
 use Rattle.lq_table.specs.Purges.{first_purge, next_band, begin_purge_view, purge_going, purge_ending, no_missed, no_draining, reset_missed_view, reset_missed_view_in, reset_draining_view, reset_draining_view_in}
-use Rattle.lq_table.specs.Solo.{Whole, solo, missed_to, draining_to}
+use Rattle.lq_table.specs.States.{missed_to, draining_to}
 use Rattle.lq_ring.specs.Fates.{fates_onto}
 use Rattle.lq_ring.specs.Purged.{purged_by, purged_to, IsBandPurged, going_on}
 use Rattle.lq_ring.proofs.FatesOnto.{fates_append}

@@ -2,7 +2,7 @@
 use Rattle.std.proofs.Common.{◌≡◌, List, [], ◌++◌, sym, ap, ◌∙◌}
 use Rattle.std.proofs.lemmas.List.{append_assoc}
 use Rattle.lq_table.specs.Views.{View, SharePart}
-use Rattle.lq_table.specs.Solo.{IsSole}
+use Rattle.lq_table.specs.Sees.{IsSole}
 use Rattle.lq_control.specs.Control.{IsKeptByControl, IsServed}
 
 pub served_none : (v w : View) → w ≡ v → IsServed v w

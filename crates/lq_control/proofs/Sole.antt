@@ -6,7 +6,9 @@ use Rattle.lq_model.specs.declared.machine.Phase.{Phase}
 use Rattle.lq_model.specs.declared.machine.Phase.TheVariants.{Quiet}
 use Rattle.lq_table.specs.Views.{View}
 use Rattle.lq_table.specs.Controls.{set_deactivated_view}
-use Rattle.lq_table.specs.Solo.{Solo, solo, locked_to, missed_to, draining_to, heard}
+use Rattle.lq_table.specs.Sees.{Solo, solo, heard}
+use Rattle.lq_table.specs.Locks.{locked_to}
+use Rattle.lq_table.specs.States.{missed_to, draining_to}
 use Rattle.lq_control.specs.Control.{IsPurged, phased, with_lock_free, deactivated_solo}
 
 -- what is left after a deactivation

@@ -1,11 +1,11 @@
 -- Steps of a wait, one more and one after the other, and of a swap.
 use Rattle.std.proofs.Common.{◌≡◌, ◌≢◌, ℕ, zero, suc, ◌+◌, ◌-◌, ◌<◌, ◌≤◌, true, false, List, [], ◌++◌, drop, length, refl, sym, subst, ap, ◌∙◌, arith}
-use Rattle.lq_table.specs.Views.{Setup}
+use Rattle.lq_table.specs.Views.{Setup, Known}
 use Rattle.lq_table.specs.Controls.{begin_control_view, clear_deactivated_view, open_xoff_view, end_control_view, clear_deactivated_log}
 use Rattle.lq_table.specs.Inside.{load_inside_view, load_inside_log}
 use Rattle.lq_ring.specs.Resized.{all_lost}
 use Rattle.lq_table.specs.Moves.{is_set}
-use Rattle.lq_table.specs.Made.{Known, Made, ◌⊳◌, load_base_log}
+use Rattle.lq_table.specs.Made.{Made, ◌⊳◌, load_base_log}
 use Rattle.lq_table.specs.Locks.{load_lock_log}
 use Rattle.lq_table.specs.States.{load_state_log}
 use Rattle.lq_table.specs.Stops.{store_xoff_log}

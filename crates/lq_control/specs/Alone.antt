@@ -7,7 +7,7 @@ use Rattle.lq_model.specs.Plan.{Plan, unit_of_swap}
 use Rattle.lq_model.specs.declared.device.Params.{Params}
 use Rattle.lq_model.specs.declared.plan.EventKind.{EventKind}
 use Rattle.lq_model.specs.declared.plan.EventKind.TheVariants as kind
-use Rattle.lq_table.specs.Solo.{Solo, IsSole, account_of, solo}
+use Rattle.lq_table.specs.Sees.{Solo, IsSole, account_of, solo}
 use Rattle.lq_table.specs.Views.{View, Setup, first_account}
 use Rattle.lq_qdisc.specs.Alone.{Does}
 

@@ -16,12 +16,11 @@ use Rattle.lq_ring.specs.Put.{no_locks}
 use Rattle.lq_ring.specs.Take.{CarriesStation}
 use Rattle.lq_qdisc.specs.Sends.{IsCallKept, IsReadyToSend}
 use Rattle.lq_table.specs.Controls.{clear_deactivated_view, shut_after}
-use Rattle.lq_table.specs.Made.{Known}
 use Rattle.lq_table.specs.Rule.{units_of}
-use Rattle.lq_table.specs.Sees.{view, known, setup, position, slot, IsSameSeat, IsElseSame}
-use Rattle.lq_table.specs.Solo.{IsSole, IsAccounts, account_of, heard, locked_to, solo}
+use Rattle.lq_table.specs.Sees.{view, known, setup, position, slot, IsSameSeat, IsElseSame, IsSole, IsAccounts, account_of, heard, solo}
+use Rattle.lq_table.specs.Locks.{locked_to}
 use Rattle.lq_table.specs.Moves.{IsKnownSlot}
-use Rattle.lq_table.specs.Views.{View, Setup, WholePart, no_packets}
+use Rattle.lq_table.specs.Views.{View, Setup, WholePart, no_packets, Known}
 use Rattle.lq_table.specs.declared.shared.Cpu.{Cpu}
 use Rattle.lq_table.specs.declared.shared.Shared.{Shared}
 use Rattle.lq_control.specs.Alone.{ChangesOnlyMarks, DoesEventAlone, unmarked, DoesSwapAlone, ServesAlone}

@@ -6,7 +6,7 @@ use Rattle.lq_model.specs.declared.fate.Cause.TheVariants as cause
 use Rattle.lq_model.specs.declared.fate.Fate.TheVariants as fate
 use Rattle.lq_ring.specs.Fates.{fates_onto}
 use Rattle.lq_table.specs.Rule.{HasServed, latest_unit, units_of}
-use Rattle.lq_table.specs.Solo.{IsSole, account_of}
+use Rattle.lq_table.specs.Sees.{IsSole, account_of}
 use Rattle.lq_table.specs.Views.{View, Setup}
 use Rattle.lq_qdisc.specs.Calls.{KeepsFates}
 use Rattle.lq_control.specs.Control.{IsKeptByControl, KeepsDevice, Stores, all_dropped}

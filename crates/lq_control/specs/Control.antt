@@ -19,8 +19,9 @@ use Rattle.lq_table.specs.Views.{View, HolderPart, Left, WholePart}
 use Rattle.lq_table.specs.Purges.{AreKnown}
 use Rattle.lq_table.specs.Rule.{IsResting, station_count, units_of}
 use Rattle.lq_table.specs.Moves.{IsKnownSlot}
-use Rattle.lq_table.specs.Locks.{try_lock_view_in_control}
-use Rattle.lq_table.specs.Solo.{Solo, IsSole, solo, heard, locked_to, missed_to, draining_to, device_to}
+use Rattle.lq_table.specs.Locks.{try_lock_view_in_control, locked_to}
+use Rattle.lq_table.specs.Sees.{Solo, IsSole, solo, heard, device_to}
+use Rattle.lq_table.specs.States.{missed_to, draining_to}
 use Rattle.lq_qdisc.specs.Calls.{KeepsFates}
 use Rattle.lq_ring.specs.Fates.{fates_onto}
 

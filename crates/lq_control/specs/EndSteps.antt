@@ -6,10 +6,10 @@ use Rattle.lq_model.specs.declared.fate.Cause.TheVariants as cause
 use Rattle.lq_qdisc.specs.Sends.{WakesBelow}
 use Rattle.lq_qdisc.specs.Steps.{ReleasesBy, TransmitsBy, with_state_loaded}
 use Rattle.lq_qdisc.specs.declared.answers.Sending.{Sending}
-use Rattle.lq_table.specs.Views.{Setup}
+use Rattle.lq_table.specs.Views.{Setup, Known}
 use Rattle.lq_table.specs.Moves.{is_set}
 use Rattle.lq_table.specs.Stops.{load_xoff_view, load_xoff_log}
-use Rattle.lq_table.specs.Made.{Known, ◌⊳◌}
+use Rattle.lq_table.specs.Made.{◌⊳◌}
 use Rattle.lq_table.specs.Turns.{load_turn_log}
 use Rattle.lq_control.specs.Control.{IsServed}
 use Rattle.lq_control.specs.Finish.{AreAllDone, IsSent, PurgesHung}

@@ -5,7 +5,9 @@ use Rattle.lq_model.specs.Alone.{RunningStation, finished}
 use Rattle.lq_model.specs.declared.fate.Cause.TheVariants as cause
 use Rattle.lq_model.specs.declared.fate.Info.{Info}
 use Rattle.lq_table.specs.Views.{View, Setup, first_account}
-use Rattle.lq_table.specs.Solo.{Solo, solo, heard, locked_to, missed_to, draining_to}
+use Rattle.lq_table.specs.Sees.{Solo, solo, heard}
+use Rattle.lq_table.specs.Locks.{locked_to}
+use Rattle.lq_table.specs.States.{missed_to, draining_to}
 use Rattle.lq_qdisc.specs.Alone.{IsAlone, account_in, running}
 
 -- Wakes and soft interrupts go on towards the same end.

@@ -13,7 +13,7 @@ use Rattle.lq_model.specs.declared.machine.Phase.TheVariants.{Active, Purged}
 use Rattle.lq_table.specs.Views.{View, Setup}
 use Rattle.lq_table.specs.Rule.{AreInfos, times}
 use Rattle.lq_table.specs.AtRest.{IsFatedOrHeld}
-use Rattle.lq_table.specs.Solo.{account_of, solo}
+use Rattle.lq_table.specs.Sees.{account_of, solo}
 use Rattle.lq_ring.specs.Fates.{fates_onto}
 use Rattle.lq_qdisc.specs.Calls.{KeepsFates}
 use Rattle.lq_control.specs.Ending.{purged_as_hung}

@@ -14,7 +14,7 @@ use Rattle.lq_band_laws.specs.Three.{Three}
 use Rattle.lq_run.specs.Tries.{TriesOnce}
 use Rattle.lq_ring.specs.Changes.{PurgesBand, ResizesAll}
 use Rattle.lq_qdisc.specs.Steps.{InterruptsBy, ReleasesBy}
-use Rattle.lq_table.specs.Views.{Setup}
+use Rattle.lq_table.specs.Views.{Setup, Known}
 use Rattle.lq_table.specs.Rule.{shown, units_of}
 use Rattle.lq_table.specs.Moves.{is_set}
 use Rattle.lq_table.specs.Fates.{settle_view_owed, settle_log}
@@ -22,9 +22,9 @@ use Rattle.lq_table.specs.Locks.{unlock_view, load_lock_log, unlock_log}
 use Rattle.lq_table.specs.Controls.{GoesAway, begin_control_view, set_deactivated_view, clear_deactivated_view, open_xoff_view, end_control_view, swap_view, set_deactivated_log, clear_deactivated_log}
 use Rattle.lq_table.specs.Inside.{load_inside_view, load_inside_log}
 use Rattle.lq_table.specs.Purges.{reset_draining_view, reset_missed_view, AreKnown, begin_purge_view}
-use Rattle.lq_table.specs.Solo.{IsAccounts, IsSole}
+use Rattle.lq_table.specs.Sees.{IsAccounts, IsSole}
 use Rattle.lq_table.specs.States.{SeesState, load_state_log, clear_missed_log, clear_draining_log}
-use Rattle.lq_table.specs.Made.{Known, ◌⊳◌, load_base_log}
+use Rattle.lq_table.specs.Made.{◌⊳◌, load_base_log}
 use Rattle.lq_table.specs.Stops.{store_xoff_log}
 use Rattle.lq_control.specs.Control.{IsServed}
 

@@ -2,8 +2,7 @@
 ghost use Rattle.std.specs.Prelude.{◌≡◌, ◌<◌, true, false, length, if◌then◌else◌};
 ghost use Rattle.lq_model.specs.declared.machine.Phase.TheVariants.{Active};
 ghost use Rattle.lq_model.specs.declared.machine.Position.TheVariants.{Idle, Control};
-ghost use Rattle.lq_table.specs.Sees.{view, known, setup, position, IsSeatOf, IsElseSame};
-ghost use Rattle.lq_table.specs.Solo.{IsSole};
+ghost use Rattle.lq_table.specs.Sees.{view, known, setup, position, IsSeatOf, IsElseSame, IsSole};
 ghost use Rattle.lq_control.specs.declared.finishes.Seen.TheVariants.{Hung, Ended};
 ghost use Rattle.lq_control.specs.Control.{IsIn};
 ghost use Rattle.lq_control.specs.EndSteps.{WaitsUntilLeft, are_quiet as quiet};

@@ -14,9 +14,10 @@ use Rattle.lq_model.specs.Plan.{band_in, queue_in}
 use Rattle.lq_model.specs.Steps.{begun as begun_as}
 use Rattle.lq_model.specs.declared.fate.Info.{Info}
 use Rattle.lq_run.specs.Runs as runs
-use Rattle.lq_table.specs.Made.{Known, Made}
-use Rattle.lq_table.specs.Views.{View, Setup, machine_packet, SharePart, first_account, no_packets}
-use Rattle.lq_table.specs.Solo.{Solo, IsSole, account_of, solo, heard, locked_to}
+use Rattle.lq_table.specs.Made.{Made}
+use Rattle.lq_table.specs.Views.{View, Setup, machine_packet, SharePart, first_account, no_packets, Known}
+use Rattle.lq_table.specs.Sees.{Solo, IsSole, account_of, solo, heard}
+use Rattle.lq_table.specs.Locks.{locked_to}
 use Rattle.lq_table.specs.States.{SeesState, clear_sched_alone, set_sched_alone, recheck_view_direct, load_state_view, some_bit}
 use Rattle.lq_table.specs.Inside.{lowered, call_of, enter_view}
 use Rattle.lq_table.specs.Moves.{is_set, seen_by, stepped}

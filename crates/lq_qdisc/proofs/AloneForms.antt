@@ -7,7 +7,8 @@ use Rattle.lq_model.specs.Device.{DeviceState, told_after}
 use Rattle.lq_model.specs.declared.device.Tx.{Tx}
 use Rattle.lq_model.specs.declared.device.Tx.TheVariants.{Sent, SentStop, SentHang, Busy}
 use Rattle.lq_model.specs.declared.fate.Info.{Info}
-use Rattle.lq_table.specs.Solo.{Solo, heard, missed_to, draining_to, device_to}
+use Rattle.lq_table.specs.Sees.{Solo, heard, device_to}
+use Rattle.lq_table.specs.States.{missed_to, draining_to}
 use Rattle.lq_qdisc.specs.Direct.{hearing_hung}
 use Rattle.lq_qdisc.specs.Stations.{dirty, is_waiting, may_take}
 use Rattle.lq_qdisc.specs.Alone.{IsAlone, IsOneSender, account_in, running}

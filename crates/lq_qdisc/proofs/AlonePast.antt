@@ -1,5 +1,7 @@
 -- A packet that goes past the bands.
-use Rattle.lq_table.specs.Solo.{Solo, heard, missed_to, locked_to}
+use Rattle.lq_table.specs.Sees.{Solo, heard}
+use Rattle.lq_table.specs.States.{missed_to}
+use Rattle.lq_table.specs.Locks.{locked_to}
 use Rattle.lq_qdisc.specs.Stations.{AreStopValues, IsBetweenOffers}
 use Rattle.lq_qdisc.specs.Alone.{HasAll, IsAlone, account_in, bits_are_clear, running}
 use Rattle.lq_qdisc.proofs.AloneForms.{DirectsAlone, LaysAlone, SendsAlone, ended, stopping, through_of}

@@ -1,5 +1,6 @@
 -- What a run attempt leaves, and a station between two calls.
-use Rattle.lq_table.specs.Solo.{Solo, heard, locked_to}
+use Rattle.lq_table.specs.Sees.{Solo, heard}
+use Rattle.lq_table.specs.Locks.{locked_to}
 use Rattle.lq_table.specs.Inside.{lowered}
 use Rattle.lq_table.specs.States.{clear_sched_alone}
 use Rattle.lq_qdisc.specs.Stations.{IsBetweenOffers, dirty, is_waiting, may_take}

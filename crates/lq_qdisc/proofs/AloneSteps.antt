@@ -15,7 +15,7 @@ use Rattle.lq_model.specs.declared.device.Tx.TheVariants.{Sent, SentStop, SentHa
 use Rattle.lq_model.specs.declared.fate.Info.{Info}
 use Rattle.lq_table.specs.Views.{View, HolderPart, Setup, SharePart, first_account}
 use Rattle.lq_table.specs.Rule.{shown}
-use Rattle.lq_table.specs.Solo.{Solo, IsSole, IsAccounts, HasSent, account_of, solo, is_heard, heard, device_to}
+use Rattle.lq_table.specs.Sees.{Solo, IsSole, IsAccounts, HasSent, account_of, solo, is_heard, heard, device_to}
 use Rattle.lq_qdisc.proofs.ViewRelations.{Directs, Hands, LastTurn, Runs, Sends}
 use Rattle.lq_qdisc.specs.Stations.{is_waiting, may_take}
 use Rattle.lq_qdisc.specs.Alone.{IsOneSender, RunsAlone, RunsOn, account_in, running, telling_of}

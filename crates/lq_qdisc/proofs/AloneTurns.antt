@@ -1,5 +1,6 @@
 -- The turns of a run, one by one, and its ends.
-use Rattle.lq_table.specs.Solo.{Solo, heard, missed_to}
+use Rattle.lq_table.specs.Sees.{Solo, heard}
+use Rattle.lq_table.specs.States.{missed_to}
 use Rattle.lq_qdisc.specs.Stations.{AreStopValues, IsBetweenOffers, dirty}
 use Rattle.lq_qdisc.specs.Alone.{HasAll, IsAtEnd, IsOneSender, RunsAlone, RunsOn, account_in, running, telling_of}
 use Rattle.lq_qdisc.proofs.AloneForms.{LaysAlone, SendsAlone, TakesAlone, answering, stopping, through_of}

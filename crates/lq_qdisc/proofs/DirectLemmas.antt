@@ -17,9 +17,9 @@ use Rattle.lq_model.specs.declared.machine.Packet.{Packet}
 use Rattle.lq_model.specs.declared.machine.Position.{Position}
 use Rattle.lq_model.specs.declared.machine.Position.TheVariants.{BlockedClear, Gate, StoreXoff, Xmit}
 use Rattle.lq_table.specs.Views.{View, HolderPart, no_station}
-use Rattle.lq_table.specs.States.{CarriesBusyDevice, carried_but_for_slot, requeue_view, set_bit_view}
+use Rattle.lq_table.specs.States.{CarriesBusyDevice, carried_but_for_slot, requeue_view, set_bit_view, missed_to, draining_to}
 use Rattle.lq_table.specs.Rule.{shown, IsResting}
-use Rattle.lq_table.specs.Sees.{view, slot, position, carried, packet_at, IsSameSeat, IsElseSame}
+use Rattle.lq_table.specs.Sees.{view, slot, position, carried, packet_at, IsSameSeat, IsElseSame, Solo, IsSole, account_of, solo, heard, device_to}
 use Rattle.lq_table.specs.declared.shared.Cpu.{Cpu}
 use Rattle.lq_table.specs.declared.shared.Shared.{Shared}
 use Rattle.lq_model.specs.Plan.{queue_in}
@@ -27,7 +27,6 @@ use Rattle.lq_qdisc.specs.Calls.{IsKeptInRun, IsServing, IsSettledSame}
 use Rattle.lq_table.specs.Fates.{MaySettle, machine_answer, fate_sent, settle_view_sent}
 use Rattle.lq_table.specs.Stops.{HasRoom, load_xoff_view, load_xoff_view_from, store_xoff_view, store_xoff_view_from, SeesXoff}
 use Rattle.lq_table.specs.Moves.{and_settled, pass_view, seen_by}
-use Rattle.lq_table.specs.Solo.{Solo, IsSole, account_of, solo, heard, missed_to, draining_to, device_to}
 use Rattle.lq_qdisc.specs.Direct.{Accepts, IsBusyAt, IsSentAs, LaysAside, SeesOpen, StaysAt, hearing_hung, hearing_stops, hung_below, position_after, sent_leads, stopped_by}
 use Rattle.lq_qdisc.proofs.TakeLemmas.{one, stop_is}
 use Rattle.lq_qdisc.specs.declared.answers.Through.TheVariants as through

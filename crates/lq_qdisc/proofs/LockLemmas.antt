@@ -2,8 +2,7 @@
 use Rattle.std.proofs.Common.{◌≡◌, Bool, true, false, not, refl, ap, ◌∙◌, subst}
 use Rattle.lq_run.specs.Runs.{IsElseKept, IsEventless, after_begin, after_got, after_missed}
 use Rattle.lq_run.specs.Tries.{BeginsBy}
-use Rattle.lq_table.specs.Sees.{view, known, position}
-use Rattle.lq_table.specs.Solo.{IsAccounts, IsSole, solo}
+use Rattle.lq_table.specs.Sees.{view, known, position, IsAccounts, IsSole, solo}
 use Rattle.lq_table.specs.declared.shared.Cpu.{Cpu}
 use Rattle.lq_qdisc.specs.Sends.{IsCalm}
 use Rattle.lq_qdisc.specs.Steps.{GetsBy, MissesBy}

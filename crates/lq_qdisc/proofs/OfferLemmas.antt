@@ -9,12 +9,11 @@ use Rattle.lq_model.specs.declared.machine.Position.TheVariants.{BlockedClear, G
 use Rattle.lq_device.specs.Station.{HasAnswered}
 use Rattle.lq_table.specs.Views.{View, HolderPart, Setup}
 use Rattle.lq_table.specs.Rule.{shown}
-use Rattle.lq_table.specs.Sees.{view, known, steps, position}
-use Rattle.lq_table.specs.Solo.{solo, heard, missed_to, device_to}
+use Rattle.lq_table.specs.Sees.{view, known, steps, position, solo, heard, device_to}
 use Rattle.lq_table.specs.Fates.{fate_sent, settle_log}
 use Rattle.lq_table.specs.Stops.{load_xoff_view, load_xoff_log}
 use Rattle.lq_table.specs.Made.{◌⊳◌}
-use Rattle.lq_table.specs.States.{set_missed_log}
+use Rattle.lq_table.specs.States.{set_missed_log, missed_to}
 use Rattle.lq_table.specs.declared.shared.Cpu.{Cpu}
 use Rattle.lq_qdisc.specs.Direct.{Accepts, IsBusyAt, SeesOpen, hearing_stops, stopped_by}
 use Rattle.lq_qdisc.specs.Steps.{DirectsBy, OffersBy, stops_stored}

@@ -21,7 +21,7 @@ use Rattle.lq_table.specs.States.{backing, set_bit_view, set_bit_alone}
 use Rattle.lq_table.specs.Fates.{fate_sent}
 use Rattle.lq_table.specs.Moves.{pass_view, seen_by}
 use Rattle.lq_model.specs.Account.{Back}
-use Rattle.lq_table.specs.Solo.{Solo, heard}
+use Rattle.lq_table.specs.Sees.{Solo, heard}
 use Rattle.lq_qdisc.proofs.ViewRelations.{Directs}
 use Rattle.lq_qdisc.specs.Calls.{Dequeues, FindsPacket, KeepsFates, Picks}
 use Rattle.lq_qdisc.specs.Direct.{position_in_run}

@@ -12,11 +12,11 @@ use Rattle.lq_model.specs.declared.fate.Info.{Info}
 use Rattle.lq_account_laws.specs.Trail.{is_own}
 use Rattle.lq_table.specs.Moves.{is_set, seen_by}
 use Rattle.lq_table.specs.States.{load_state_view, seen_state, some_bit, load_state_log}
-use Rattle.lq_table.specs.Made.{Known, ◌⊳◌}
+use Rattle.lq_table.specs.Made.{◌⊳◌}
 use Rattle.lq_table.specs.Sees.{view, known, steps, IsElseSame, IsSameSeat, IsSeatOf}
 use Rattle.lq_table.specs.declared.shared.Cpu.{Cpu}
 use Rattle.lq_table.specs.declared.shared.Shared.{Shared}
-use Rattle.lq_table.specs.Views.{PacketPart, View}
+use Rattle.lq_table.specs.Views.{PacketPart, View, Known}
 use Rattle.lq_qdisc.specs.Calls.{KeepsFates}
 use Rattle.lq_qdisc.specs.Steps.{with_state_loaded}
 use Rattle.lq_qdisc.specs.Parts.{BringsBy, EndsCallBy, IsFreeInside, LeavesBy}

@@ -1,10 +1,10 @@
 -- One more queue, and one more band.
 use Rattle.std.proofs.Common.{◌≡◌, ℕ, suc, ◌+◌, List, subst, arith, ap, ⊎_elim, Bool, true, false, refl, ◌∙◌}
-use Rattle.lq_table.specs.Views.{View, Setup}
+use Rattle.lq_table.specs.Views.{View, Setup, Known}
 use Rattle.lq_table.specs.Moves.{is_set, pass_view}
 use Rattle.lq_table.specs.States.{load_state_view, set_sched_view, clear_draining_log, clear_missed_log, load_state_log}
 use Rattle.lq_table.specs.Stops.{wake_view, store_xoff_log}
-use Rattle.lq_table.specs.Made.{Known, Made, ◌⊳◌}
+use Rattle.lq_table.specs.Made.{Made, ◌⊳◌}
 use Rattle.lq_ring.specs.Steps.{FindsSlotEmpty}
 use Rattle.lq_qdisc.specs.Sends.{Wakes, WakesBelow}
 use Rattle.lq_qdisc.specs.declared.answers.Through.TheVariants.{Yes}

@@ -21,8 +21,7 @@ use Rattle.lq_table.specs.Moves.{pass_view, seen_by}
 use Rattle.lq_table.specs.Consumers.{seen_band, head_slot_view_empty}
 use Rattle.lq_table.specs.States.{set_bit_view, set_bit_alone}
 use Rattle.lq_table.specs.Rule.{shown, IsResting}
-use Rattle.lq_table.specs.Sees.{view, position, slot, IsElseSame, IsSeatOf, IsSameSeat}
-use Rattle.lq_table.specs.Solo.{IsSole, account_of}
+use Rattle.lq_table.specs.Sees.{view, position, slot, IsElseSame, IsSeatOf, IsSameSeat, IsSole, account_of}
 use Rattle.lq_table.specs.declared.shared.Cpu.{Cpu}
 use Rattle.lq_table.specs.declared.shared.Shared.{Shared}
 use Rattle.lq_qdisc.specs.Calls.{IsKeptInRun, IsServing, IsSettledSame, after_blocked, AreNone, Dequeues, Finds, ClearsMissedAlone, FindsNone, FindsPacket, FindsStopped, IsStopFor, Looks, Picks, finding_stopped, found_empty, laid_aside, looking_at, with_back}

@@ -6,7 +6,7 @@ use Rattle.lq_model.specs.Account.{Event}
 use Rattle.lq_model.specs.Plan.{owner_in, rank_in}
 use Rattle.lq_model.specs.declared.fate.Info.{Info}
 use Rattle.lq_table.specs.Views.{View}
-use Rattle.lq_table.specs.Solo.{solo}
+use Rattle.lq_table.specs.Sees.{solo}
 use Rattle.lq_table.specs.Turns.{give_turn_view}
 use Rattle.lq_table.specs.Moves.{pass_view}
 use Rattle.lq_qdisc.proofs.ViewRelations.{Goes, Transmits}

@@ -1,11 +1,10 @@
 -- What the calls come to, as relations of views alone.
 use Rattle.std.proofs.Common.{ℕ, zero, suc, ◌≡◌, ap, inl, inr}
 use Rattle.lq_model.specs.Plan.{band_in}
-use Rattle.lq_table.specs.Views.{View, Setup}
-use Rattle.lq_table.specs.Made.{Known}
+use Rattle.lq_table.specs.Views.{View, Setup, Known}
 use Rattle.lq_table.specs.Inside.{enter_view}
 use Rattle.lq_table.specs.Moves.{pass_view}
-use Rattle.lq_table.specs.Solo.{solo}
+use Rattle.lq_table.specs.Sees.{solo}
 use Rattle.lq_qdisc.proofs.ViewRelations.{Attempts, Directs, FollowsDirect, Goes, GoesPast, GoesThrough, GoesThroughHeld, Hands, Interrupts, LastTurn, Runs, RunsToEnd, Sends, TriesToPass}
 use Rattle.lq_qdisc.specs.Sends.{Enqueues}
 use Rattle.lq_qdisc.specs.Steps.{AttemptsBy, DirectsBy, EndsBy, EnqueuesBy, FollowsBy, GoesBy, GoesHeldBy, GoesPastBy, GoesThroughBy, HandsBy, InterruptsBy, RunsBy, RunsToEndBy, SendsBy, TriesToPassBy, with_state_loaded}

@@ -15,8 +15,8 @@ use Rattle.lq_qdisc.specs.declared.answers.Taken.TheVariants as taken
 use Rattle.lq_qdisc.specs.declared.answers.Through.{Through}
 use Rattle.lq_qdisc.specs.declared.answers.Through.TheVariants as through
 use Rattle.lq_qdisc.specs.declared.answers.Why.TheVariants as why
-use Rattle.lq_table.specs.Solo.{IsSole, solo, heard, missed_to}
-use Rattle.lq_table.specs.States.{SeesState, SeesDown, some_bit, load_state_view, recheck_view_direct}
+use Rattle.lq_table.specs.Sees.{IsSole, solo, heard}
+use Rattle.lq_table.specs.States.{SeesState, SeesDown, some_bit, load_state_view, recheck_view_direct, missed_to}
 use Rattle.lq_table.specs.Moves.{pass_view, is_set}
 use Rattle.lq_table.specs.Turns.{give_turn_view}
 use Rattle.lq_table.specs.Views.{View}

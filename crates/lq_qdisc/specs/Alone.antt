@@ -4,7 +4,7 @@ use Rattle.lq_model.specs.Account.{Account, after_all, held}
 use Rattle.lq_model.specs.Alone.{RunningStation, served}
 use Rattle.lq_model.specs.Device.{Telling}
 use Rattle.lq_model.specs.declared.fate.Info.{Info}
-use Rattle.lq_table.specs.Solo.{Solo}
+use Rattle.lq_table.specs.Sees.{Solo}
 use Rattle.lq_qdisc.specs.Stations.{IsBetweenOffers, dirty, is_waiting, may_take}
 
 -- it has all shares, and was told the state

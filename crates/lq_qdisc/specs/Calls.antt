@@ -10,10 +10,9 @@ use Rattle.lq_run.specs.Runs.{HasStation, Rests}
 use Rattle.lq_ring.specs.Put.{no_locks}
 use Rattle.lq_table.specs.Views.{View, Setup, HolderPart, State, machine_packet}
 use Rattle.lq_table.specs.Moves.{IsPacketOf, IsKnownSlot, past_with, pass_view}
-use Rattle.lq_table.specs.States.{set_bit_view}
+use Rattle.lq_table.specs.States.{set_bit_view, missed_to, draining_to}
 use Rattle.lq_table.specs.Stops.{load_xoff_view, picking}
-use Rattle.lq_table.specs.Solo.{Solo, IsSole, IsAccounts, HasSent, account_of, solo, heard, missed_to, draining_to}
-use Rattle.lq_table.specs.Sees.{view, setup, position, IsSameSeat}
+use Rattle.lq_table.specs.Sees.{view, setup, position, IsSameSeat, Solo, IsSole, IsAccounts, HasSent, account_of, solo, heard}
 use Rattle.lq_model.specs.declared.fate.Fate.{Fate}
 use Rattle.lq_model.specs.declared.fate.Info.{Info}
 use Rattle.lq_qdisc.specs.declared.answers.Taken.{Taken}

@@ -12,8 +12,8 @@ use Rattle.lq_run.specs.Runs.{begins}
 use Rattle.lq_table.specs.Views.{View}
 use Rattle.lq_table.specs.Rule.{shown}
 use Rattle.lq_table.specs.Fates.{fate_sent}
-use Rattle.lq_table.specs.States.{set_bit_view}
-use Rattle.lq_table.specs.Solo.{Solo, IsSole, IsAccounts, HasSent, account_of, solo, heard, missed_to, draining_to, device_to}
+use Rattle.lq_table.specs.States.{set_bit_view, missed_to, draining_to}
+use Rattle.lq_table.specs.Sees.{Solo, IsSole, IsAccounts, HasSent, account_of, solo, heard, device_to}
 use Rattle.lq_qdisc.specs.Calls.{finding_stopped}
 use Rattle.lq_qdisc.specs.declared.answers.Through.{Through}
 use Rattle.lq_qdisc.specs.declared.answers.Through.TheVariants as through

@@ -12,12 +12,12 @@ use Rattle.lq_model.specs.declared.machine.Blocked.TheVariants.{InHand}
 use Rattle.lq_model.specs.declared.machine.Position.{Position}
 use Rattle.lq_model.specs.declared.machine.Position.TheVariants.{BlockedClear, StoreXoff, Unlock, Xmit}
 use Rattle.lq_ring.specs.Seats.{KeepsSeatAndView}
-use Rattle.lq_table.specs.Made.{Known, ◌⊳◌}
-use Rattle.lq_table.specs.States.{set_missed_log, requeue_view}
+use Rattle.lq_table.specs.Made.{◌⊳◌}
+use Rattle.lq_table.specs.Views.{Known}
+use Rattle.lq_table.specs.States.{set_missed_log, requeue_view, missed_to}
 use Rattle.lq_table.specs.Fates.{settle_log, fate_sent}
 use Rattle.lq_table.specs.Rule.{shown}
-use Rattle.lq_table.specs.Sees.{view, known, steps, setup, position, slot, packet_at, carried, IsSameSeat, IsElseSame}
-use Rattle.lq_table.specs.Solo.{solo, heard, missed_to, device_to}
+use Rattle.lq_table.specs.Sees.{view, known, steps, setup, position, slot, packet_at, carried, IsSameSeat, IsElseSame, solo, heard, device_to}
 use Rattle.lq_table.specs.Stops.{HasRoom}
 use Rattle.lq_table.specs.Moves.{IsPacketOf}
 use Rattle.lq_table.specs.declared.shared.Cpu.{Cpu}

@@ -10,11 +10,10 @@ use Rattle.lq_model.specs.declared.machine.Position.{Position}
 use Rattle.lq_model.specs.declared.machine.Position.TheVariants.{Gate, Scan, Xmit}
 use Rattle.lq_table.specs.Views.{first_account}
 use Rattle.lq_table.specs.Rule.{shown, times}
-use Rattle.lq_table.specs.Sees.{view, steps, setup, position, packet_at, carried}
+use Rattle.lq_table.specs.Sees.{view, steps, setup, position, packet_at, carried, IsAccounts, solo}
 use Rattle.lq_table.specs.Moves.{IsPacketOf}
 use Rattle.lq_table.specs.Made.{◌⊳◌}
 use Rattle.lq_table.specs.Turns.{take_turn_log}
-use Rattle.lq_table.specs.Solo.{IsAccounts, solo}
 use Rattle.lq_table.specs.declared.shared.Cpu.{Cpu}
 use Rattle.lq_table.specs.declared.shared.Shared.{Shared}
 use Rattle.lq_qdisc.specs.Alone.{BringsAlone, Does, IsOneSender, RunsAlone, account_in}

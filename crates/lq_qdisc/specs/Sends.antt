@@ -9,17 +9,16 @@ use Rattle.lq_model.specs.declared.machine.Attempt.{Attempt}
 use Rattle.lq_model.specs.declared.machine.Attempt.TheVariants as attempt
 use Rattle.lq_run.specs.Runs.{HasNone, after_got, after_missed, after_begin, ended}
 use Rattle.lq_ring.specs.Put.{no_locks, putting, dropping_full as dropped}
-use Rattle.lq_table.specs.Views.{View, Setup, no_packets}
-use Rattle.lq_table.specs.Made.{Known, Made, ◌⊳◌}
+use Rattle.lq_table.specs.Views.{View, Setup, no_packets, Known}
+use Rattle.lq_table.specs.Made.{Made, ◌⊳◌}
 use Rattle.lq_table.specs.Stops.{load_xoff_log, wake_log, wake_view}
 use Rattle.lq_table.specs.States.{set_sched_log, load_state_view, set_sched_view, check_view_refused as refused, clear_sched_alone, set_sched_alone, SeesState}
 use Rattle.lq_table.specs.Moves.{is_set, on_trail, pass_view}
 use Rattle.lq_table.specs.Turns.{take_turn_view}
 use Rattle.lq_table.specs.Inside.{enter_view}
 use Rattle.lq_table.specs.Fates.{settle_view_owed}
-use Rattle.lq_table.specs.Solo.{IsSole, IsAccounts, account_of, solo, heard}
 use Rattle.lq_table.specs.Producers.{SeesEnd}
-use Rattle.lq_table.specs.Sees.{view, IsSameSeat}
+use Rattle.lq_table.specs.Sees.{view, IsSameSeat, IsSole, IsAccounts, account_of, solo, heard}
 use Rattle.lq_table.specs.declared.shared.Cpu.{Cpu}
 use Rattle.lq_table.specs.declared.shared.Shared.{Shared}
 use Rattle.lq_qdisc.specs.declared.answers.Sending.{Sending}

@@ -9,15 +9,15 @@ use Rattle.lq_model.specs.declared.fate.Fate.TheVariants as fate
 use Rattle.lq_model.specs.declared.state.TheConstants.{QUOTA}
 use Rattle.lq_run.specs.Tries.{BeginsBy, EndsRun}
 use Rattle.lq_ring.specs.Steps.{FindsSlotEmpty, FindsFull, Puts, Takes}
-use Rattle.lq_table.specs.Views.{Setup}
+use Rattle.lq_table.specs.Views.{Setup, Known}
 use Rattle.lq_table.specs.Moves.{is_set, pass_view}
-use Rattle.lq_table.specs.States.{some_bit, recheck_view_direct, load_state_view, set_bit_view, SeesDown, SeesState, load_state_log, clear_missed_log, clear_draining_log, set_missed_log, set_draining_log, clear_sched_log}
+use Rattle.lq_table.specs.States.{some_bit, recheck_view_direct, load_state_view, set_bit_view, SeesDown, SeesState, load_state_log, clear_missed_log, clear_draining_log, set_missed_log, set_draining_log, clear_sched_log, missed_to}
 use Rattle.lq_table.specs.Inside.{enter_view, enter_log, leave_log}
 use Rattle.lq_table.specs.Fates.{fate_sent, settle_log}
 use Rattle.lq_table.specs.Turns.{give_turn_view, take_turn_log, give_turn_log}
 use Rattle.lq_table.specs.Stops.{load_xoff_view, load_xoff_log, store_xoff_log}
-use Rattle.lq_table.specs.Solo.{IsSole, solo, heard, missed_to}
-use Rattle.lq_table.specs.Made.{Known, Made, ◌⊳◌}
+use Rattle.lq_table.specs.Sees.{IsSole, solo, heard}
+use Rattle.lq_table.specs.Made.{Made, ◌⊳◌}
 use Rattle.lq_qdisc.specs.Calls.{Dequeues, SeesOneQueue, finding_stopped}
 use Rattle.lq_qdisc.specs.Direct.{Accepts, IsBusyAt, LaysAside}
 use Rattle.lq_qdisc.specs.Sends.{Enqueues, GetsLock, IsDue, IsLockReleased, IsRefused, Misses, came_as, trail_with, transmitting}

@@ -3,14 +3,12 @@ use Rattle.std.specs.Prelude.{⊤, ◌≡◌, ◌≢◌, ◌≤◌, ℕ, ◌+◌
 use Rattle.lq_model.specs.declared.machine.Position.{Position}
 use Rattle.lq_model.specs.declared.machine.Position.TheVariants.{Deq, Gate, Unlock}
 use Rattle.lq_run.specs.Runs.{begins}
-use Rattle.lq_table.specs.Made.{Known}
-use Rattle.lq_table.specs.Sees.{view, known, setup, position, slot, packet_at}
-use Rattle.lq_table.specs.Solo.{Solo, solo}
+use Rattle.lq_table.specs.Sees.{view, known, setup, position, slot, packet_at, Solo, solo}
 use Rattle.lq_table.specs.States.{set_bit_alone}
 use Rattle.lq_table.specs.Moves.{IsPacketOf}
 use Rattle.lq_table.specs.declared.shared.Cpu.{Cpu}
 use Rattle.lq_table.specs.declared.shared.Shared.{Shared}
-use Rattle.lq_table.specs.Views.{Setup}
+use Rattle.lq_table.specs.Views.{Setup, Known}
 use Rattle.lq_qdisc.specs.Calls.{ClearsMissedAlone, Dequeues, Finds, FindsNone, IsKeptInRun, IsServing, IsSettledSame, IsSlotOf, IsTakenOf, KeepsFates, KeepsHolder, Looks, SeesOneQueue, after_blocked, after_dequeue, laid_aside, with_back}
 use Rattle.lq_qdisc.specs.Direct.{HasSentOneMore, accepted_count, position_in_run}
 use Rattle.lq_qdisc.specs.Seats.{GoesOnFromBands, ServesStation}

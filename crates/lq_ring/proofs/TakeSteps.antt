@@ -19,7 +19,7 @@ use Rattle.lq_table.specs.Views.{View, HolderPart, machine_packet}
 use Rattle.lq_table.specs.Rule.{IsResting, shown}
 use Rattle.lq_table.specs.Consumers.{seen_band, zero_slot_view, head_slot_view, head_slot_view_empty}
 use Rattle.lq_table.specs.Producers.{load_size_view}
-use Rattle.lq_table.specs.Solo.{solo, heard}
+use Rattle.lq_table.specs.Sees.{solo, heard}
 use Rattle.lq_ring.specs.Put.{no_locks}
 use Rattle.lq_ring.specs.Take.{having_ends, emptied_times, emptied_count, consuming}
 use Rattle.lq_ring.proofs.PutSteps.{put_put}

@@ -11,8 +11,7 @@ use Rattle.lq_band_laws.specs.Ring.{is_emptying}
 use Rattle.lq_table.specs.Made.{◌⊳◌}
 use Rattle.lq_table.specs.Resizes.{clear_slot_log, out_of}
 use Rattle.lq_table.specs.Rule.{IsResting}
-use Rattle.lq_table.specs.Sees.{view, known, steps, setup, position, slot, packet_at, ends_at, lock_at, IsSameSeat, IsElseSame, Brings}
-use Rattle.lq_table.specs.Solo.{IsSole, account_of}
+use Rattle.lq_table.specs.Sees.{view, known, steps, setup, position, slot, packet_at, ends_at, lock_at, IsSameSeat, IsElseSame, Brings, IsSole, account_of}
 use Rattle.lq_table.specs.Producers.{SeesEnd}
 use Rattle.lq_table.specs.Moves.{IsPacketOf}
 use Rattle.lq_table.specs.Views.{View}

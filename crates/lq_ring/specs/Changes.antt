@@ -9,8 +9,8 @@ use Rattle.lq_model.specs.declared.fate.Fate.{Fate}
 use Rattle.lq_ring.specs.Purged.{IsBandPurged}
 use Rattle.lq_ring.specs.Take.{emptied_count}
 use Rattle.lq_ring.specs.Resized.{HoldOwnPackets, IsKnownHeld, all_lost, having_resized}
-use Rattle.lq_table.specs.Views.{Left, Setup}
-use Rattle.lq_table.specs.Made.{Known, Made, ◌⊳◌}
+use Rattle.lq_table.specs.Views.{Left, Setup, Known}
+use Rattle.lq_table.specs.Made.{Made, ◌⊳◌}
 use Rattle.lq_table.specs.Producers.{give_producer_log, load_size_log, load_slot_log, store_slot_log}
 use Rattle.lq_table.specs.Resizes.{set_producer_log, store_size_log, clear_slot_log}
 use Rattle.lq_table.specs.Fates.{settle_log}

@@ -10,7 +10,7 @@ use Rattle.lq_band_laws.specs.Ring.{Ends, IsAtRest, after_take, taken_on}
 use Rattle.lq_table.specs.Views.{View, Left, WholePart}
 use Rattle.lq_table.specs.Purges.{next_band, purge_slot_view_empty, purge_slot_view}
 use Rattle.lq_table.specs.Fates.{settle_view_owed}
-use Rattle.lq_table.specs.Solo.{solo}
+use Rattle.lq_table.specs.Sees.{solo}
 use Rattle.lq_ring.specs.Take.{having_ends, emptied_times, emptied_count}
 use Rattle.lq_ring.specs.Fates.{fates_onto}
 

@@ -12,7 +12,7 @@ use Rattle.lq_band_laws.specs.Ring.{Lock, unlocked, locked_at}
 use Rattle.lq_table.specs.Views.{View}
 use Rattle.lq_table.specs.Moves.{seen_by}
 use Rattle.lq_table.specs.Producers.{store_slot_view, producer_slot_view_full}
-use Rattle.lq_table.specs.Solo.{solo, heard}
+use Rattle.lq_table.specs.Sees.{solo, heard}
 
 -- it has no producer lock
 abbrev pub no_locks : Three Lock

@@ -5,7 +5,7 @@ use Rattle.lq_model.specs.Account.{Resize, held_in}
 use Rattle.lq_model.specs.Plan.{band_in}
 use Rattle.lq_model.specs.declared.fate.Info.{Info}
 use Rattle.lq_model.specs.declared.machine.Phase.TheVariants.{Purged}
-use Rattle.lq_table.specs.Solo.{IsSole, account_of}
+use Rattle.lq_table.specs.Sees.{IsSole, account_of}
 use Rattle.lq_band_laws.specs.Three.{Three, at, all_three}
 use Rattle.lq_band_laws.specs.Ring.{Lock, at_start, locked_at}
 use Rattle.lq_table.specs.Views.{View}

@@ -4,11 +4,11 @@ use Rattle.lq_ring_core.specs.declared.ring.Full.{Full}
 use Rattle.lq_ring_core.specs.Ring.{next_place}
 use Rattle.lq_band_laws.specs.Three.{at}
 use Rattle.lq_band_laws.specs.Ring.{Ends, is_emptying, taken_on}
-use Rattle.lq_table.specs.Views.{Setup}
+use Rattle.lq_table.specs.Views.{Setup, Known}
 use Rattle.lq_table.specs.Consumers.{head_slot_view_empty}
 use Rattle.lq_ring.specs.Put.{putting, dropping_full}
 use Rattle.lq_ring.specs.Take.{batch_length, consuming, emptied_count}
-use Rattle.lq_table.specs.Made.{Known, Made, ◌⊳◌}
+use Rattle.lq_table.specs.Made.{Made, ◌⊳◌}
 use Rattle.lq_table.specs.Producers.{load_producer_log, take_producer_log, give_producer_log, load_size_log, load_slot_log, store_slot_log}
 
 -- PUTS

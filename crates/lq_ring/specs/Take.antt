@@ -6,8 +6,7 @@ use Rattle.lq_band_laws.specs.Ring.{Ends, after_take, all_empty, taken_on, empti
 use Rattle.lq_table.specs.Views.{View}
 use Rattle.lq_table.specs.Consumers.{head_slot_view}
 use Rattle.lq_table.specs.Rule.{shown}
-use Rattle.lq_table.specs.Sees.{view}
-use Rattle.lq_table.specs.Solo.{solo, heard}
+use Rattle.lq_table.specs.Sees.{view, solo, heard}
 use Rattle.lq_table.specs.declared.shared.Cpu.{Cpu}
 
 -- how far a band's consumer is, as the holder has it and in the state beside the machine

@@ -15,8 +15,7 @@ use Rattle.lq_table.specs.Rule.{shown, IsResting}
 use Rattle.lq_table.specs.Locks.{GetsRunLock, look_lock_view, try_lock_view, try_lock_view_in_control, seen_lock}
 use Rattle.lq_table.specs.Moves.{IsKnownSlot, seen_by}
 use Rattle.lq_table.specs.States.{miss_view}
-use Rattle.lq_table.specs.Solo.{IsSole}
-use Rattle.lq_table.specs.Sees.{view, position, slot, IsSameSeat}
+use Rattle.lq_table.specs.Sees.{view, position, slot, IsSameSeat, IsSole}
 use Rattle.lq_table.specs.declared.shared.Cpu.{Cpu}
 use Rattle.lq_run.specs.Runs.{BeginsAsHolder, HasNone, IsElseKept, IsEventless, IsRaisedAsBefore, after_got, run_got}
 

@@ -3,10 +3,9 @@ use Rattle.std.specs.Prelude.{◌≡◌, Bool, true, false}
 use Rattle.lq_model.specs.declared.machine.Position.{Position}
 use Rattle.lq_model.specs.declared.machine.Position.TheVariants.{Idle, Leave, Unlock}
 use Rattle.lq_table.specs.Made.{◌⊳◌}
-use Rattle.lq_table.specs.States.{clear_sched_log, clear_sched_alone}
+use Rattle.lq_table.specs.States.{clear_sched_log, clear_sched_alone, missed_to}
 use Rattle.lq_table.specs.Locks.{GetsRunLock, SeesTry, look_lock_view}
-use Rattle.lq_table.specs.Sees.{view, known, position, slot, steps, IsSameSeat, IsElseSame}
-use Rattle.lq_table.specs.Solo.{IsSole, missed_to, solo}
+use Rattle.lq_table.specs.Sees.{view, known, position, slot, steps, IsSameSeat, IsElseSame, IsSole, solo}
 use Rattle.lq_table.specs.Moves.{pass_view}
 use Rattle.lq_table.specs.declared.shared.Cpu.{Cpu}
 use Rattle.lq_run.specs.Runs.{BeginsAlone, BeginsAsHolder, IsElseKept, IsEventless, IsRaisedAsBefore, HasStation, Rests, StandsWithoutStation, StaysRaised, after_missed, ended}

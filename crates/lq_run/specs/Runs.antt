@@ -8,10 +8,10 @@ use Rattle.lq_model.specs.Steps.{dequeue_begins}
 use Rattle.lq_table.specs.Views.{View}
 use Rattle.lq_table.specs.Rule.{shown, IsResting}
 use Rattle.lq_table.specs.Moves.{seen_by, IsKnownSlot}
-use Rattle.lq_table.specs.States.{set_sched_view, set_sched_alone, set_sched_log}
-use Rattle.lq_table.specs.Solo.{Solo, IsSole, IsAccounts, solo, missed_to, locked_to}
+use Rattle.lq_table.specs.States.{set_sched_view, set_sched_alone, set_sched_log, missed_to}
+use Rattle.lq_table.specs.Locks.{locked_to}
 use Rattle.lq_table.specs.Made.{◌⊳◌}
-use Rattle.lq_table.specs.Sees.{view, position, steps, slot, IsSameSeat, IsElseSame}
+use Rattle.lq_table.specs.Sees.{view, position, steps, slot, IsSameSeat, IsElseSame, Solo, IsSole, IsAccounts, solo}
 use Rattle.lq_table.specs.declared.shared.Cpu.{Cpu}
 
 -- where a dequeue begins

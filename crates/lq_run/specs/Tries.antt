@@ -1,11 +1,11 @@
 -- What the run lock's calls do: the steps in the order in which they are made, and what the seat knows after them, with the values
 -- that they found.
 use Rattle.std.specs.Prelude.{◌≡◌, ◌≢◌, ◌⊎◌, ℕ, Bool, true, false, List}
-use Rattle.lq_table.specs.Views.{View, HolderPart}
+use Rattle.lq_table.specs.Views.{View, HolderPart, Known}
 use Rattle.lq_table.specs.Moves.{is_set}
 use Rattle.lq_table.specs.Locks.{try_lock_view, look_lock_view, unlock_view, load_lock_log, try_lock_log, unlock_log}
 use Rattle.lq_table.specs.States.{miss_view, load_state_view, set_sched_view, miss_log, load_state_log, set_sched_log}
-use Rattle.lq_table.specs.Made.{Known, Made, ◌⊳◌}
+use Rattle.lq_table.specs.Made.{Made, ◌⊳◌}
 
 -- the run lock is try_lock_view, with the station; or it is found held
 abbrev pub TriedAs : Bool → View → View → Type 0

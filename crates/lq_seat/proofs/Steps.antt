@@ -31,10 +31,8 @@ use Rattle.lq_seat.specs.Rests.{AreUnitsSmall, IsSeatBetween, phase_of}
 use Rattle.lq_seat.specs.Steps.{ControlsBy, DoesInterrupts, LooksAtStops, Makes, SwapsBy, Transmits}
 use Rattle.lq_seat.specs.State.{IsHere, IsWellMade, SeatState, TableState}
 use Rattle.lq_seat.specs.State.{seat_account, seat_state, seat_seen, table_seen, solo_of, units_of}
-use Rattle.lq_table.specs.Made.{Known}
-use Rattle.lq_table.specs.Sees.{IsSameSeat, known, position, setup, view}
-use Rattle.lq_table.specs.Solo.{Solo, solo}
-use Rattle.lq_table.specs.Views.{Setup, SharePart, View, first_account}
+use Rattle.lq_table.specs.Sees.{IsSameSeat, known, position, setup, view, Solo, solo}
+use Rattle.lq_table.specs.Views.{Setup, SharePart, View, first_account, Known}
 use Rattle.lq_table.specs.declared.shared.Cpu.{Cpu}
 use Rattle.lq_table.specs.declared.shared.Shared.{Shared}
 

@@ -11,13 +11,12 @@ use Rattle.lq_model.specs.declared.fate.Info.{Info}
 use Rattle.lq_model.specs.declared.plan.StationPlan.{StationPlan}
 use Rattle.lq_plan.specs.Limits.{max_len_at}
 use Rattle.lq_qdisc.specs.Alone.{IsAlone, running}
-use Rattle.lq_table.specs.Made.{Known, Made}
-use Rattle.lq_table.specs.Sees.{known, setup}
-use Rattle.lq_table.specs.Solo.{Solo, Whole}
+use Rattle.lq_table.specs.Made.{Made}
+use Rattle.lq_table.specs.Views.{Known}
+use Rattle.lq_table.specs.Sees.{known, setup, Solo, Whole}
 pub use Rattle.lq_table.specs.Keyed.{below}
 pub use Rattle.lq_table.specs.Rule.{AreInfos, HasServed, HangsWhere, IsCallOf, latest_unit, station_count, times, units_of}
-pub use Rattle.lq_table.specs.Sees.{closed_home}
-pub use Rattle.lq_table.specs.Solo.{is_heard}
+pub use Rattle.lq_table.specs.Sees.{closed_home, is_heard}
 pub use Rattle.lq_table.specs.Views.{Setup, first_account, no_device, no_station}
 use Rattle.lq_table.specs.declared.shared.Cpu.{Cpu}
 use Rattle.lq_table.specs.declared.shared.Shared.{Shared}

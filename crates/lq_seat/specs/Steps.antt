@@ -9,7 +9,7 @@ use Rattle.lq_qdisc.specs.Sends.{WakesBelow}
 use Rattle.lq_qdisc.specs.Steps.{TransmitsBy}
 use Rattle.lq_qdisc.specs.declared.answers.Sending.{Sending}
 use Rattle.lq_seat.specs.State.{SeatState, Setup, seat_state}
-use Rattle.lq_table.specs.Made.{Known}
+use Rattle.lq_table.specs.Views.{Known}
 
 -- The seat made the steps of this call, at a table that was made of its setup: from what it then knew to what it knew after.
 abbrev pub Makes : (Setup → Known → Known → Type 0) → SeatState → SeatState → Type 0

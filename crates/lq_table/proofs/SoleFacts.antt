@@ -15,7 +15,7 @@ use Rattle.lq_account_laws.specs.Trail.{down_of}
 use Rattle.lq_account_laws.proofs.Trails.{down-is}
 use Rattle.lq_table.specs.Rule.{words_of, xoff_word, account, holders, event_word, Rule}
 use Rattle.lq_table.specs.Moves.{is_set}
-use Rattle.lq_table.specs.Solo.{IsSole, account_of, IsAccounts, HasSent}
+use Rattle.lq_table.specs.Sees.{IsSole, account_of, IsAccounts, HasSent}
 use Rattle.lq_table.specs.States.{SeesState, SeesDown}
 use Rattle.lq_table.proofs.Bits.{has_sched, has_deactivated, has_missed, has_draining}
 use Rattle.lq_table.proofs.ByName.{xoff_of}

@@ -31,7 +31,7 @@ use Rattle.lq_table.specs.States.{load_state_at, miss_at, set_sched_at, load_sta
 use Rattle.lq_table.specs.Locks.{try_lock_at, try_lock_told, try_lock_told_all}
 use Rattle.lq_table.specs.Stops.{load_xoff_at, load_xoff_queue, load_xoff_told, wake_told, SeesXoff, load_xoff_told_all, look_stop_told_all, wake_told_all}
 use Rattle.lq_table.specs.Consumers.{head_slot_told, TellsHead, head_slot_told_all}
-use Rattle.lq_table.specs.Solo.{IsSole, account_of}
+use Rattle.lq_table.specs.Sees.{IsSole, account_of}
 use Rattle.lq_table.proofs.Loads.{also}
 use Rattle.lq_table.proofs.SoleFacts.{knows_account, knows_state, sees_down, sees_state, sees_lock, sees_stop, holds_accounts, holds_sent}
 use Rattle.lq_table.proofs.StatesKept.{looks_all, misses_kept, schedules_kept}

@@ -22,11 +22,11 @@ use Rattle.lq_model.specs.Positions.{in_hand}
 use Rattle.lq_model.specs.Steps.{After, step_at, begun, run_begins, goes_to, gives_up, call_ends}
 use Rattle.lq_table.specs.Views.{View, machine_packet}
 use Rattle.lq_table.specs.Moves.{seen_by, pass_view, stepped}
-use Rattle.lq_table.specs.States.{seen_state, load_state_at, miss_at, clear_missed_at, clear_draining_at, clear_sched_at, set_sched_at, set_sched_view, set_missed_at, set_draining_at, load_state_view, miss_view, backing, set_bit_view, set_sched_alone, clear_sched_alone, set_bit_alone}
+use Rattle.lq_table.specs.States.{seen_state, load_state_at, miss_at, clear_missed_at, clear_draining_at, clear_sched_at, set_sched_at, set_sched_view, set_missed_at, set_draining_at, load_state_view, miss_view, backing, set_bit_view, set_sched_alone, clear_sched_alone, set_bit_alone, missed_to, draining_to}
 use Rattle.lq_table.specs.Inside.{enter_view, bringing_packet, call_of, enter_alone}
-use Rattle.lq_table.specs.Locks.{unlock_at, unlock_view, unlock_view_in_control, unlock_view_in_call, seen_lock}
+use Rattle.lq_table.specs.Locks.{unlock_at, unlock_view, unlock_view_in_control, unlock_view_in_call, seen_lock, locked_to}
 use Rattle.lq_table.specs.Stops.{load_xoff_view, picking, load_xoff_leads, is_dequeue, store_xoff_view, store_xoff_view_from, stop_value, picks, load_xoff_alone}
-use Rattle.lq_table.specs.Solo.{Solo, solo, missed_to, draining_to, heard, locked_to, device_to}
+use Rattle.lq_table.specs.Sees.{Solo, solo, heard, device_to}
 
 either_raised : (b : Bool) (x y : After) (c : Bool) → x.seat.raised ≡ c → y.seat.raised ≡ c → (if b then x else y).seat.raised ≡ c
 either_raised true x y c e e' = e

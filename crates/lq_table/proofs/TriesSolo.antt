@@ -18,8 +18,8 @@ use Rattle.lq_table.specs.Marks.{marks_of}
 use Rattle.lq_table.specs.Views.{View, HolderPart}
 use Rattle.lq_table.specs.Rule.{holders}
 use Rattle.lq_table.specs.Moves.{Sat, seen_by}
-use Rattle.lq_table.specs.Locks.{seen_lock, try_lock_at, try_lock_view, try_lock_view_in_call, try_lock_view_in_control, look_lock_view, try_lock_told, look_lock_told, SeesLock}
-use Rattle.lq_table.specs.Solo.{IsAccounts, account_of, solo, locked_to}
+use Rattle.lq_table.specs.Locks.{seen_lock, try_lock_at, try_lock_view, try_lock_view_in_call, try_lock_view_in_control, look_lock_view, try_lock_told, look_lock_told, SeesLock, locked_to}
+use Rattle.lq_table.specs.Sees.{IsAccounts, account_of, solo}
 use Rattle.atomic_table.specs.Table.{Step}
 
 -- A STEP OF THE MACHINE THAT TRIES THE LOCK

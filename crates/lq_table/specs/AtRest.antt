@@ -9,7 +9,7 @@ use Rattle.lq_model.specs.declared.fate.Fate.{Fate}
 use Rattle.lq_model.specs.declared.machine.Phase.TheVariants.{Purged}
 use Rattle.lq_table.specs.Moves.{at_rest}
 use Rattle.lq_table.specs.Rule.{times}
-use Rattle.lq_table.specs.Solo.{IsSole, account_of}
+use Rattle.lq_table.specs.Sees.{IsSole, account_of}
 use Rattle.lq_table.specs.Views.{View, no_packets, Setup, State}
 
 -- it has the table alone, is in no call, and has no packet of its own and no producer lock

@@ -9,8 +9,7 @@ use Rattle.lq_model.specs.declared.machine.Answer.TheVariants.{Plain}
 use Rattle.lq_model.specs.declared.machine.Packet.{Packet}
 use Rattle.atomic_table.specs.Table.{Step}
 use Rattle.lq_table.specs.Moves.{moved, past_with, IsPacketOf, Sat}
-use Rattle.lq_table.specs.Sees.{view, ends_at, carried}
-use Rattle.lq_table.specs.Solo.{IsSole, account_of}
+use Rattle.lq_table.specs.Sees.{view, ends_at, carried, IsSole, account_of}
 use Rattle.lq_table.specs.Views.{View, machine_packet}
 use Rattle.lq_table.specs.declared.shared.Cpu.{Cpu}
 

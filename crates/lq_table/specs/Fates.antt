@@ -20,7 +20,7 @@ use Rattle.lq_table.specs.Moves.{seen_by, moved, and_settled, Sat}
 use Rattle.lq_table.specs.Places.{fates_offset}
 use Rattle.lq_table.specs.Resizes.{settled_work, with_work, with_resizing}
 use Rattle.lq_table.specs.Rule.{shown}
-use Rattle.lq_table.specs.Solo.{Solo, heard, device_to}
+use Rattle.lq_table.specs.Sees.{Solo, heard, device_to}
 use Rattle.lq_table.specs.Views.{View, HalfResize, Setup}
 
 -- WHICH MAY BE STORED

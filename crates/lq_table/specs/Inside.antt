@@ -12,7 +12,7 @@ use Rattle.lq_model.specs.declared.machine.Packet.{Packet}
 use Rattle.atomic_table.specs.Table.{Step}
 use Rattle.lq_table.specs.Moves.{seen_by, stepped, Sat}
 use Rattle.lq_table.specs.Places.{inside_place}
-use Rattle.lq_table.specs.Solo.{Solo}
+use Rattle.lq_table.specs.Sees.{Solo}
 use Rattle.lq_table.specs.Views.{View, machine_packet}
 
 -- enter: a call begins, with the packet that the seat brings or as a soft interrupt.

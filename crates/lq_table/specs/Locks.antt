@@ -12,10 +12,13 @@ use Rattle.lq_table.specs.AtRest.{IsSoleAtRest, KnowsRest}
 use Rattle.lq_table.specs.Moves.{seen_by, stepped, Sat, unchanged, moved, IsKnownSlot}
 use Rattle.lq_table.specs.Places.{lock_place}
 use Rattle.lq_table.specs.Rule.{account, holders, shown, units_of, IsResting}
-use Rattle.lq_table.specs.Sees.{view, steps, slot, IsSameSeat}
-use Rattle.lq_table.specs.Solo.{solo, locked_to, IsSole, IsAccounts}
+use Rattle.lq_table.specs.Sees.{view, steps, slot, IsSameSeat, Solo, solo, IsSole, IsAccounts}
 use Rattle.lq_table.specs.Views.{View, HolderPart}
 use Rattle.lq_table.specs.declared.shared.Cpu.{Cpu}
+
+-- what a seat that has the table alone knows, with the lock so
+abbrev pub locked_to : Bool → Solo → Solo
+locked_to bit v = record v { whole = record v.whole { locked = bit } }
 
 -- the machine as an exchange of the lock shows it
 abbrev pub seen_lock : Qdisc → Bool → Qdisc

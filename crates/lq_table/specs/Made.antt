@@ -1,13 +1,7 @@
--- The steps that a seat made, each as the call of that name makes it, and what a seat of this table knows with them. What the log says of
--- a step is on the page of the word.
+-- The steps that a seat made, each as the call of that name makes it. What the log says of a step is on the page of the word.
 use Rattle.std.specs.Prelude.{ℕ}
 pub use Rattle.lq_log.specs.Made.{Made, ◌⊳◌}
-use Rattle.lq_log.specs.Made.{WithSteps, load}
-use Rattle.lq_table.specs.Views.{View}
-
--- what a seat knows: its view, and the steps that it made, the latest first
-abbrev pub Known : Type 0
-Known = WithSteps View
+use Rattle.lq_log.specs.Made.{load}
 
 -- a load that only begins or ends a call of control, or a join
 abbrev pub load_base_log : ℕ → Made

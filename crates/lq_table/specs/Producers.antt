@@ -14,8 +14,7 @@ use Rattle.lq_model.specs.declared.machine.Position.TheVariants.{Put}
 use Rattle.atomic_table.specs.Table.{Step}
 use Rattle.lq_table.specs.Moves.{Sat, unchanged, seen_by, moved, past_with, on_trail}
 use Rattle.lq_table.specs.Places.{producer_place, size_place, slot_word}
-use Rattle.lq_table.specs.Sees.{view, lock_at, HasProducer, position, packet_at, Brings}
-use Rattle.lq_table.specs.Solo.{account_of, IsSole}
+use Rattle.lq_table.specs.Sees.{view, lock_at, HasProducer, position, packet_at, Brings, account_of, IsSole}
 use Rattle.lq_table.specs.Views.{View, Setup}
 use Rattle.lq_table.specs.declared.shared.Cpu.{Cpu}
 use Rattle.lq_table.specs.declared.shared.Shared.{Shared}

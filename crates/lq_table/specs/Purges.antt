@@ -17,8 +17,7 @@ use Rattle.lq_model.specs.declared.fate.Info.{Info}
 use Rattle.lq_model.specs.declared.machine.Position.TheVariants.{Control}
 use Rattle.atomic_table.specs.Table.{Step}
 use Rattle.lq_table.specs.Moves.{Sat}
-use Rattle.lq_table.specs.Sees.{view, position}
-use Rattle.lq_table.specs.Solo.{IsSole, account_of}
+use Rattle.lq_table.specs.Sees.{view, position, IsSole, account_of}
 use Rattle.lq_table.specs.Views.{View, Left, machine_packets}
 use Rattle.lq_table.specs.declared.shared.Cpu.{Cpu}
 

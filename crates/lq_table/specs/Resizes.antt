@@ -17,8 +17,7 @@ use Rattle.lq_table.specs.Moves.{Sat}
 use Rattle.lq_table.specs.Places.{slot_word, producer_place, size_place}
 use Rattle.lq_table.specs.Producers.{with_lock_at}
 use Rattle.lq_table.specs.Rule.{IsResting}
-use Rattle.lq_table.specs.Sees.{view, lock_at}
-use Rattle.lq_table.specs.Solo.{IsSole, account_of}
+use Rattle.lq_table.specs.Sees.{view, lock_at, IsSole, account_of}
 use Rattle.lq_table.specs.Views.{Work, HalfResize, View, Setup}
 use Rattle.lq_table.specs.declared.shared.Cpu.{Cpu}
 

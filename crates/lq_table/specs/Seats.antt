@@ -6,10 +6,9 @@ use Rattle.lq_device.specs.Station.{StationState}
 use Rattle.lq_model.specs.Machine.{idle_seat, Qdisc}
 use Rattle.atomic_table.specs.Table.{Step}
 use Rattle.atomic_table.specs.declared.shared.Seat.{Seat}
-use Rattle.lq_table.specs.Made.{Known}
 use Rattle.lq_table.specs.Moves.{Sat}
 use Rattle.lq_table.specs.Sees.{view, slot}
-use Rattle.lq_table.specs.Views.{View, no_packets, not_first, not_holding, State}
+use Rattle.lq_table.specs.Views.{View, no_packets, not_first, not_holding, State, Known}
 use Rattle.lq_table.specs.declared.shared.Cpu.{Cpu}
 
 -- split: a new seat gets one share and an owner of the seat that it is cut off from.

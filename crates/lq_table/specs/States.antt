@@ -18,12 +18,18 @@ use Rattle.atomic_table.specs.Table.{Step}
 use Rattle.lq_table.specs.Moves.{is_set, seen_by, stepped, Sat, moved, past_with, on_trail, pass_view}
 use Rattle.lq_table.specs.Places.{state_place}
 use Rattle.lq_table.specs.Rule.{shown}
-use Rattle.lq_table.specs.Sees.{view, carried, position}
-use Rattle.lq_table.specs.Solo.{account_of, IsSole, Solo, heard, solo, missed_to}
+use Rattle.lq_table.specs.Sees.{view, carried, position, account_of, IsSole, Solo, heard, solo}
 use Rattle.lq_table.specs.Views.{View, machine_packet}
 use Rattle.lq_table.specs.declared.shared.Cpu.{Cpu}
 
 -- THE BITS
+
+-- what a seat that has the table alone knows, with MISSED or DRAINING so
+abbrev pub missed_to : Bool → Solo → Solo
+missed_to bit v = record v { whole = record v.whole { missed = bit } }
+
+abbrev pub draining_to : Bool → Solo → Solo
+draining_to bit v = record v { whole = record v.whole { draining = bit } }
 
 -- MISSED or DRAINING is set
 abbrev pub some_bit : ℕ → Bool

@@ -16,8 +16,7 @@ use Rattle.lq_model.specs.declared.machine.Position.{Position}
 use Rattle.atomic_table.specs.Table.{Step}
 use Rattle.lq_table.specs.Moves.{past_with, Sat, seen_by, moved}
 use Rattle.lq_table.specs.Places.{xoff_word}
-use Rattle.lq_table.specs.Sees.{steps, setup}
-use Rattle.lq_table.specs.Solo.{Solo, heard, IsSole, account_of, IsAccounts, HasSent}
+use Rattle.lq_table.specs.Sees.{steps, setup, Solo, heard, IsSole, account_of, IsAccounts, HasSent}
 use Rattle.lq_table.specs.Views.{Setup, View, machine_packet, HolderPart}
 use Rattle.lq_table.specs.declared.shared.Cpu.{Cpu}
 use Rattle.lq_table.specs.declared.shared.Shared.{Shared}

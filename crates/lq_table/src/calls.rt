@@ -2,10 +2,9 @@
 ghost use Rattle.std.specs.Prelude.{◌≡◌, ◌<◌, true, is_some, ◌∷◌};
 ghost use Rattle.lq_model.specs.declared.machine.Position.TheVariants.{Leave as AtLeave};
 ghost use Rattle.lq_table.specs.Marks.{marks_of};
-ghost use Rattle.lq_table.specs.Sees.{view, position, IsSeatOf, IsElseSame, steps, ComesToKnow, IsMarkedSeatOf};
+ghost use Rattle.lq_table.specs.Sees.{view, position, IsSeatOf, IsElseSame, steps, ComesToKnow, IsMarkedSeatOf, solo};
 ghost use Rattle.lq_table.specs.Moves.{at_rest, pass_view};
 ghost use Rattle.lq_table.specs.Inside.{bringing_packet, enter_view, MayEnter, enter_alone, enter_log, leave_log};
-ghost use Rattle.lq_table.specs.Solo.{solo};
 
 use crate::marks::Marks;
 use crate::places::INSIDE;

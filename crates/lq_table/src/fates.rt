@@ -1,9 +1,8 @@
 //! The step on a fate word.
 ghost use Rattle.std.specs.Prelude.{◌≡◌, ◌<◌, length, ◌∷◌};
 ghost use Rattle.lq_model.specs.Words.{HasWord, word_of};
-ghost use Rattle.lq_table.specs.Sees.{view, carried, IsSeatOf, IsElseSame, steps, setup, packet_band};
+ghost use Rattle.lq_table.specs.Sees.{view, carried, IsSeatOf, IsElseSame, steps, setup, packet_band, solo};
 ghost use Rattle.lq_table.specs.Fates.{MaySettle, settle_view, settle_alone, settle_log};
-ghost use Rattle.lq_table.specs.Solo.{solo};
 
 use crate::shared::{Cpu, Shared};
 use lq_device::TxDevice;

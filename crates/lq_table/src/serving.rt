@@ -1,9 +1,8 @@
 //! The sets and clears of MISSED and DRAINING by the holder of the run lock.
 ghost use Rattle.std.specs.Prelude.{◌≡◌, true, false, ◌∷◌, Bool};
-ghost use Rattle.lq_table.specs.Sees.{view, position, IsSeatOf, IsElseSame, steps};
-ghost use Rattle.lq_table.specs.States.{clear_missed_at, clear_draining_at, set_missed_at, set_draining_at, set_bit_view, set_bit_alone, clear_draining_log, clear_missed_log, set_draining_log, set_missed_log};
+ghost use Rattle.lq_table.specs.Sees.{view, position, IsSeatOf, IsElseSame, steps, solo};
+ghost use Rattle.lq_table.specs.States.{clear_missed_at, clear_draining_at, set_missed_at, set_draining_at, set_bit_view, set_bit_alone, clear_draining_log, clear_missed_log, set_draining_log, set_missed_log, missed_to, draining_to};
 ghost use Rattle.lq_table.specs.Moves.{pass_view};
-ghost use Rattle.lq_table.specs.Solo.{solo, missed_to, draining_to};
 
 use crate::places::STATE;
 use crate::shared::{Cpu, Shared};

@@ -4,8 +4,7 @@ use Rattle.std.proofs.lemmas.List.{length-set}
 use Rattle.lq_model.specs.Account.{Event, Join, Full, Refuse, Direct}
 use Rattle.lq_model.specs.declared.fate.Info.{Info}
 use Rattle.lq_model.specs.Plan.{band_in, owner_in, rank_in}
-use Rattle.lq_table.specs.Made.{Known}
-use Rattle.lq_table.specs.Views.{Setup, View}
+use Rattle.lq_table.specs.Views.{Setup, View, Known}
 use Rattle.lq_table.specs.Rule.{units_of}
 use Rattle.lq_qdisc.specs.Sends.{came_as, trail_with}
 use Rattle.lq_qdisc.specs.Steps.{TransmitsBy}

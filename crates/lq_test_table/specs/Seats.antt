@@ -6,8 +6,7 @@ use Rattle.lq_model.specs.declared.machine.Phase.{Phase}
 use Rattle.lq_model.specs.declared.machine.Phase.TheVariants.{Active}
 use Rattle.lq_model.specs.declared.machine.Position.TheVariants.{Idle}
 use Rattle.lq_table.specs.Rule.{times, units_of}
-use Rattle.lq_table.specs.Sees.{view, position, IsSeatOf, IsSameSeat}
-use Rattle.lq_table.specs.Solo.{IsSole}
+use Rattle.lq_table.specs.Sees.{view, position, IsSeatOf, IsSameSeat, IsSole}
 use Rattle.lq_table.specs.declared.shared.Cpu.{Cpu}
 use Rattle.lq_table.specs.declared.shared.Shared.{Shared}
 use Rattle.lq_test_table.specs.Plain.{IsPlainPacket}

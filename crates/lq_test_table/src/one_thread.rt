@@ -3,8 +3,7 @@
 ghost use Rattle.std.specs.Prelude.{◌≡◌, [], length};
 ghost use Rattle.lq_control.specs.Finish.{AreTurnsFrom};
 ghost use Rattle.lq_table.specs.Rule.{units_of};
-ghost use Rattle.lq_table.specs.Sees.{view, setup};
-ghost use Rattle.lq_table.specs.Solo.{IsSole};
+ghost use Rattle.lq_table.specs.Sees.{view, setup, IsSole};
 ghost use Rattle.lq_test_table.specs.Recorder.{IsFreshWithRoom};
 ghost use Rattle.lq_test_table.specs.Seats.{IsDone, IsOnly};
 

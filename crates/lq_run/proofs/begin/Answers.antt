@@ -1,9 +1,9 @@
 use Rattle.std.proofs.Common.{rules, ◌≡◌, true, not, inl, inr, refl, sym, ap, ◌∙◌, subst}
 use Rattle.std.proofs.lemmas.Bool.{false≢true, true≢false}
-use Rattle.lq_table.specs.Made.{Known}
-use Rattle.lq_table.specs.Sees.{view, known}
-use Rattle.lq_table.specs.Solo.{Solo, IsAccounts, locked_to, missed_to, solo}
-use Rattle.lq_table.specs.Views.{View}
+use Rattle.lq_table.specs.Sees.{view, known, Solo, IsAccounts, solo}
+use Rattle.lq_table.specs.Locks.{locked_to}
+use Rattle.lq_table.specs.States.{missed_to}
+use Rattle.lq_table.specs.Views.{View, Known}
 use Rattle.lq_run.specs.Tries.{TriesOnce}
 use Rattle.lq_run.proofs.TryLemmas.{begins_as_holder, first_got, first_leads, first_locked, kept_touched, missed_leads, missed_touches, second_got, second_leads, second_locked, sole_touched, touches_then}
 use Rattle.lq_run.proofs.begin.Goals as goal

@@ -4,8 +4,7 @@ use Rattle.lq_device.specs.Station.{StationState}
 use Rattle.lq_table.specs.Rule.{units_of, shown}
 use Rattle.lq_table.specs.Made.{Made, ◌⊳◌}
 use Rattle.lq_table.specs.Locks.{try_lock_log, SeesTry, look_lock_view, try_lock_view}
-use Rattle.lq_table.specs.Sees.{view}
-use Rattle.lq_table.specs.Solo.{IsSole}
+use Rattle.lq_table.specs.Sees.{view, IsSole}
 use Rattle.lq_table.specs.Moves.{IsKnownSlot}
 use Rattle.lq_table.specs.Views.{HolderPart, View}
 use Rattle.lq_run.specs.Tries.{TriedAs}

@@ -4,14 +4,12 @@ use Rattle.lq_account_laws.specs.Trail.{down_of}
 use Rattle.lq_model.specs.Account.{Purge}
 use Rattle.lq_model.specs.Control.{after_purge}
 use Rattle.lq_model.specs.declared.fate.Cause.TheVariants as cause
-use Rattle.lq_table.specs.Views.{View}
+use Rattle.lq_table.specs.Views.{View, Known}
 use Rattle.lq_table.specs.Controls.{set_deactivated_view}
-use Rattle.lq_table.specs.Sees.{view, setup, known}
-use Rattle.lq_table.specs.Made.{Known}
+use Rattle.lq_table.specs.Sees.{view, setup, known, IsSole}
 use Rattle.lq_control.specs.Steps.{PurgesBy, WaitsForCalls, with_deactivated_set}
 use Rattle.lq_control.proofs.Keeps.{keeps_closed, keeps_freed, keeps_purged, keeps_then, seat_then}
 use Rattle.lq_control.proofs.StepLemmas.{both}
-use Rattle.lq_table.specs.Solo.{IsSole}
 use Rattle.lq_table.specs.Locks.{try_lock_view_in_control}
 use Rattle.lq_control.specs.Control.{all_purged, phased}
 use Rattle.lq_control.proofs.Sole.{deactivated_is}

@@ -1,7 +1,6 @@
 use Rattle.std.proofs.Common.{rules, ap, ◌∙◌}
 use Rattle.lq_table.specs.Views.{View, first_account}
-use Rattle.lq_table.specs.Sees.{view, known, setup}
-use Rattle.lq_table.specs.Solo.{heard, solo}
+use Rattle.lq_table.specs.Sees.{view, known, setup, heard, solo}
 use Rattle.lq_model.specs.Account.{Up}
 use Rattle.lq_model.specs.Alone.{changed}
 use Rattle.lq_model.specs.declared.plan.EventKind.TheVariants as kind

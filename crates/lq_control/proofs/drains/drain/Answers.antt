@@ -1,7 +1,6 @@
 use Rattle.std.proofs.Common.{rules, refl, sym, ap, ◌∙◌}
 use Rattle.lq_table.specs.Views.{FirstPart, first_account}
-use Rattle.lq_table.specs.Sees.{view, known, setup}
-use Rattle.lq_table.specs.Solo.{solo}
+use Rattle.lq_table.specs.Sees.{view, known, setup, solo}
 use Rattle.lq_ring.proofs.Seats.{seat_on}
 use Rattle.lq_qdisc.proofs.AloneRests.{rests_served}
 use Rattle.lq_control.specs.Control.{IsServed}

@@ -1,8 +1,7 @@
 use Rattle.std.proofs.Common.{◌≡◌}
 use Rattle.lq_model.specs.declared.machine.Position.TheVariants.{Idle}
 use Rattle.lq_table.specs.Views.{first_account}
-use Rattle.lq_table.specs.Sees.{view, known, setup, position, IsSeatOf, IsSameSeat}
-use Rattle.lq_table.specs.Solo.{solo}
+use Rattle.lq_table.specs.Sees.{view, known, setup, position, IsSeatOf, IsSameSeat, solo}
 use Rattle.lq_qdisc.specs.Alone.{BringsAlone}
 use Rattle.lq_qdisc.specs.Sends.{IsReadyToSend}
 use Rattle.lq_control.specs.Control.{IsServed}

@@ -1,8 +1,7 @@
 use Rattle.std.proofs.Common.{rules, false, ap, ◌∙◌, not, sym, subst}
 use Rattle.lq_table.specs.Views.{View}
-use Rattle.lq_table.specs.Solo.{IsSole}
 use Rattle.lq_table.specs.States.{SeesState}
-use Rattle.lq_table.specs.Sees.{known, setup, view}
+use Rattle.lq_table.specs.Sees.{known, setup, view, IsSole}
 use Rattle.lq_control.proofs.FinishSteps.{control_looked}
 use Rattle.lq_control.proofs.StepLemmas.{lock_then_state, round_locked, round_scheduled}
 use Rattle.lq_control.proofs.drains.is_clear.Goals as goal

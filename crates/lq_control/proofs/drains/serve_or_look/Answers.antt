@@ -1,7 +1,6 @@
 use Rattle.std.proofs.Common.{rules, ap, ◌∙◌, sym}
 use Rattle.lq_table.specs.Views.{View, FirstPart}
-use Rattle.lq_table.specs.Sees.{view, known, setup}
-use Rattle.lq_table.specs.Solo.{solo}
+use Rattle.lq_table.specs.Sees.{view, known, setup, solo}
 use Rattle.lq_qdisc.proofs.ViewLemmas.{interrupts_view}
 use Rattle.lq_control.specs.Alone.{unmarked}
 use Rattle.lq_control.proofs.FinishSteps.{ready_kept, served_begun}

@@ -1,6 +1,5 @@
 use Rattle.std.proofs.Common.{rules, refl, ◌∙◌}
-use Rattle.lq_table.specs.Sees.{view, setup, known}
-use Rattle.lq_table.specs.Solo.{solo}
+use Rattle.lq_table.specs.Sees.{view, setup, known, solo}
 use Rattle.lq_ring.proofs.Seats.{seat_on}
 use Rattle.lq_control.specs.Steps.{none_yet}
 use Rattle.lq_control.proofs.StepLemmas.{rounds_then}

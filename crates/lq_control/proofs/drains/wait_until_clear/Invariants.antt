@@ -1,7 +1,6 @@
 use Rattle.std.proofs.Common.{◌≡◌, false, IsSome}
 use Rattle.lq_model.specs.declared.machine.Position.TheVariants.{Control}
-use Rattle.lq_table.specs.Sees.{view, setup, known, position, IsSeatOf, IsSameSeat}
-use Rattle.lq_table.specs.Solo.{IsSole, account_of, solo}
+use Rattle.lq_table.specs.Sees.{view, setup, known, position, IsSeatOf, IsSameSeat, IsSole, account_of, solo}
 use Rattle.lq_qdisc.specs.Sends.{IsReadyToSend}
 use Rattle.lq_control.specs.Alone.{unmarked}
 use Rattle.lq_control.specs.Control.{IsServed}

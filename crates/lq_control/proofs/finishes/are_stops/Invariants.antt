@@ -1,6 +1,5 @@
 use Rattle.std.proofs.Common.{◌≡◌, ◌<◌, ℕ, None, slice_index}
-use Rattle.lq_table.specs.Sees.{view, known, setup, IsSeatOf, IsElseSame}
-use Rattle.lq_table.specs.Solo.{IsSole, account_of}
+use Rattle.lq_table.specs.Sees.{view, known, setup, IsSeatOf, IsElseSame, IsSole, account_of}
 use Rattle.lq_control.specs.EndSteps.{stops_loaded}
 use Rattle.lq_control.proofs.finishes.are_stops.Given as goal
 

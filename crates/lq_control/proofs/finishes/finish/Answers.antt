@@ -3,8 +3,7 @@ use Rattle.std.specs.Prelude.{is_some, if◌then◌else◌}
 use Rattle.lq_model.specs.Account.{Account, held}
 use Rattle.lq_model.specs.declared.fate.Info.{Info}
 use Rattle.lq_table.specs.Views.{View, Setup, FirstPart, SharePart, first_account}
-use Rattle.lq_table.specs.Sees.{view, known, setup}
-use Rattle.lq_table.specs.Solo.{Solo, account_of, solo}
+use Rattle.lq_table.specs.Sees.{view, known, setup, Solo, account_of, solo}
 use Rattle.lq_qdisc.specs.Alone.{IsAlone, account_in}
 use Rattle.lq_qdisc.proofs.AloneSteps.{account_at, count_of}
 use Rattle.lq_control.specs.declared.finishes.Seen.TheVariants.{Hung, Ended}

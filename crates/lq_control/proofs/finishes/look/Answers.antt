@@ -1,11 +1,9 @@
 use Rattle.std.proofs.Common.{◌≡◌, ℕ, Bool, true, false, None, inl, inr, refl, sym, ap, ◌∙◌, subst}
 use Rattle.std.specs.Prelude.{not, bit_and}
 use Rattle.std.proofs.lemmas.Bool.{eq-eqb}
-use Rattle.lq_table.specs.Sees.{view, known, setup}
-use Rattle.lq_table.specs.Solo.{IsSole, account_of}
+use Rattle.lq_table.specs.Sees.{view, known, setup, IsSole, account_of}
 use Rattle.lq_table.specs.Moves.{is_set}
-use Rattle.lq_table.specs.Views.{View, Setup}
-use Rattle.lq_table.specs.Made.{Known}
+use Rattle.lq_table.specs.Views.{View, Setup, Known}
 use Rattle.lq_control.specs.declared.finishes.Seen.{Seen}
 use Rattle.lq_control.specs.declared.finishes.Seen.TheVariants as seen
 use Rattle.lq_control.specs.EndSteps.{LoadsStops, LooksBy, LooksInside, are_quiet}

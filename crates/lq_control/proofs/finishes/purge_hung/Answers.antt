@@ -6,17 +6,15 @@ use Rattle.lq_model.specs.Account.{Purge, after}
 use Rattle.lq_model.specs.declared.fate.Cause.{Cause}
 use Rattle.lq_model.specs.declared.fate.Cause.TheVariants as cause
 use Rattle.lq_model.specs.declared.fate.Fate.TheVariants as fate
-use Rattle.lq_table.specs.Views.{View, Setup, PacketPart, HolderPart, FirstPart, Left}
+use Rattle.lq_table.specs.Views.{View, Setup, PacketPart, HolderPart, FirstPart, Left, Known}
 use Rattle.lq_table.specs.Rule.{shown, IsResting}
 use Rattle.lq_table.specs.Purges.{begin_purge_view, HoldsAtMost, HoldPackets}
-use Rattle.lq_table.specs.Sees.{view, known, setup, IsSameSeat}
-use Rattle.lq_table.specs.Made.{Known}
+use Rattle.lq_table.specs.Sees.{view, known, setup, IsSameSeat, IsAccounts, account_of, solo}
 use Rattle.lq_control.specs.Steps.{PurgesHeld, with_purge_begun}
 use Rattle.lq_control.proofs.StepLemmas.{both}
-use Rattle.lq_table.specs.Solo.{IsAccounts, account_of, locked_to, solo}
 use Rattle.lq_ring.proofs.Seats.{seat_on}
 use Rattle.lq_ring.specs.Fates.{fates_onto}
-use Rattle.lq_table.specs.Locks.{try_lock_view_in_control}
+use Rattle.lq_table.specs.Locks.{try_lock_view_in_control, locked_to}
 use Rattle.lq_control.specs.Control.{IsPurgeDone, IsPurged, all_purged}
 use Rattle.lq_control.specs.Ending.{purged_as_hung}
 use Rattle.lq_control.specs.Finish.{IsLook, PurgesHung}

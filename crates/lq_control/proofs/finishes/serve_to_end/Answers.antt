@@ -3,8 +3,7 @@ use Rattle.lq_model.specs.Account.{Account}
 use Rattle.lq_model.specs.declared.machine.Position.TheVariants.{Control}
 use Rattle.lq_table.specs.Controls.{begin_control_view}
 use Rattle.lq_table.specs.Views.{View, FirstPart, SharePart, first_account}
-use Rattle.lq_table.specs.Sees.{view, known, setup, position, IsElseSame}
-use Rattle.lq_table.specs.Solo.{Solo, account_of, solo}
+use Rattle.lq_table.specs.Sees.{view, known, setup, position, IsElseSame, Solo, account_of, solo}
 use Rattle.lq_table.specs.declared.shared.Cpu.{Cpu}
 use Rattle.lq_ring.proofs.Seats.{seat_on}
 use Rattle.lq_qdisc.specs.Alone.{account_in}

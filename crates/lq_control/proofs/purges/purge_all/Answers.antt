@@ -1,11 +1,10 @@
 use Rattle.std.proofs.Common.{rules, ℕ, ◌<◌, refl, sym, ap, ◌∙◌, subst, Some, length}
 use Rattle.std.specs.Prelude.{IfSome}
 use Rattle.lq_model.specs.declared.fate.Cause.TheVariants as cause
-use Rattle.lq_table.specs.Views.{View, Setup, PacketPart}
+use Rattle.lq_table.specs.Views.{View, Setup, PacketPart, Known}
 use Rattle.lq_table.specs.Rule.{shown}
 use Rattle.lq_table.specs.Purges.{HoldsAtMost, HoldPackets}
 use Rattle.lq_table.specs.Sees.{view, setup, known}
-use Rattle.lq_table.specs.Made.{Known}
 use Rattle.lq_control.specs.Steps.{PurgesHeld, with_purge_begun}
 use Rattle.lq_control.proofs.StepLemmas.{both}
 use Rattle.lq_control.proofs.Purge.{purged_of, slot_within}

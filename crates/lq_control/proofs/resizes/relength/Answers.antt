@@ -1,7 +1,7 @@
 use Rattle.std.proofs.Common.{rules, ◌≡◌, ℕ, false, ap, ◌∙◌, subst}
 use Rattle.lq_model.specs.Account.{Resize}
-use Rattle.lq_table.specs.Solo.{Solo, heard, locked_to, solo}
-use Rattle.lq_table.specs.Sees.{known, setup, view}
+use Rattle.lq_table.specs.Locks.{locked_to}
+use Rattle.lq_table.specs.Sees.{known, setup, view, Solo, heard, solo}
 use Rattle.lq_model.specs.declared.machine.Phase.TheVariants.{Purged}
 use Rattle.lq_ring.specs.Changes.{ResizesAll}
 use Rattle.lq_ring.specs.Resized.{all_lost}

@@ -2,18 +2,16 @@ use Rattle.std.proofs.Common.{rules, ◌≡◌, ℕ, ◌<◌, true, None, refl, 
 use Rattle.lq_model.specs.Account.{Resize}
 use Rattle.lq_model.specs.Alone.{changed}
 use Rattle.lq_model.specs.declared.plan.EventKind.TheVariants as kind
-use Rattle.lq_table.specs.Views.{View, FirstPart, HolderPart, first_account}
+use Rattle.lq_table.specs.Views.{View, FirstPart, HolderPart, first_account, Known}
 use Rattle.std.proofs.lemmas.Bool.Decides.{nat_tests}
 use Rattle.lq_band_laws.specs.Ring.{IsAtRest, at_start}
 use Rattle.lq_table.specs.Controls.{begin_control_view}
 use Rattle.lq_table.specs.Rule.{IsResting}
-use Rattle.lq_table.specs.Sees.{view, setup, known}
-use Rattle.lq_table.specs.Solo.{IsSole, solo, heard, locked_to}
-use Rattle.lq_table.specs.Locks.{try_lock_view_in_control}
+use Rattle.lq_table.specs.Sees.{view, setup, known, IsSole, solo, heard}
+use Rattle.lq_table.specs.Locks.{try_lock_view_in_control, locked_to}
 use Rattle.lq_run.specs.Runs.{ended}
 use Rattle.lq_ring.specs.Resized.{all_lost, having_resized}
 use Rattle.lq_control.proofs.Alone.{resize_alone, resized_same, stepped_at}
-use Rattle.lq_table.specs.Made.{Known}
 use Rattle.lq_control.specs.Steps.{TakesLock, with_control_begun}
 use Rattle.lq_control.proofs.Keeps.{keeps_begun, keeps_ended, keeps_resized, keeps_then, resized_from, seat_then}
 use Rattle.lq_control.proofs.StepLemmas.{both}

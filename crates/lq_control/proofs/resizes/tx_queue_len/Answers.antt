@@ -1,7 +1,7 @@
 use Rattle.std.proofs.Common.{false, true, List, ◌∷◌, sym, ap, ◌∙◌, subst}
 use Rattle.lq_table.specs.Views.{first_account}
-use Rattle.lq_table.specs.Sees.{view, setup, known}
-use Rattle.lq_table.specs.Solo.{Solo, heard, locked_to, solo}
+use Rattle.lq_table.specs.Sees.{view, setup, known, Solo, heard, solo}
+use Rattle.lq_table.specs.Locks.{locked_to}
 use Rattle.lq_model.specs.Account.{Event, Resize, Up}
 use Rattle.lq_model.specs.Alone.{changed}
 use Rattle.lq_model.specs.declared.plan.EventKind.TheVariants as kind

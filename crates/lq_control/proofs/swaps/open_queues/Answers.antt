@@ -1,9 +1,8 @@
 use Rattle.std.proofs.Common.{rules, ◌≡◌, ◌+◌, ◌-◌, refl, ap, ◌∙◌, arith}
 use Rattle.lq_table.specs.Views.{View, Setup}
 use Rattle.lq_table.specs.Controls.{shut_after, open_xoff_view}
-use Rattle.lq_table.specs.Sees.{view, known, setup}
+use Rattle.lq_table.specs.Sees.{view, known, setup, solo}
 use Rattle.lq_control.proofs.StepLemmas.{opened_more}
-use Rattle.lq_table.specs.Solo.{solo}
 use Rattle.lq_ring.proofs.Seats.{seat_on}
 use Rattle.lq_control.specs.Control.{all_opened}
 use Rattle.lq_control.proofs.swaps.open_queues.Goals as goal

@@ -1,8 +1,7 @@
 use Rattle.std.proofs.Common.{◌≡◌, ◌≤◌, ◌-◌}
 use Rattle.lq_table.specs.Views.{WholePart}
 use Rattle.lq_table.specs.Controls.{shut_after}
-use Rattle.lq_table.specs.Sees.{view, known, setup, IsSeatOf, IsElseSame}
-use Rattle.lq_table.specs.Solo.{solo}
+use Rattle.lq_table.specs.Sees.{view, known, setup, IsSeatOf, IsElseSame, solo}
 use Rattle.lq_control.specs.Control.{all_opened}
 use Rattle.lq_control.specs.Steps.{with_queues_opened}
 use Rattle.lq_control.proofs.swaps.open_queues.Given as goal

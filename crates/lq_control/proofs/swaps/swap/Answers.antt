@@ -3,8 +3,8 @@ use Rattle.lq_model.specs.Account.{Event, Swap, Up}
 use Rattle.lq_model.specs.Alone.{changed}
 use Rattle.lq_model.specs.declared.plan.EventKind.TheVariants as kind
 use Rattle.lq_table.specs.Views.{first_account}
-use Rattle.lq_table.specs.Sees.{view, known, setup}
-use Rattle.lq_table.specs.Solo.{Solo, device_to, heard, locked_to, solo}
+use Rattle.lq_table.specs.Sees.{view, known, setup, Solo, device_to, heard, solo}
+use Rattle.lq_table.specs.Locks.{locked_to}
 use Rattle.lq_table.specs.Rule.{units_of}
 use Rattle.lq_qdisc.specs.Alone.{HasAll}
 use Rattle.lq_control.proofs.Keeps.{keeps_reopened, reopened_at, reopened_trail, seat_then}

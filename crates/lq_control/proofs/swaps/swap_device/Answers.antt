@@ -2,14 +2,13 @@ use Rattle.std.proofs.Common.{◌≡◌, false, sym, ap, ◌∙◌, subst, arith
 use Rattle.std.specs.Prelude.{is_some}
 use Rattle.std.specs.Option.{unwrap_or}
 use Rattle.lq_device.specs.Station.{StationState}
-use Rattle.lq_table.specs.Views.{View, HolderPart, Setup, WholePart, no_station}
-use Rattle.lq_table.specs.Locks.{try_lock_view_in_control}
+use Rattle.lq_table.specs.Views.{View, HolderPart, Setup, WholePart, no_station, Known}
+use Rattle.lq_table.specs.Locks.{try_lock_view_in_control, locked_to}
 use Rattle.lq_table.specs.Rule.{HasServed, latest_unit, station_count, units_of}
 use Rattle.lq_table.specs.Controls.{IsSwap, swap_view}
-use Rattle.lq_table.specs.Sees.{view, known, setup}
-use Rattle.lq_table.specs.Made.{Known, ◌⊳◌}
+use Rattle.lq_table.specs.Sees.{view, known, setup, Solo, device_to, heard, solo}
+use Rattle.lq_table.specs.Made.{◌⊳◌}
 use Rattle.lq_table.specs.Stops.{store_xoff_log}
-use Rattle.lq_table.specs.Solo.{Solo, device_to, heard, locked_to, solo}
 use Rattle.lq_model.specs.Account.{Swap}
 use Rattle.lq_control.specs.Control.{all_opened, with_lock_free}
 use Rattle.lq_control.specs.Steps.{with_device_swapped, with_queues_opened, with_lock_released}

@@ -4,13 +4,11 @@ use Rattle.lq_model.specs.declared.machine.Position.{Position}
 use Rattle.lq_model.specs.declared.machine.Position.TheVariants.{Control}
 use Rattle.lq_ring.proofs.Seats.{seat_on}
 use Rattle.lq_run.specs.Tries.{TriesOnce}
-use Rattle.lq_table.specs.Made.{Known}
 use Rattle.lq_table.specs.Rule.{shown, units_of}
-use Rattle.lq_table.specs.Sees.{view, known}
-use Rattle.lq_table.specs.Solo.{IsAccounts, IsSole, locked_to, solo}
+use Rattle.lq_table.specs.Sees.{view, known, IsAccounts, IsSole, solo}
 use Rattle.lq_table.specs.Moves.{IsKnownSlot}
-use Rattle.lq_table.specs.Locks.{look_lock_view, try_lock_view, try_lock_view_in_control}
-use Rattle.lq_table.specs.Views.{View, HolderPart}
+use Rattle.lq_table.specs.Locks.{look_lock_view, try_lock_view, try_lock_view_in_control, locked_to}
+use Rattle.lq_table.specs.Views.{View, HolderPart, Known}
 use Rattle.lq_control.specs.Steps.{not_tried, held}
 use Rattle.lq_control.proofs.FinishSteps.{control_at}
 use Rattle.lq_control.proofs.Keeps.{seat_then}

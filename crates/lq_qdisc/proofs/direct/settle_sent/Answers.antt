@@ -3,8 +3,7 @@ use Rattle.lq_model.specs.Plan.{band_in}
 use Rattle.lq_model.specs.declared.fate.Fate.{Fate}
 use Rattle.lq_device.specs.Station.{StationState}
 use Rattle.lq_table.specs.Fates.{settle_view, settle_alone}
-use Rattle.lq_table.specs.Solo.{solo}
-use Rattle.lq_table.specs.Sees.{view, packet_at, carried}
+use Rattle.lq_table.specs.Sees.{view, packet_at, carried, solo}
 use Rattle.lq_qdisc.proofs.DirectLemmas.{may_settle, sent_as, sent_has_word}
 use Rattle.lq_qdisc.proofs.direct.settle_sent.Goals as goal
 

@@ -6,11 +6,10 @@ use Rattle.lq_model.specs.declared.device.Tx.{Tx}
 use Rattle.lq_model.specs.declared.device.Tx.TheVariants.{Busy}
 use Rattle.lq_model.specs.declared.machine.Position.TheVariants.{Xmit}
 use Rattle.lq_table.specs.Made.{Made, ◌⊳◌}
-use Rattle.lq_table.specs.States.{set_missed_log, requeue_view}
+use Rattle.lq_table.specs.States.{set_missed_log, requeue_view, missed_to}
 use Rattle.lq_table.specs.Fates.{settle_log, fate_sent}
 use Rattle.lq_table.specs.Rule.{shown}
-use Rattle.lq_table.specs.Sees.{view, setup, carried, packet_at, position}
-use Rattle.lq_table.specs.Solo.{solo, heard, missed_to, device_to}
+use Rattle.lq_table.specs.Sees.{view, setup, carried, packet_at, position, solo, heard, device_to}
 use Rattle.lq_table.specs.Views.{View, HolderPart, Setup}
 use Rattle.lq_qdisc.specs.Direct.{IsSentAs}
 use Rattle.lq_qdisc.specs.Steps.{stops_stored}

@@ -2,8 +2,7 @@ use Rattle.std.proofs.Common.{rules, ◌≡◌, ℕ, ◌<◌, true, refl, sym, a
 use Rattle.lq_model.specs.Account.{Event, Stop}
 use Rattle.lq_model.specs.declared.machine.Position.TheVariants.{StoreXoff}
 use Rattle.lq_table.specs.Views.{View, HolderPart, Setup}
-use Rattle.lq_table.specs.Sees.{view, setup, steps, position}
-use Rattle.lq_table.specs.Solo.{Solo, heard, solo}
+use Rattle.lq_table.specs.Sees.{view, setup, steps, position, Solo, heard, solo}
 use Rattle.lq_table.specs.Made.{Made, ◌⊳◌}
 use Rattle.lq_table.specs.Stops.{store_xoff_log}
 use Rattle.lq_qdisc.specs.Direct.{hearing_hung, hung_below}

@@ -1,8 +1,7 @@
 use Rattle.std.proofs.Common.{◌≡◌, Bool, true, if◌then◌else◌}
 use Rattle.std.specs.Prelude.{nat_lt}
 use Rattle.lq_model.specs.declared.machine.Position.TheVariants.{StoreXoff}
-use Rattle.lq_table.specs.Sees.{view, setup, steps, position, IsSeatOf, IsElseSame}
-use Rattle.lq_table.specs.Solo.{solo}
+use Rattle.lq_table.specs.Sees.{view, setup, steps, position, IsSeatOf, IsElseSame, solo}
 use Rattle.lq_qdisc.specs.Direct.{StaysAt, hearing_hung, hung_below, position_after}
 use Rattle.lq_qdisc.specs.declared.answers.Through.TheVariants.{Yes}
 use Rattle.lq_qdisc.specs.Steps.{hung_stored}

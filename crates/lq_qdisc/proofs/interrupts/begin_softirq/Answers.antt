@@ -3,8 +3,7 @@ use Rattle.std.proofs.lemmas.Bool.{true≢false}
 use Rattle.lq_table.specs.Views.{View}
 use Rattle.lq_table.specs.Made.{Made, ◌⊳◌}
 use Rattle.lq_table.specs.States.{clear_sched_log, load_state_log, clear_sched_alone, load_state_view}
-use Rattle.lq_table.specs.Sees.{view}
-use Rattle.lq_table.specs.Solo.{IsSole, account_of, solo}
+use Rattle.lq_table.specs.Sees.{view, IsSole, account_of, solo}
 use Rattle.lq_table.specs.Moves.{is_set, pass_view}
 use Rattle.lq_qdisc.proofs.interrupts.begin_softirq.Goals as goal
 

@@ -1,13 +1,12 @@
 use Rattle.std.proofs.Common.{rules, ◌≡◌, ap, ◌∙◌, subst, refl}
-use Rattle.lq_table.specs.Made.{Known, ◌⊳◌}
+use Rattle.lq_table.specs.Made.{◌⊳◌}
 use Rattle.lq_table.specs.Inside.{leave_log}
-use Rattle.lq_table.specs.Sees.{view, known, setup, steps}
-use Rattle.lq_table.specs.Solo.{solo}
+use Rattle.lq_table.specs.Sees.{view, known, setup, steps, solo}
 use Rattle.lq_table.specs.Moves.{pass_view}
 use Rattle.lq_qdisc.specs.Steps.{InterruptsBy, IsDueBy, softirq_begun}
 use Rattle.lq_qdisc.proofs.AloneCalls.{softirq_alone}
 use Rattle.lq_qdisc.proofs.ViewLemmas.{interrupts_view}
-use Rattle.lq_table.specs.Views.{View}
+use Rattle.lq_table.specs.Views.{View, Known}
 use Rattle.lq_qdisc.proofs.RunLemmas.{fates_same, fates_then}
 use Rattle.lq_qdisc.proofs.SendLemmas.{called_from}
 use Rattle.lq_qdisc.proofs.StepLemmas.{due_keeps}

@@ -1,12 +1,10 @@
 use Rattle.std.proofs.Common.{◌≡◌, rules, Bool, true, false, if◌then◌else◌, inl, inr, refl, sym, ap, ◌∙◌, subst}
 use Rattle.lq_model.specs.Account.{Direct}
 use Rattle.lq_model.specs.Plan.{queue_in}
-use Rattle.lq_table.specs.Made.{Known}
-use Rattle.lq_table.specs.Sees.{view, known, setup}
-use Rattle.lq_table.specs.Solo.{heard, solo}
+use Rattle.lq_table.specs.Sees.{view, known, setup, heard, solo}
 use Rattle.lq_table.specs.States.{some_bit}
 use Rattle.lq_qdisc.specs.Steps.{DirectsBy, EnqueuesBy, gone}
-use Rattle.lq_table.specs.Views.{View}
+use Rattle.lq_table.specs.Views.{View, Known}
 use Rattle.lq_qdisc.proofs.SendLemmas.{IsLooked, KeepsCall, brings_looked_by, keeps_call, looked_from}
 use Rattle.lq_qdisc.proofs.TakeLemmas.{serving_same}
 use Rattle.lq_qdisc.proofs.sends.bypass_locked.Goals as goal

@@ -4,8 +4,7 @@ use Rattle.std.specs.Prelude.{Option}
 use Rattle.std.proofs.lemmas.Option.{slice_get-get_or}
 use Rattle.lq_model.specs.Plan.{band_in}
 use Rattle.lq_model.specs.declared.fate.Info.{Info}
-use Rattle.lq_table.specs.Sees.{view, known, setup}
-use Rattle.lq_table.specs.Solo.{solo}
+use Rattle.lq_table.specs.Sees.{view, known, setup, solo}
 use Rattle.lq_table.specs.Producers.{SeesEnd}
 use Rattle.lq_table.specs.Fates.{settle_view_owed}
 use Rattle.lq_table.specs.Views.{View}

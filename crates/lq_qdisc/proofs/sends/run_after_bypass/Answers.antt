@@ -1,8 +1,6 @@
 use Rattle.std.proofs.Common.{◌≡◌, rules, true, inl, sym, ap, ◌∙◌, subst}
-use Rattle.lq_table.specs.Made.{Known}
-use Rattle.lq_table.specs.Sees.{known, setup}
-use Rattle.lq_table.specs.Views.{View}
-use Rattle.lq_table.specs.Solo.{solo}
+use Rattle.lq_table.specs.Sees.{known, setup, solo}
+use Rattle.lq_table.specs.Views.{View, Known}
 use Rattle.lq_table.specs.States.{some_bit}
 use Rattle.lq_qdisc.specs.Steps.{FollowsBy, RunsToEndBy, with_state_loaded}
 use Rattle.lq_qdisc.specs.declared.answers.Through.{Through}

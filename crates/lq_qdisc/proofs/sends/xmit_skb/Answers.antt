@@ -1,12 +1,12 @@
 use Rattle.std.proofs.Common.{◌≡◌, ℕ, arith, rules, true, false, not, sym, ap, ◌∙◌, [], ◌∷◌, ◌&&◌, subst, List}
 use Rattle.lq_table.specs.Sees.{view, known, setup, packet_at}
 use Rattle.lq_table.specs.States.{some_bit, check_view_refused}
-use Rattle.lq_table.specs.Made.{Known, Made, ◌⊳◌}
+use Rattle.lq_table.specs.Made.{Made, ◌⊳◌}
 use Rattle.lq_table.specs.Fates.{settle_log, settle_view_owed}
 use Rattle.lq_model.specs.Words.{word_of}
 use Rattle.lq_qdisc.specs.Steps.{GoesThroughBy, TriesToPassBy}
 use Rattle.lq_model.specs.declared.fate.Fate.TheVariants.{Refused}
-use Rattle.lq_table.specs.Views.{Setup, View}
+use Rattle.lq_table.specs.Views.{Setup, View, Known}
 use Rattle.lq_table.specs.Moves.{is_set}
 use Rattle.std.proofs.lemmas.Bool.{true≢false}
 use Rattle.lq_qdisc.proofs.SendLemmas.{IsLooked, brings_looked_by, checked_leads, looked_from}

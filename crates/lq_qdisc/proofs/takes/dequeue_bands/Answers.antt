@@ -1,10 +1,8 @@
 use Rattle.std.proofs.Common.{rules, List, false, true, sym, ap, ◌∙◌, refl, subst, inl, inr, Some, None}
 use Rattle.lq_model.specs.Account.{Event}
-use Rattle.lq_table.specs.Solo.{Solo}
-use Rattle.lq_table.specs.Views.{State}
+use Rattle.lq_table.specs.Views.{State, Known}
 use Rattle.lq_qdisc.specs.Calls.{cleared, found_empty}
-use Rattle.lq_table.specs.Sees.{view, known, setup}
-use Rattle.lq_table.specs.Made.{Known}
+use Rattle.lq_table.specs.Sees.{view, known, setup, Solo}
 use Rattle.lq_qdisc.proofs.StepLemmas.{cleared_from}
 use Rattle.lq_qdisc.proofs.TakeLemmas.{finds_again, kept_then, serving_same, sole_kept}
 use Rattle.lq_qdisc.specs.Steps.{Scans}

@@ -2,8 +2,8 @@ use Rattle.std.proofs.Common.{◌≡◌, ℕ, List, Option, None, refl, sym, rul
 use Rattle.std.specs.Option.{option_map_or}
 use Rattle.lq_model.specs.Plan.{queue_in}
 use Rattle.lq_model.specs.Positions.{holds_lock}
-use Rattle.lq_table.specs.Views.{Setup, View}
-use Rattle.lq_table.specs.Made.{Known, Made, ◌⊳◌}
+use Rattle.lq_table.specs.Views.{Setup, View, Known}
+use Rattle.lq_table.specs.Made.{Made, ◌⊳◌}
 use Rattle.lq_table.specs.Stops.{load_xoff_log, load_xoff_view}
 use Rattle.lq_table.specs.Sees.{view, known, steps, setup}
 use Rattle.lq_table.specs.Moves.{pass_view}

@@ -4,11 +4,10 @@ use Rattle.std.specs.Prelude.{MatchOption, slice_index}
 use Rattle.lq_model.specs.Positions.{holds_lock}
 use Rattle.lq_model.specs.declared.machine.Seat.{Seat}
 use Rattle.lq_table.specs.Rule.{shown}
-use Rattle.lq_table.specs.Solo.{account_of, solo}
 use Rattle.lq_table.specs.Views.{HolderPart, Setup, View}
 use Rattle.lq_table.specs.Made.{Made, ◌⊳◌}
 use Rattle.lq_table.specs.Stops.{load_xoff_log, load_xoff_view, picking}
-use Rattle.lq_table.specs.Sees.{view, known, steps, setup}
+use Rattle.lq_table.specs.Sees.{view, known, steps, setup, account_of, solo}
 use Rattle.lq_table.specs.Moves.{pass_view}
 use Rattle.lq_table.specs.States.{set_bit_view}
 use Rattle.lq_qdisc.specs.Calls.{FindsPacket, FindsStopped, Picks, laid_aside}

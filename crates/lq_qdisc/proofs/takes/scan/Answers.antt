@@ -3,10 +3,9 @@ use Rattle.std.specs.Prelude.{slice_get}
 use Rattle.lq_model.specs.Account.{Account, Event, Empty, held_in}
 use Rattle.lq_table.specs.Views.{View, Setup}
 use Rattle.lq_table.specs.Moves.{IsPacketOf}
-use Rattle.lq_table.specs.Sees.{view, known, setup}
+use Rattle.lq_table.specs.Sees.{view, known, setup, account_of}
 use Rattle.lq_qdisc.specs.Steps.{EmptyBelow}
 use Rattle.lq_qdisc.proofs.StepLemmas.{bands_more}
-use Rattle.lq_table.specs.Solo.{account_of}
 use Rattle.lq_qdisc.proofs.TakeLemmas.{none_more, empty_more, looking_here, lead_more, account_same, kept_then, kept_none, kept_take, run_none, run_take, sole_kept}
 use Rattle.lq_qdisc.proofs.takes.scan.Goals as goal
 

@@ -1,7 +1,6 @@
 use Rattle.std.proofs.Common.{◌≡◌, Bool}
 use Rattle.lq_model.specs.declared.machine.Position.TheVariants.{Scan}
-use Rattle.lq_table.specs.Sees.{view, known, setup, position, IsSeatOf}
-use Rattle.lq_table.specs.Solo.{IsSole, account_of, solo}
+use Rattle.lq_table.specs.Sees.{view, known, setup, position, IsSeatOf, IsSole, account_of, solo}
 use Rattle.lq_qdisc.specs.Calls.{IsKeptInRun, IsServing, IsSettledSame, AreNone, found_empty, looking_at}
 use Rattle.lq_qdisc.specs.Steps.{EmptyBelow}
 use Rattle.lq_qdisc.proofs.takes.scan.Given as goal

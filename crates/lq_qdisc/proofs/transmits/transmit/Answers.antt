@@ -1,11 +1,10 @@
 use Rattle.std.proofs.Common.{rules, ◌≡◌, ap, ◌∙◌, subst, List}
 use Rattle.lq_model.specs.Plan.{owner_in, rank_in}
-use Rattle.lq_table.specs.Views.{View, Setup}
-use Rattle.lq_table.specs.Made.{Known, Made, ◌⊳◌}
+use Rattle.lq_table.specs.Views.{View, Setup, Known}
+use Rattle.lq_table.specs.Made.{Made, ◌⊳◌}
 use Rattle.lq_table.specs.Inside.{enter_log, enter_view}
 use Rattle.lq_table.specs.Turns.{give_turn_log, give_turn_view}
-use Rattle.lq_table.specs.Sees.{view, known, setup}
-use Rattle.lq_table.specs.Solo.{solo}
+use Rattle.lq_table.specs.Sees.{view, known, setup, solo}
 use Rattle.lq_qdisc.proofs.ViewRelations.{Goes}
 use Rattle.lq_qdisc.specs.Sends.{HasCome}
 use Rattle.lq_qdisc.specs.Steps.{GoesBy, transmit_begun}

@@ -6,14 +6,13 @@ use Rattle.lq_band_laws.proofs.Three.{at_put_same}
 use Rattle.lq_table.specs.Views.{View}
 use Rattle.lq_table.specs.Rule.{shown}
 use Rattle.lq_table.specs.Consumers.{head_slot_view_empty, head_slot_view}
-use Rattle.lq_table.specs.Sees.{view, setup, steps}
+use Rattle.lq_table.specs.Sees.{view, setup, steps, solo}
 use Rattle.lq_table.specs.Made.{◌⊳◌}
 use Rattle.lq_table.specs.Producers.{load_size_log, load_slot_log}
 use Rattle.lq_ring.specs.Steps.{zeroed}
 use Rattle.lq_ring.specs.Take.{consuming, emptied_count}
 use Rattle.lq_ring.proofs.StepLemmas.{zeroed_as}
 use Rattle.lq_table.specs.Moves.{IsPacketOf}
-use Rattle.lq_table.specs.Solo.{solo}
 use Rattle.lq_ring.proofs.TakeSteps.{sized_none, none_leads, none_heard, take_leads, take_heard, heads_at, tails_at, rest_at, consumes, rests_after, station_after, known_after}
 use Rattle.lq_ring.proofs.takes.consume.Given as given
 use Rattle.lq_ring.proofs.takes.consume.Goals as goal

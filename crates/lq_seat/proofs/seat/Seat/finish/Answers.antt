@@ -10,8 +10,7 @@ use Rattle.lq_seat.specs.Ends.{Finishes, MayFinish}
 use Rattle.lq_seat.specs.Rests.{AreUnitsSmall, phase_by}
 use Rattle.lq_seat.specs.State.{IsWellMade, SeatState, seat_seen, units_of}
 use Rattle.lq_seat.specs.Steps.{EndsStation}
-use Rattle.lq_table.specs.Sees.{known, view, setup}
-use Rattle.lq_table.specs.Solo.{solo}
+use Rattle.lq_table.specs.Sees.{known, view, setup, solo}
 use Rattle.lq_table.specs.Views.{Setup, first_account}
 
 pub finish-purged-requires-clause-may : goal.finish-purged-requires-clause-may

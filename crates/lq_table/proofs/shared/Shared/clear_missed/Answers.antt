@@ -1,5 +1,5 @@
 use Rattle.std.proofs.Common.{arith, ap, ◌∙◌}
-use Rattle.lq_table.specs.Solo.{solo}
+use Rattle.lq_table.specs.Sees.{solo}
 use Rattle.lq_table.proofs.StatesKept.{clears_missed_kept}
 use Rattle.lq_table.proofs.SoloSteps.{clears_missed_solo}
 use Rattle.lq_table.proofs.shared.Shared.clear_missed.Goals as goal

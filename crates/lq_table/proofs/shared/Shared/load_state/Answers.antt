@@ -1,5 +1,5 @@
 use Rattle.std.proofs.Common.{arith, ap, ◌∙◌}
-use Rattle.lq_table.specs.Solo.{solo}
+use Rattle.lq_table.specs.Sees.{solo}
 use Rattle.lq_table.proofs.SoleKept.{looks_sole}
 use Rattle.lq_table.proofs.SoloSteps.{looks_solo}
 use Rattle.lq_table.proofs.shared.Shared.load_state.Goals as goal

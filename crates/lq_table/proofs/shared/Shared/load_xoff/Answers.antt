@@ -5,7 +5,7 @@ use Rattle.atomic_table.specs.Table.{step, Allows}
 use Rattle.lq_table.specs.Rule.{Rule}
 use Rattle.lq_table.specs.Keyed.{keyed_setup}
 use Rattle.lq_table.specs.Stops.{load_xoff_queue, load_xoff_told_all}
-use Rattle.lq_table.specs.Solo.{solo}
+use Rattle.lq_table.specs.Sees.{solo}
 use Rattle.lq_table.proofs.ByName.{xoff_in}
 use Rattle.lq_table.proofs.SoleKept.{loads_stop_sole}
 use Rattle.lq_table.proofs.SoloSteps.{loads_stop_solo}

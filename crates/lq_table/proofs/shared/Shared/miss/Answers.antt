@@ -1,5 +1,5 @@
 use Rattle.std.proofs.Common.{arith, ap, ◌∙◌}
-use Rattle.lq_table.specs.Solo.{solo}
+use Rattle.lq_table.specs.Sees.{solo}
 use Rattle.lq_table.proofs.SoleKept.{misses_sole}
 use Rattle.lq_table.proofs.SoloSteps.{misses_solo}
 use Rattle.lq_table.proofs.shared.Shared.miss.Goals as goal

@@ -1,5 +1,5 @@
 use Rattle.std.proofs.Common.{arith, ap, ◌∙◌}
-use Rattle.lq_table.specs.Solo.{solo}
+use Rattle.lq_table.specs.Sees.{solo}
 use Rattle.lq_table.proofs.StatesKept.{sets_draining_all}
 use Rattle.lq_table.proofs.SoloSteps.{sets_draining_solo}
 use Rattle.lq_table.proofs.shared.Shared.set_draining.Goals as goal

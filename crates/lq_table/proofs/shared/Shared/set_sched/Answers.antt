@@ -1,5 +1,5 @@
 use Rattle.std.proofs.Common.{not, refl, ap, ◌∙◌}
-use Rattle.lq_table.specs.Solo.{solo}
+use Rattle.lq_table.specs.Sees.{solo}
 use Rattle.lq_table.proofs.SoloSteps.{schedules_solo}
 use Rattle.lq_table.proofs.shared.Shared.set_sched.Goals as goal
 

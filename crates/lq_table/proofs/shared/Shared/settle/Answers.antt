@@ -7,8 +7,7 @@ use Rattle.lq_table.specs.Rule.{Rule, fates_offset}
 use Rattle.lq_table.specs.Keyed.{keyed_setup}
 use Rattle.lq_table.specs.Moves.{Sat}
 use Rattle.lq_table.specs.Fates.{MaySettle, settle_view, settle_told}
-use Rattle.lq_table.specs.Sees.{view, carried}
-use Rattle.lq_table.specs.Solo.{solo}
+use Rattle.lq_table.specs.Sees.{view, carried, solo}
 use Rattle.lq_table.proofs.SoloSteps.{fates_solo}
 use Rattle.lq_table.proofs.SettleKept.{settles_fate}
 use Rattle.lq_log.specs.Made.{seen}

@@ -5,7 +5,7 @@ use Rattle.lq_table.specs.Rule.{Rule}
 use Rattle.lq_table.specs.Keyed.{keyed_setup}
 use Rattle.lq_model.specs.Account.{Stop}
 use Rattle.lq_table.specs.Stops.{store_xoff_told}
-use Rattle.lq_table.specs.Solo.{solo, heard}
+use Rattle.lq_table.specs.Sees.{solo, heard}
 use Rattle.lq_table.proofs.SoloSteps.{stores_solo}
 use Rattle.lq_table.proofs.ByName.{xoff_in}
 use Rattle.lq_table.proofs.StoreXoffKept.{stores_xoff}

@@ -13,8 +13,7 @@ use Rattle.lq_table.proofs.ProducerSole.{gets_producer_sole}
 use prog.Atomic.{either}
 use Rattle.std.proofs.Common.{eqb}
 use Rattle.lq_log.specs.Made.{seen, exchange}
-use Rattle.lq_table.specs.Sees.{view, steps}
-use Rattle.lq_table.specs.Solo.{IsSole}
+use Rattle.lq_table.specs.Sees.{view, steps, IsSole}
 use Rattle.std.proofs.lemmas.Bool.{false≢true}
 use Rattle.lq_table.proofs.shared.Shared.take_producer.Goals as goal
 
