@@ -1,12 +1,10 @@
--- The load of a producer word, and the exchange that takes its lock, with what they tell a seat that has the table alone.
-use Rattle.std.proofs.Common.{◌≡◌, ◌≢◌, ℕ, ◌+◌, ◌*◌, ◌%◌, ◌<◌, ◌≤◌, Bool, true, false, List, [], ◌∷◌, length, map, refl, sym, ap, ap₂, ◌∙◌, ⊎_elim, arith, Option, Some, None, get_or, eqb}
+-- What a load of a producer word, and the exchange that takes its lock, tell a seat that has the table alone.
+use Rattle.std.proofs.Common.{◌≡◌, ◌≢◌, ℕ, ◌+◌, ◌*◌, ◌%◌, ◌<◌, ◌≤◌, Bool, true, false, List, [], ◌∷◌, length, map, refl, sym, ap, ap₂, ◌∙◌, ⊎_elim, arith, Option, Some, None, get_or}
 use Rattle.std.specs.Prelude.{if◌then◌else◌, nat_lt}
 use Rattle.std.proofs.lemmas.Bool.{cases_eq, cases_lt}
-use mathlib.Core.Option.{some, none, some-injective}
+use mathlib.Core.Option.{some, some-injective}
 use lib.ListN.{get_elem?}
-use prog.Atomic.{either}
 use Rattle.atomic_table.specs.Table as table
-use Rattle.atomic_table.specs.Table.{step, Allows}
 use Rattle.lq_device.specs.Station.{StationState}
 use Rattle.lq_model.specs.Account.{Account}
 use Rattle.lq_model.specs.Machine.{Purge, bit}
@@ -19,12 +17,9 @@ use Rattle.lq_band_laws.proofs.StandsFor.{index_stands}
 use Rattle.lq_table.specs.Places.{producer_place}
 use Rattle.lq_table.specs.Views.{View, Setup, Left}
 use Rattle.lq_table.specs.Rule.{words_of, account, bands_now, locks_at, Leaves, Rule}
-use Rattle.lq_table.specs.Moves.{Sat, unchanged}
-use Rattle.lq_table.specs.Producers.{take_producer_told, producer_index, SeesProducer, load_producer_told, take_producer_told_all}
+use Rattle.lq_table.specs.Producers.{producer_index, SeesProducer}
 use Rattle.lq_table.proofs.ByName.{producer_of}
 use Rattle.lq_table.proofs.Facts.{none_if}
-use Rattle.lq_table.proofs.Loads.{also, loads_any}
-use Rattle.lq_table.proofs.ProducersKept.{gets_producer}
 use Rattle.lq_table.proofs.SoleFacts.{knows_account}
 use Rattle.lq_table.proofs.ClearDeactivatedKept.{one_of}
 
@@ -60,7 +55,7 @@ module _ (k : Setup) (s : table.State (Option StationState) View) (r : Rule k s)
       (λ none_. omega arith)
       (cases_lt 0 (total count s.views))
 
-  sees_producer : (b : ℕ) → b < 3 → 0 < v.share.shares → SeesProducer b v (get_or s.words (producer_place b) 0)
+  pub sees_producer : (b : ℕ) → b < 3 → 0 < v.share.shares → SeesProducer b v (get_or s.words (producer_place b) 0)
   sees_producer b below some_share sole free =
       let p = r.parts in let g = r.state in let a = account k g in let W = words_of k s.words in let ls = locks_at b s.views in
       let none_ : total locking ls ≡ 0 = nobody_locks sole.0 b free in
@@ -73,15 +68,3 @@ module _ (k : Setup) (s : table.State (Option StationState) View) (r : Rule k s)
       ∙ ap (λ (x : Account). length (x.bands b).line % x.len) (sym (knows_account k s r id v here some_share sole)) in
       let word : at b W.producers ≡ 2 * ring.index = let is = ring.word_is in omega arith in
       producer_of k s.words b below ∙ word ∙ ap (λ (n : ℕ). 2 * n) index
-
-module _ (k : Setup) (slots id : ℕ) (m : Sat) (b : ℕ) (below : b < 3) (some_share : 0 < m.0.share.shares) where
-  pub loads_producer : Allows (Rule k) slots id m (producer_place b) (λ x. x) (load_producer_told b (step slots (producer_place b) 0 0 none) m)
-  loads_producer = also k slots id m (producer_place b) (λ x. x) (unchanged (step slots (producer_place b) 0 0 none) m) (SeesProducer b m.0)
-      (λ s r here. sees_producer k s r id m.0 here b below some_share)
-      (loads_any k slots id m (producer_place b))
-
-  pub gets_producer_sole : (i : ℕ) → (at b m.0.locks).holds ≡ false
-      → Allows (Rule k) slots id m (producer_place b) (λ n. either (eqb n (2 * i)) (2 * i + 1) n) (take_producer_told_all b i k.max_len (step slots (producer_place b) (2 * i) (2 * i + 1) none) m)
-  gets_producer_sole i free = also k slots id m (producer_place b) (λ n. either (eqb n (2 * i)) (2 * i + 1) n) (take_producer_told b i k.max_len (step slots (producer_place b) (2 * i) (2 * i + 1) none) m) (SeesProducer b m.0)
-      (λ s r here. sees_producer k s r id m.0 here b below some_share)
-      (gets_producer k slots id m b i below free some_share)

@@ -1,5 +1,6 @@
+mod Kept
 use Rattle.std.proofs.Common.{arith}
-use Rattle.lq_table.proofs.ControlCalls.{begins_control}
+use Rattle.lq_table.proofs.shared.Shared.begin_control.Answers.Kept.{begins_control}
 use Rattle.lq_table.proofs.shared.Shared.begin_control.Goals as goal
 
 pub load-requires : goal.load-requires

@@ -1,6 +1,7 @@
+mod Kept
 use Rattle.std.proofs.Common.{arith}
 use Rattle.lq_table.specs.Keyed.{keyed_setup}
-use Rattle.lq_table.proofs.BeginPurgeKept.{purges_hung}
+use Rattle.lq_table.proofs.shared.Shared.begin_hung_purge.Answers.Kept.{purges_hung}
 use Rattle.lq_log.specs.Made.{seen}
 use Rattle.lq_table.proofs.shared.Shared.begin_hung_purge.Goals as goal
 

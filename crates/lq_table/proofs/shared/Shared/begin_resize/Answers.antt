@@ -1,3 +1,4 @@
+mod Kept
 use Rattle.std.proofs.Common.{ℕ, ◌<◌, ◌≤◌, arith, ap, subst, List}
 use Rattle.lq_model.specs.declared.fate.Info.{Info}
 use Rattle.lq_table.specs.Places.{size_place}
@@ -5,7 +6,7 @@ use Rattle.lq_table.specs.Keyed.{keyed_setup}
 use Rattle.lq_table.specs.Resizes.{BeginsResize}
 use Rattle.lq_table.specs.Sees.{view}
 use Rattle.lq_table.specs.Moves.{Sat}
-use Rattle.lq_table.proofs.ResizeKept.{begins_resize}
+use Rattle.lq_table.proofs.shared.Shared.begin_resize.Answers.Kept.{begins_resize}
 use Rattle.lq_log.specs.Made.{seen}
 use Rattle.lq_table.proofs.shared.Shared.begin_resize.Goals as goal
 

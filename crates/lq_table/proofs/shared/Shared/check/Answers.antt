@@ -1,9 +1,10 @@
+mod Kept
 use Rattle.std.proofs.Common.{◌≡◌, arith, sym, ap, ◌∙◌, List}
 use Rattle.lq_model.specs.declared.fate.Info.{Info}
 use Rattle.lq_model.specs.declared.machine.Position.TheVariants.{Check}
 use Rattle.lq_table.specs.Views.{machine_packet}
 use Rattle.lq_table.specs.Keyed.{keyed_setup}
-use Rattle.lq_table.proofs.SoleKept.{checks_sole}
+use Rattle.lq_table.proofs.shared.Shared.check.Answers.Kept.{checks_sole}
 use Rattle.lq_log.specs.Made.{seen}
 use Rattle.lq_table.proofs.shared.Shared.check.Goals as goal
 

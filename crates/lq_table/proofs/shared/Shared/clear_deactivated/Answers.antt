@@ -1,5 +1,6 @@
+mod Kept
 use Rattle.std.proofs.Common.{arith}
-use Rattle.lq_table.proofs.ClearDeactivatedKept.{opens}
+use Rattle.lq_table.proofs.shared.Shared.clear_deactivated.Answers.Kept.{opens}
 use Rattle.lq_table.proofs.shared.Shared.clear_deactivated.Goals as goal
 
 pub fetch_and-requires : goal.fetch_and-requires

@@ -1,7 +1,9 @@
+mod Alone
+mod Kept
 use Rattle.std.proofs.Common.{arith, ap, ◌∙◌}
 use Rattle.lq_table.specs.Sees.{solo}
-use Rattle.lq_table.proofs.StatesKept.{clears_draining_kept}
-use Rattle.lq_table.proofs.SoloSteps.{clears_draining_solo}
+use Rattle.lq_table.proofs.shared.Shared.clear_draining.Answers.Kept.{clears_draining_kept}
+use Rattle.lq_table.proofs.shared.Shared.clear_draining.Answers.Alone.{clears_draining_solo}
 use Rattle.lq_table.proofs.shared.Shared.clear_draining.Goals as goal
 
 pub fetch_and-requires : goal.fetch_and-requires

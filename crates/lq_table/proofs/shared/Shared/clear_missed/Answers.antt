@@ -1,7 +1,9 @@
+mod Alone
+mod Kept
 use Rattle.std.proofs.Common.{arith, ap, ◌∙◌}
 use Rattle.lq_table.specs.Sees.{solo}
-use Rattle.lq_table.proofs.StatesKept.{clears_missed_kept}
-use Rattle.lq_table.proofs.SoloSteps.{clears_missed_solo}
+use Rattle.lq_table.proofs.shared.Shared.clear_missed.Answers.Kept.{clears_missed_kept}
+use Rattle.lq_table.proofs.shared.Shared.clear_missed.Answers.Alone.{clears_missed_solo}
 use Rattle.lq_table.proofs.shared.Shared.clear_missed.Goals as goal
 
 pub fetch_and-requires : goal.fetch_and-requires

@@ -1,7 +1,9 @@
+mod Alone
+mod Kept
 use Rattle.std.proofs.Common.{arith, ap, ◌∙◌}
 use Rattle.lq_table.specs.Sees.{solo}
-use Rattle.lq_table.proofs.StatesKept.{clears_sched_kept}
-use Rattle.lq_table.proofs.SoloSteps.{clears_sched_solo}
+use Rattle.lq_table.proofs.shared.Shared.clear_sched.Answers.Kept.{clears_sched_kept}
+use Rattle.lq_table.proofs.shared.Shared.clear_sched.Answers.Alone.{clears_sched_solo}
 use Rattle.lq_table.proofs.shared.Shared.clear_sched.Goals as goal
 
 pub fetch_and-requires : goal.fetch_and-requires

@@ -1,5 +1,6 @@
+mod Kept
 use Rattle.std.proofs.Common.{arith}
-use Rattle.lq_table.proofs.ControlCalls.{returns_control}
+use Rattle.lq_table.proofs.shared.Shared.end_control.Answers.Kept.{returns_control}
 use Rattle.lq_table.proofs.shared.Shared.end_control.Goals as goal
 
 pub load-requires : goal.load-requires

@@ -1,5 +1,6 @@
+mod Kept
 use Rattle.std.proofs.Common.{arith}
-use Rattle.lq_table.proofs.Besides.{enters_all}
+use Rattle.lq_table.proofs.shared.Shared.enter_seat.Answers.Kept.{enters_all}
 use Rattle.lq_table.proofs.shared.Shared.enter_seat.Goals as goal
 
 pub fetch_add-requires : goal.fetch_add-requires

@@ -1,3 +1,4 @@
+mod Kept
 use Rattle.std.proofs.Common.{sym, ◌≡◌, ℕ, ◌*◌, ◌<◌, arith, subst}
 use mathlib.Core.Option.{none}
 use Rattle.atomic_table.specs.Table.{step, Allows}
@@ -5,7 +6,7 @@ use Rattle.lq_table.specs.Places.{producer_place}
 use Rattle.lq_table.specs.Rule.{Rule}
 use Rattle.lq_table.specs.Keyed.{keyed_setup}
 use Rattle.lq_table.specs.Producers.{give_producer_told}
-use Rattle.lq_table.proofs.ProducersKept.{gives_producer}
+use Rattle.lq_table.proofs.shared.Shared.give_producer.Answers.Kept.{gives_producer}
 use Rattle.lq_log.specs.Made.{seen}
 use Rattle.lq_table.proofs.shared.Shared.give_producer.Goals as goal
 

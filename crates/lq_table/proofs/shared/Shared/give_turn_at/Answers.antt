@@ -1,3 +1,4 @@
+mod Kept
 use Rattle.std.proofs.Common.{◌≡◌, ℕ, ◌+◌, ◌*◌, ◌<◌, arith, sym, ap, ◌∙◌, subst, List}
 use mathlib.Core.Option.{none}
 use Rattle.lq_model.specs.declared.fate.Info.{Info}
@@ -7,7 +8,7 @@ use Rattle.lq_table.specs.Places.{turn_place}
 use Rattle.lq_table.specs.Rule.{Rule}
 use Rattle.lq_table.specs.Keyed.{keyed_setup}
 use Rattle.lq_table.specs.Turns.{give_turn_told}
-use Rattle.lq_table.proofs.TurnsKept.{gives_turn}
+use Rattle.lq_table.proofs.shared.Shared.give_turn_at.Answers.Kept.{gives_turn}
 use Rattle.lq_log.specs.Made.{seen}
 use Rattle.lq_table.proofs.shared.Shared.give_turn_at.Goals as goal
 

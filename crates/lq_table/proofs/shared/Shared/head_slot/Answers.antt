@@ -1,3 +1,5 @@
+mod Kept
+mod Marks
 use Rattle.std.proofs.Common.{rules, ◌≡◌, ℕ, ◌∷◌, ◌<◌, ◌≤◌, arith, sym, ap, ◌∙◌, subst, length, List}
 use mathlib.Core.Option.{none}
 use Rattle.lq_model.specs.declared.fate.Info.{Info}
@@ -6,8 +8,8 @@ use Rattle.lq_table.specs.Rule.{Rule, slot_word}
 use Rattle.lq_table.specs.Keyed.{keyed_setup}
 use Rattle.lq_table.proofs.ByName.{slot_within}
 use Rattle.lq_table.specs.Consumers.{head_slot_told_all}
-use Rattle.lq_table.proofs.MarksKept.{head_marks}
-use Rattle.lq_table.proofs.SoleKept.{sees_head_sole}
+use Rattle.lq_table.proofs.shared.Shared.head_slot.Answers.Marks.{head_marks}
+use Rattle.lq_table.proofs.shared.Shared.head_slot.Answers.Kept.{sees_head_sole}
 use Rattle.lq_log.specs.Made.{seen}
 use Rattle.lq_table.specs.Producers.{load_slot_log}
 use Rattle.lq_table.specs.Sees.{setup, steps, ends_at}

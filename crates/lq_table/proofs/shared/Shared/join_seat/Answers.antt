@@ -1,7 +1,8 @@
+mod Kept
 use Rattle.std.proofs.Common.{rules, arith, ap, ◌∙◌}
 use Rattle.lq_table.specs.Seats.{learn_view}
 use Rattle.lq_table.proofs.SeatsKept.{joins}
-use Rattle.lq_table.proofs.Besides.{learns_all}
+use Rattle.lq_table.proofs.shared.Shared.join_seat.Answers.Kept.{learns_all}
 use Rattle.lq_table.proofs.shared.Shared.join_seat.Goals as goal
 
 pub join_seat-requires : goal.join_seat-requires

@@ -1,6 +1,7 @@
+mod Kept
 use Rattle.std.proofs.Common.{◌<◌, arith, sym, subst}
 use Rattle.std.specs.Prelude.{ℕ}
-use Rattle.lq_table.proofs.AtRest.{loads_lock}
+use Rattle.lq_table.proofs.shared.Shared.load_lock.Answers.Kept.{loads_lock}
 use Rattle.lq_table.proofs.shared.Shared.load_lock.Goals as goal
 
 pub load-requires : goal.load-requires

@@ -1,3 +1,4 @@
+mod Kept
 use Rattle.std.proofs.Common.{sym, ◌≡◌, ℕ, ◌<◌, arith, subst}
 use mathlib.Core.Option.{none}
 use Rattle.atomic_table.specs.Table.{step, Allows}
@@ -5,7 +6,7 @@ use Rattle.lq_table.specs.Places.{producer_place}
 use Rattle.lq_table.specs.Rule.{Rule}
 use Rattle.lq_table.specs.Keyed.{keyed_setup}
 use Rattle.lq_table.specs.Producers.{load_producer_told}
-use Rattle.lq_table.proofs.ProducerSole.{loads_producer}
+use Rattle.lq_table.proofs.shared.Shared.load_producer.Answers.Kept.{loads_producer}
 use Rattle.lq_log.specs.Made.{seen}
 use Rattle.lq_table.proofs.shared.Shared.load_producer.Goals as goal
 

@@ -1,7 +1,8 @@
+mod Kept
 use Rattle.std.proofs.Common.{◌<◌, arith}
 use Rattle.lq_table.specs.Places.{size_place}
 use Rattle.lq_table.specs.Keyed.{keyed_setup}
-use Rattle.lq_table.proofs.ProducersKept.{loads_size}
+use Rattle.lq_table.proofs.shared.Shared.load_size.Answers.Kept.{loads_size}
 use Rattle.lq_log.specs.Made.{seen}
 use Rattle.lq_table.proofs.shared.Shared.load_size.Goals as goal
 

@@ -1,7 +1,9 @@
+mod Alone
+mod Kept
 use Rattle.std.proofs.Common.{arith, ap, ◌∙◌}
 use Rattle.lq_table.specs.Sees.{solo}
-use Rattle.lq_table.proofs.SoleKept.{looks_sole}
-use Rattle.lq_table.proofs.SoloSteps.{looks_solo}
+use Rattle.lq_table.proofs.shared.Shared.load_state.Answers.Kept.{looks_sole}
+use Rattle.lq_table.proofs.shared.Shared.load_state.Answers.Alone.{looks_solo}
 use Rattle.lq_table.proofs.shared.Shared.load_state.Goals as goal
 
 pub load-requires : goal.load-requires

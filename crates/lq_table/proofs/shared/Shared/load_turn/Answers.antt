@@ -1,3 +1,4 @@
+mod Kept
 use Rattle.std.proofs.Common.{sym, ◌≡◌, ℕ, ◌<◌, arith, subst}
 use mathlib.Core.Option.{none}
 use Rattle.atomic_table.specs.Table.{step, Allows}
@@ -5,7 +6,7 @@ use Rattle.lq_table.specs.Places.{turn_place}
 use Rattle.lq_table.specs.Rule.{Rule}
 use Rattle.lq_table.specs.Keyed.{keyed_setup}
 use Rattle.lq_table.specs.Turns.{load_turn_told}
-use Rattle.lq_table.proofs.TurnsKept.{loads_turn}
+use Rattle.lq_table.proofs.shared.Shared.load_turn.Answers.Kept.{loads_turn}
 use Rattle.lq_log.specs.Made.{seen}
 use Rattle.lq_table.proofs.shared.Shared.load_turn.Goals as goal
 

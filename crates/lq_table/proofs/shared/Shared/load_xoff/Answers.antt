@@ -1,3 +1,6 @@
+mod Alone
+mod Kept
+mod Room
 use Rattle.std.proofs.Common.{◌≡◌, ℕ, ◌<◌, ◌≤◌, length, arith, sym, ap, ◌∙◌, subst, List}
 use mathlib.Core.Option.{none}
 use Rattle.lq_model.specs.declared.fate.Info.{Info}
@@ -7,8 +10,8 @@ use Rattle.lq_table.specs.Keyed.{keyed_setup}
 use Rattle.lq_table.specs.Stops.{load_xoff_queue, load_xoff_told_all}
 use Rattle.lq_table.specs.Sees.{solo}
 use Rattle.lq_table.proofs.ByName.{xoff_in}
-use Rattle.lq_table.proofs.SoleKept.{loads_stop_sole}
-use Rattle.lq_table.proofs.SoloSteps.{loads_stop_solo}
+use Rattle.lq_table.proofs.shared.Shared.load_xoff.Answers.Kept.{loads_stop_sole}
+use Rattle.lq_table.proofs.shared.Shared.load_xoff.Answers.Alone.{loads_stop_solo}
 use Rattle.lq_log.specs.Made.{seen}
 use Rattle.lq_table.proofs.shared.Shared.load_xoff.Goals as goal
 

@@ -1,3 +1,5 @@
+mod Alone
+mod Kept
 use Rattle.std.proofs.Common.{◌≡◌, ℕ, ◌∷◌, arith, false, not, eqb, refl, sym, ap, ◌∙◌}
 use mathlib.Core.Option.{none}
 use Rattle.atomic_table.specs.Table.{step}
@@ -6,8 +8,8 @@ use Rattle.lq_log.specs.Made.{seen}
 use Rattle.lq_table.specs.Locks.{load_lock_log}
 use Rattle.lq_table.specs.Sees.{steps}
 use Rattle.lq_table.specs.Moves.{Sat}
-use Rattle.lq_table.proofs.TriesSolo.{look_solo, look_marks, look_slots, is_free, is_held}
-use Rattle.lq_table.proofs.LooksKept.{looks_lock}
+use Rattle.lq_table.proofs.shared.Shared.look_lock.Answers.Alone.{look_solo, look_marks, look_slots, is_free, is_held}
+use Rattle.lq_table.proofs.shared.Shared.look_lock.Answers.Kept.{looks_lock}
 use Rattle.lq_table.proofs.shared.Shared.look_lock.Goals as goal
 
 pub load-requires : goal.load-requires

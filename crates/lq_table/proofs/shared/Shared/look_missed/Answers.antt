@@ -1,5 +1,6 @@
+mod Kept
 use Rattle.std.proofs.Common.{arith}
-use Rattle.lq_table.proofs.LooksKept.{looks_missed}
+use Rattle.lq_table.proofs.shared.Shared.look_missed.Answers.Kept.{looks_missed}
 use Rattle.lq_table.proofs.shared.Shared.look_missed.Goals as goal
 
 pub load-requires : goal.load-requires

@@ -1,7 +1,9 @@
+mod Alone
+mod Kept
 use Rattle.std.proofs.Common.{arith, ap, ◌∙◌}
 use Rattle.lq_table.specs.Sees.{solo}
-use Rattle.lq_table.proofs.SoleKept.{misses_sole}
-use Rattle.lq_table.proofs.SoloSteps.{misses_solo}
+use Rattle.lq_table.proofs.shared.Shared.miss.Answers.Kept.{misses_sole}
+use Rattle.lq_table.proofs.shared.Shared.miss.Answers.Alone.{misses_solo}
 use Rattle.lq_table.proofs.shared.Shared.miss.Goals as goal
 
 pub fetch_or-requires : goal.fetch_or-requires

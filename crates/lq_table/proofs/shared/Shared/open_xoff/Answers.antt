@@ -1,3 +1,4 @@
+mod Kept
 use Rattle.std.proofs.Common.{◌≡◌, ℕ, ◌<◌, arith, sym, ap, subst}
 use mathlib.Core.Option.{none}
 use Rattle.atomic_table.specs.Table.{step, Allows}
@@ -5,7 +6,7 @@ use Rattle.lq_table.specs.Rule.{Rule}
 use Rattle.lq_table.specs.Keyed.{keyed_setup}
 use Rattle.lq_table.specs.Controls.{open_xoff_told}
 use Rattle.lq_table.proofs.ByName.{xoff_in}
-use Rattle.lq_table.proofs.SwapKept.{opens_next}
+use Rattle.lq_table.proofs.shared.Shared.open_xoff.Answers.Kept.{opens_next}
 use Rattle.lq_log.specs.Made.{seen}
 use Rattle.lq_table.proofs.shared.Shared.open_xoff.Goals as goal
 

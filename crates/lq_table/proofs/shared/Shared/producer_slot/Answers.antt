@@ -1,3 +1,5 @@
+mod Kept
+mod Sole
 use Rattle.std.proofs.Common.{◌≡◌, ℕ, ◌<◌, ◌≤◌, arith, sym, ap, ◌∙◌, subst, length, List, Option}
 use mathlib.Core.Option.{none}
 use Rattle.std.specs.Option.{unwrap_or}
@@ -11,7 +13,7 @@ use Rattle.lq_table.specs.Rule.{Rule, slot_word}
 use Rattle.lq_table.specs.Keyed.{keyed_setup}
 use Rattle.lq_table.proofs.ByName.{slot_within}
 use Rattle.lq_table.specs.Producers.{producer_slot_told_all}
-use Rattle.lq_table.proofs.PutSole.{sees_slot_sole}
+use Rattle.lq_table.proofs.shared.Shared.producer_slot.Answers.Sole.{sees_slot_sole}
 use Rattle.lq_log.specs.Made.{seen}
 use Rattle.lq_table.proofs.shared.Shared.producer_slot.Goals as goal
 

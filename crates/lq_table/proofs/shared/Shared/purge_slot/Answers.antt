@@ -1,3 +1,4 @@
+mod Kept
 use Rattle.std.proofs.Common.{rules, ◌≡◌, ℕ, ◌<◌, ◌≤◌, ◌-◌, ◌∷◌, arith, sym, ap, ◌∙◌, subst, length, List, Option, Some, [], slice_get}
 use mathlib.Core.Option.{none}
 use Rattle.lq_model.specs.declared.fate.Info.{Info}
@@ -5,7 +6,7 @@ use Rattle.atomic_table.specs.Table.{step, Allows}
 use Rattle.lq_table.specs.Rule.{Rule, slot_word}
 use Rattle.lq_table.specs.Keyed.{keyed_setup}
 use Rattle.lq_table.proofs.ByName.{slot_within}
-use Rattle.lq_table.proofs.PurgeSlotKept.{purge_sees}
+use Rattle.lq_table.proofs.shared.Shared.purge_slot.Answers.Kept.{purge_sees}
 use Rattle.lq_log.specs.Made.{seen}
 use Rattle.std.specs.Option.{unwrap_or}
 use Rattle.lq_model.specs.Machine.{Purge}

@@ -1,9 +1,10 @@
+mod Kept
 use Rattle.std.proofs.Common.{◌≡◌, arith, sym, ap, ◌∙◌, List}
 use Rattle.lq_model.specs.declared.fate.Info.{Info}
 use Rattle.lq_model.specs.declared.machine.Position.TheVariants.{Recheck}
 use Rattle.lq_table.specs.Views.{machine_packet}
 use Rattle.lq_table.specs.Keyed.{keyed_setup}
-use Rattle.lq_table.proofs.SoleKept.{rechecks_sole}
+use Rattle.lq_table.proofs.shared.Shared.recheck.Answers.Kept.{rechecks_sole}
 use Rattle.lq_log.specs.Made.{seen}
 use Rattle.lq_table.proofs.shared.Shared.recheck.Goals as goal
 

@@ -1,5 +1,6 @@
+mod Kept
 use Rattle.std.proofs.Common.{arith}
-use Rattle.lq_table.proofs.StoreXoffKept.{requeues}
+use Rattle.lq_table.proofs.shared.Shared.requeue.Answers.Kept.{requeues}
 use Rattle.lq_table.proofs.shared.Shared.requeue.Goals as goal
 
 pub fetch_or-requires : goal.fetch_or-requires

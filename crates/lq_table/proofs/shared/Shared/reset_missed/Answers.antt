@@ -1,5 +1,6 @@
+mod Kept
 use Rattle.std.proofs.Common.{arith}
-use Rattle.lq_table.proofs.ControlCalls.{resets_missed}
+use Rattle.lq_table.proofs.shared.Shared.reset_missed.Answers.Kept.{resets_missed}
 use Rattle.lq_table.proofs.shared.Shared.reset_missed.Goals as goal
 
 pub fetch_and-requires : goal.fetch_and-requires

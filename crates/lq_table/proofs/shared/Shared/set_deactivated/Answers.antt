@@ -1,6 +1,7 @@
+mod Kept
 use Rattle.std.proofs.Common.{arith}
 use Rattle.lq_table.specs.Keyed.{keyed_setup}
-use Rattle.lq_table.proofs.ControlsKept.{closes}
+use Rattle.lq_table.proofs.shared.Shared.set_deactivated.Answers.Kept.{closes}
 use Rattle.lq_log.specs.Made.{seen}
 use Rattle.lq_table.proofs.shared.Shared.set_deactivated.Goals as goal
 

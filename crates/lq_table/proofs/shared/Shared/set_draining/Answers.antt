@@ -1,7 +1,9 @@
+mod Alone
+mod Kept
 use Rattle.std.proofs.Common.{arith, ap, ◌∙◌}
 use Rattle.lq_table.specs.Sees.{solo}
-use Rattle.lq_table.proofs.StatesKept.{sets_draining_all}
-use Rattle.lq_table.proofs.SoloSteps.{sets_draining_solo}
+use Rattle.lq_table.proofs.shared.Shared.set_draining.Answers.Kept.{sets_draining_all}
+use Rattle.lq_table.proofs.shared.Shared.set_draining.Answers.Alone.{sets_draining_solo}
 use Rattle.lq_table.proofs.shared.Shared.set_draining.Goals as goal
 
 pub fetch_or-requires : goal.fetch_or-requires

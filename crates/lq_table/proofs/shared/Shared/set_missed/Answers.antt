@@ -1,7 +1,9 @@
+mod Alone
+mod Kept
 use Rattle.std.proofs.Common.{arith, ap, ◌∙◌}
 use Rattle.lq_table.specs.Sees.{solo}
-use Rattle.lq_table.proofs.StatesKept.{sets_missed_all}
-use Rattle.lq_table.proofs.SoloSteps.{sets_missed_solo}
+use Rattle.lq_table.proofs.shared.Shared.set_missed.Answers.Kept.{sets_missed_all}
+use Rattle.lq_table.proofs.shared.Shared.set_missed.Answers.Alone.{sets_missed_solo}
 use Rattle.lq_table.proofs.shared.Shared.set_missed.Goals as goal
 
 pub fetch_or-requires : goal.fetch_or-requires

@@ -1,6 +1,7 @@
+mod Alone
 use Rattle.std.proofs.Common.{not, refl, ap, ◌∙◌}
 use Rattle.lq_table.specs.Sees.{solo}
-use Rattle.lq_table.proofs.SoloSteps.{schedules_solo}
+use Rattle.lq_table.proofs.shared.Shared.set_sched.Answers.Alone.{schedules_solo}
 use Rattle.lq_table.proofs.shared.Shared.set_sched.Goals as goal
 
 pub returns : goal.returns

@@ -1,5 +1,6 @@
+mod Kept
 use Rattle.std.proofs.Common.{arith}
-use Rattle.lq_table.proofs.SoleKept.{schedules_sole}
+use Rattle.lq_table.proofs.shared.Shared.set_sched_at.Answers.Kept.{schedules_sole}
 use Rattle.lq_table.proofs.shared.Shared.set_sched_at.Goals as goal
 
 pub fetch_or-requires : goal.fetch_or-requires

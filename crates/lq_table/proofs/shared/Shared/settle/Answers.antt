@@ -1,3 +1,7 @@
+mod Alone
+mod Kept
+mod Owed
+mod Sent
 use Rattle.std.proofs.Common.{◌≡◌, ℕ, ◌+◌, ◌<◌, arith, sym, subst, ap, ◌∙◌, length, List}
 use mathlib.Core.Option.{none}
 use Rattle.lq_model.specs.declared.fate.Info.{Info}
@@ -8,8 +12,8 @@ use Rattle.lq_table.specs.Keyed.{keyed_setup}
 use Rattle.lq_table.specs.Moves.{Sat}
 use Rattle.lq_table.specs.Fates.{MaySettle, settle_view, settle_told}
 use Rattle.lq_table.specs.Sees.{view, carried, solo}
-use Rattle.lq_table.proofs.SoloSteps.{fates_solo}
-use Rattle.lq_table.proofs.SettleKept.{settles_fate}
+use Rattle.lq_table.proofs.shared.Shared.settle.Answers.Alone.{fates_solo}
+use Rattle.lq_table.proofs.shared.Shared.settle.Answers.Kept.{settles_fate}
 use Rattle.lq_log.specs.Made.{seen}
 use Rattle.lq_table.proofs.shared.Shared.settle.Goals as goal
 

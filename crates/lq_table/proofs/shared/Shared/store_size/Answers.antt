@@ -1,3 +1,4 @@
+mod Kept
 use Rattle.std.proofs.Common.{ℕ, ◌<◌, arith, sym, ap, subst, Option}
 use mathlib.Core.Option.{none}
 use Rattle.atomic_table.specs.Table.{step, Allows}
@@ -7,7 +8,7 @@ use Rattle.lq_table.specs.Keyed.{keyed_setup}
 use Rattle.std.specs.Option.{unwrap_or}
 use Rattle.lq_table.specs.Views.{HalfResize, no_resizing}
 use Rattle.lq_table.specs.Resizes.{store_size_told}
-use Rattle.lq_table.proofs.ResizeKept.{stores_size}
+use Rattle.lq_table.proofs.shared.Shared.store_size.Answers.Kept.{stores_size}
 use Rattle.lq_log.specs.Made.{seen}
 use Rattle.lq_table.proofs.shared.Shared.store_size.Goals as goal
 

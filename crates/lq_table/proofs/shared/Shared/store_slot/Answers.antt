@@ -1,3 +1,4 @@
+mod Kept
 use Rattle.std.proofs.Common.{◌≡◌, ℕ, ◌+◌, ◌<◌, arith, sym, ap, ◌∙◌, subst, List}
 use mathlib.Core.Option.{none}
 use Rattle.lq_model.specs.declared.fate.Info.{Info}
@@ -10,7 +11,7 @@ use Rattle.lq_table.specs.Rule.{Rule, slot_word}
 use Rattle.lq_table.specs.Keyed.{keyed_setup}
 use Rattle.lq_table.proofs.ByName.{slot_within}
 use Rattle.lq_table.specs.Producers.{store_slot_told}
-use Rattle.lq_table.proofs.StoreSlotKept.{stores_slot}
+use Rattle.lq_table.proofs.shared.Shared.store_slot.Answers.Kept.{stores_slot}
 use Rattle.lq_log.specs.Made.{seen}
 use Rattle.lq_table.proofs.shared.Shared.store_slot.Goals as goal
 

@@ -1,3 +1,5 @@
+mod Alone
+mod Kept
 use Rattle.std.proofs.Common.{◌≡◌, ℕ, ◌<◌, arith, sym, ap, ◌∙◌, subst}
 use mathlib.Core.Option.{none}
 use Rattle.atomic_table.specs.Table.{step, Allows}
@@ -6,9 +8,9 @@ use Rattle.lq_table.specs.Keyed.{keyed_setup}
 use Rattle.lq_model.specs.Account.{Stop}
 use Rattle.lq_table.specs.Stops.{store_xoff_told}
 use Rattle.lq_table.specs.Sees.{solo, heard}
-use Rattle.lq_table.proofs.SoloSteps.{stores_solo}
+use Rattle.lq_table.proofs.shared.Shared.store_xoff.Answers.Alone.{stores_solo}
 use Rattle.lq_table.proofs.ByName.{xoff_in}
-use Rattle.lq_table.proofs.StoreXoffKept.{stores_xoff}
+use Rattle.lq_table.proofs.shared.Shared.store_xoff.Answers.Kept.{stores_xoff}
 use Rattle.lq_log.specs.Made.{seen}
 use Rattle.lq_table.proofs.shared.Shared.store_xoff.Goals as goal
 

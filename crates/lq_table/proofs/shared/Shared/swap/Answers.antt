@@ -1,5 +1,6 @@
+mod Kept
 use Rattle.std.proofs.Common.{arith}
-use Rattle.lq_table.proofs.SwapKept.{swaps}
+use Rattle.lq_table.proofs.shared.Shared.swap.Answers.Kept.{swaps}
 use Rattle.lq_table.proofs.shared.Shared.swap.Goals as goal
 
 pub store-requires : goal.store-requires

@@ -1,3 +1,4 @@
+mod Kept
 use Rattle.std.proofs.Common.{◌≡◌, ℕ, ◌+◌, ◌*◌, ◌/◌, ◌%◌, ◌<◌, ◌∷◌, true≢false, arith, eq-eqb, ne_eqb, refl, sym, ap, ◌∙◌, subst}
 use mathlib.Core.Option.{none}
 use Rattle.atomic_table.specs.Table.{step, Allows}
@@ -9,7 +10,7 @@ use native.Mathlib.Decide.{ℕ_discrete}
 use Rattle.lq_table.specs.Marks.{marks_of}
 use Rattle.lq_table.specs.Moves.{Sat}
 use Rattle.lq_table.specs.Producers.{take_producer_told_all}
-use Rattle.lq_table.proofs.ProducerSole.{gets_producer_sole}
+use Rattle.lq_table.proofs.shared.Shared.take_producer.Answers.Kept.{gets_producer_sole}
 use prog.Atomic.{either}
 use Rattle.std.proofs.Common.{eqb}
 use Rattle.lq_log.specs.Made.{seen, exchange}

@@ -1,3 +1,4 @@
+mod Kept
 use Rattle.std.proofs.Common.{◌≡◌, ℕ, ◌+◌, ◌*◌, ◌<◌, arith, sym, ap, ◌∙◌, subst, length, List, eqb}
 use mathlib.Core.Option.{none}
 use prog.Atomic.{either}
@@ -8,7 +9,7 @@ use Rattle.lq_table.specs.Places.{turn_place}
 use Rattle.lq_table.specs.Rule.{Rule, times}
 use Rattle.lq_table.specs.Keyed.{keyed_setup}
 use Rattle.lq_table.specs.Turns.{take_turn_told}
-use Rattle.lq_table.proofs.TurnsKept.{takes_turn}
+use Rattle.lq_table.proofs.shared.Shared.take_turn_at.Answers.Kept.{takes_turn}
 use Rattle.lq_log.specs.Made.{seen}
 use Rattle.lq_table.proofs.shared.Shared.take_turn_at.Goals as goal
 

@@ -1,3 +1,4 @@
+mod Kept
 use Rattle.std.proofs.Common.{◌≡◌, ℕ, ◌<◌, arith, eq-eqb, eqb-true, true≢false, refl, sym, ap, ◌∙◌, subst, eqb}
 use mathlib.Core.Logic.{dite}
 use native.Mathlib.Decide.{ℕ_discrete}
@@ -8,7 +9,7 @@ use Rattle.atomic_table.specs.Table.{step, Allows}
 use Rattle.lq_table.specs.Rule.{Rule}
 use Rattle.lq_table.specs.Keyed.{keyed_setup}
 use Rattle.lq_table.specs.Stops.{wake_told_all}
-use Rattle.lq_table.proofs.SoleKept.{wakes_sole}
+use Rattle.lq_table.proofs.shared.Shared.wake.Answers.Kept.{wakes_sole}
 use Rattle.lq_table.proofs.ByName.{xoff_in}
 use mathlib.Core.Option.{none}
 use Rattle.lq_log.specs.Made.{seen}

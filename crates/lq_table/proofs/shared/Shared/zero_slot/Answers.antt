@@ -1,3 +1,4 @@
+mod Kept
 use Rattle.std.proofs.Common.{sym, ◌≡◌, ℕ, ◌<◌, arith, subst}
 use mathlib.Core.Option.{none}
 use Rattle.atomic_table.specs.Table.{step, Allows}
@@ -5,7 +6,7 @@ use Rattle.lq_table.specs.Rule.{Rule, slot_word}
 use Rattle.lq_table.specs.Keyed.{keyed_setup}
 use Rattle.lq_table.proofs.ByName.{slot_within}
 use Rattle.lq_table.specs.Consumers.{zero_slot_told}
-use Rattle.lq_table.proofs.ZeroSlotKept.{empties_slot}
+use Rattle.lq_table.proofs.shared.Shared.zero_slot.Answers.Kept.{empties_slot}
 use Rattle.lq_log.specs.Made.{seen}
 use Rattle.lq_table.proofs.shared.Shared.zero_slot.Goals as goal
 
