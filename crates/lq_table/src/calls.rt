@@ -24,7 +24,7 @@ impl<'a, D: TxDevice> Shared<'a, D> {
         ensures told { marks.new ≡ marks_of seat.new.me.0.view }
         ensures made { seat.new.me.0.steps ≡ enter_log ∷ seat.old.me.0.steps }
     {
-        self.table.fetch_add::<Brand, _>(seat, INSIDE, 1, &());
+        self.fetch_add_word::<Brand, _>(seat, INSIDE, 1, &());
         marks.raised = marks.raised && marks.busy;
     }
 
@@ -52,7 +52,6 @@ impl<'a, D: TxDevice> Shared<'a, D> {
         ensures step { solo (view cpu.new) ≡ solo (view cpu.old) }
         ensures made { steps cpu.new ≡ leave_log ∷ steps cpu.old }
     {
-        self.table
-            .fetch_sub::<Brand, _>(&mut cpu.known.seat, INSIDE, 1, &());
+        self.fetch_sub_word::<Brand, _>(&mut cpu.known.seat, INSIDE, 1, &());
     }
 }

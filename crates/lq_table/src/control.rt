@@ -29,7 +29,7 @@ impl<'a, D: TxDevice> Shared<'a, D> {
         ensures view { view cpu.new ≡ begin_control_view (view cpu.old) }
         ensures made { (found : ℕ) × (steps cpu.new ≡ load_base_log found ∷ steps cpu.old) }
     {
-        self.table.load::<Brand, _>(&mut cpu.known.seat, BASE, &());
+        self.load_word::<Brand, _>(&mut cpu.known.seat, BASE, &());
     }
 
     /// A call of control ends: the seat is idle.
@@ -40,7 +40,7 @@ impl<'a, D: TxDevice> Shared<'a, D> {
         ensures view { view cpu.new ≡ end_control_view (view cpu.old) }
         ensures made { (found : ℕ) × (steps cpu.new ≡ load_base_log found ∷ steps cpu.old) }
     {
-        self.table.load::<Brand, _>(&mut cpu.known.seat, BASE, &());
+        self.load_word::<Brand, _>(&mut cpu.known.seat, BASE, &());
     }
 
     /// Sets DEACTIVATED for this event of the plan, whose number stands above the bits from then on, as
@@ -53,7 +53,7 @@ impl<'a, D: TxDevice> Shared<'a, D> {
         ensures view { view cpu.new ≡ set_deactivated_view event (view cpu.old) }
         ensures made { (was : Bool) × (steps cpu.new ≡ set_deactivated_log event was ∷ steps cpu.old) }
     {
-        self.table.fetch_or::<Brand, _>(
+        self.fetch_or_word::<Brand, _>(
             &mut cpu.known.seat,
             STATE,
             2 + 256 * (event as u64 + 1),
@@ -70,8 +70,7 @@ impl<'a, D: TxDevice> Shared<'a, D> {
         ensures view { view cpu.new ≡ load_inside_view result (view cpu.old) }
         ensures made { steps cpu.new ≡ load_inside_log result ∷ steps cpu.old }
     {
-        self.table
-            .load::<Brand, _>(&mut cpu.known.seat, INSIDE, &())
+        self.load_word::<Brand, _>(&mut cpu.known.seat, INSIDE, &())
     }
 
     /// Loads the run lock's word: 1 where it is held. A seat that has the table alone, and is in no call, learns what is left at
@@ -83,7 +82,7 @@ impl<'a, D: TxDevice> Shared<'a, D> {
         ensures alone { IsSoleAtRest (view cpu.old) → KnowsRest (view cpu.old) }
         ensures made { steps cpu.new ≡ load_lock_log result ∷ steps cpu.old }
     {
-        self.table.load::<Brand, _>(&mut cpu.known.seat, LOCK, &())
+        self.load_word::<Brand, _>(&mut cpu.known.seat, LOCK, &())
     }
 
     /// Clears DEACTIVATED after a purge, as `transition_one_qdisc` of net/sched/sch_generic.c does.
@@ -95,8 +94,7 @@ impl<'a, D: TxDevice> Shared<'a, D> {
         ensures view { view cpu.new ≡ clear_deactivated_view (view cpu.old) }
         ensures made { steps cpu.new ≡ clear_deactivated_log ∷ steps cpu.old }
     {
-        self.table
-            .fetch_and::<Brand, _>(&mut cpu.known.seat, STATE, ACTIVE_BITS, &());
+        self.fetch_and_word::<Brand, _>(&mut cpu.known.seat, STATE, ACTIVE_BITS, &());
     }
 
     /// Clears MISSED after the last packet of a purge, as `dev_reset_queue` of net/sched/sch_generic.c does. The purge
@@ -109,8 +107,7 @@ impl<'a, D: TxDevice> Shared<'a, D> {
         ensures view { view cpu.new ≡ reset_missed_view (view cpu.old) }
         ensures made { steps cpu.new ≡ clear_missed_log ∷ steps cpu.old }
     {
-        self.table
-            .fetch_and::<Brand, _>(&mut cpu.known.seat, STATE, ALL_BUT_MISSED, &());
+        self.fetch_and_word::<Brand, _>(&mut cpu.known.seat, STATE, ALL_BUT_MISSED, &());
     }
 
     /// Clears DRAINING after the last packet of a purge, as `dev_reset_queue` of net/sched/sch_generic.c does. The purge
@@ -123,8 +120,7 @@ impl<'a, D: TxDevice> Shared<'a, D> {
         ensures view { view cpu.new ≡ reset_draining_view (view cpu.old) }
         ensures made { steps cpu.new ≡ clear_draining_log ∷ steps cpu.old }
     {
-        self.table
-            .fetch_and::<Brand, _>(&mut cpu.known.seat, STATE, ALL_BUT_DRAINING, &());
+        self.fetch_and_word::<Brand, _>(&mut cpu.known.seat, STATE, ALL_BUT_DRAINING, &());
     }
 
     /// Stores 0 in the first queue's stop word of a station whose device was swapped, as a driver's open does with
@@ -142,8 +138,7 @@ impl<'a, D: TxDevice> Shared<'a, D> {
         ensures unit { (view cpu.old).holder.station.unit ≡ latest_unit self.now.station (view cpu.old).holder.units }
         ensures made { steps cpu.new ≡ store_xoff_log (setup self.now) 0 0 ∷ steps cpu.old }
     {
-        self.table
-            .store::<Brand, _>(&mut cpu.known.seat, XOFF, 0, &cpu.station);
+        self.store_word::<Brand, _>(&mut cpu.known.seat, XOFF, 0, &cpu.station);
     }
 
     /// Stores 0 in the next queue's stop word after a swap of the device, in ascending order. Until the last one a word
@@ -158,7 +153,6 @@ impl<'a, D: TxDevice> Shared<'a, D> {
         ensures made { steps cpu.new ≡ store_xoff_log (setup self.now) queue 0 ∷ steps cpu.old }
     {
         let word = self.stop_word(queue);
-        self.table
-            .store::<Brand, _>(&mut cpu.known.seat, word, 0, &queue);
+        self.store_word::<Brand, _>(&mut cpu.known.seat, word, 0, &queue);
     }
 }

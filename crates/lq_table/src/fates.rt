@@ -24,7 +24,7 @@ impl<'a, D: TxDevice> Shared<'a, D> {
         ensures made { steps cpu.new ≡ settle_log (setup self.now) n (word_of fate) ∷ steps cpu.old }
     {
         let word = self.fate_word_of(n);
-        self.table.store::<Brand, _>(
+        self.store_word::<Brand, _>(
             &mut cpu.known.seat,
             word,
             fate_word(fate),

@@ -32,7 +32,7 @@ impl<'a, D: TxDevice> Shared<'a, D> {
         ensures event { down_of (view cpu.old).trail ≡ Some result }
         ensures made { (found : ℕ) × (steps cpu.new ≡ load_state_log found ∷ steps cpu.old) }
     {
-        let word = self.table.load::<Brand, _>(&mut cpu.known.seat, STATE, &());
+        let word = self.load_word::<Brand, _>(&mut cpu.known.seat, STATE, &());
         (word / 256 - 1) as u32
     }
 
@@ -47,7 +47,7 @@ impl<'a, D: TxDevice> Shared<'a, D> {
         ensures begun { BeginsPurge (cause.Hung (view cpu.old).holder.station.unit) (view cpu.old) (view cpu.new) }
         ensures made { (found : ℕ) × (steps cpu.new ≡ load_state_log found ∷ steps cpu.old) }
     {
-        self.table.load::<Brand, _>(&mut cpu.known.seat, STATE, &());
+        self.load_word::<Brand, _>(&mut cpu.known.seat, STATE, &());
     }
 
     /// What stands in the slot at the head of the band that the purge has come to. Where it isn't 0 its packet is taken,
@@ -69,7 +69,6 @@ impl<'a, D: TxDevice> Shared<'a, D> {
     {
         let head = cpu.station().head(band);
         let word = self.slot_word(band, head);
-        self.table
-            .load::<Brand, _>(&mut cpu.known.seat, word, &band)
+        self.load_word::<Brand, _>(&mut cpu.known.seat, word, &band)
     }
 }

@@ -32,8 +32,7 @@ impl<'a, D: TxDevice> Shared<'a, D> {
         ensures begun { BeginsResize self.now.infos.now self.now.max_len len event (view cpu.old) (view cpu.new) }
         ensures made { (found : ℕ) × (steps cpu.new ≡ load_size_log found ∷ steps cpu.old) }
     {
-        self.table
-            .load::<Brand, _>(&mut cpu.known.seat, SIZE, &(len, event));
+        self.load_word::<Brand, _>(&mut cpu.known.seat, SIZE, &(len, event));
     }
 
     /// Empties a slot, and answers what stood there. Its packet comes into control's hand where the band keeps it or has
@@ -47,8 +46,7 @@ impl<'a, D: TxDevice> Shared<'a, D> {
         ensures made { steps cpu.new ≡ clear_slot_log (setup self.now) band i result ∷ steps cpu.old }
     {
         let word = self.slot_word(band, i);
-        self.table
-            .swap::<Brand, _>(&mut cpu.known.seat, word, 0, &(band, i))
+        self.swap_word::<Brand, _>(&mut cpu.known.seat, word, 0, &(band, i))
     }
 
     /// Puts the packet that came into control's hand last into an empty slot. A store of its number plus 1, by control
@@ -63,8 +61,7 @@ impl<'a, D: TxDevice> Shared<'a, D> {
         ensures made { steps cpu.new ≡ store_slot_log (setup self.now) band i (n + 1) ∷ steps cpu.old }
     {
         let word = self.slot_word(band, i);
-        self.table
-            .store::<Brand, _>(&mut cpu.known.seat, word, n as u64 + 1, &(band, i, n));
+        self.store_word::<Brand, _>(&mut cpu.known.seat, word, n as u64 + 1, &(band, i, n));
     }
 
     /// Sets the index of the band's producer, whose lock control keeps. A store into the producer word, by control of a
@@ -78,7 +75,7 @@ impl<'a, D: TxDevice> Shared<'a, D> {
         ensures made { steps cpu.new ≡ set_producer_log band index ∷ steps cpu.old }
     {
         let word = producer_word(band);
-        self.table.store::<Brand, _>(
+        self.store_word::<Brand, _>(
             &mut cpu.known.seat,
             word,
             2 * index as u64 + 1,
@@ -97,7 +94,6 @@ impl<'a, D: TxDevice> Shared<'a, D> {
         ensures restarted { (t : HalfResize) → (view cpu.old).holder.resizing ≡ Some t → view cpu.new ≡ store_size_view t (view cpu.old) }
         ensures made { steps cpu.new ≡ store_size_log len ∷ steps cpu.old }
     {
-        self.table
-            .store::<Brand, _>(&mut cpu.known.seat, SIZE, len as u64, &());
+        self.store_word::<Brand, _>(&mut cpu.known.seat, SIZE, len as u64, &());
     }
 }

@@ -21,8 +21,7 @@ impl<'a, D: TxDevice> Shared<'a, D> {
         ensures step { solo (view cpu.new) ≡ missed_to false (solo (view cpu.old)) }
         ensures made { steps cpu.new ≡ clear_missed_log ∷ steps cpu.old }
     {
-        self.table
-            .fetch_and::<Brand, _>(&mut cpu.known.seat, STATE, ALL_BUT_MISSED, &());
+        self.fetch_and_word::<Brand, _>(&mut cpu.known.seat, STATE, ALL_BUT_MISSED, &());
     }
 
     /// Clears DRAINING before the bands are looked through once more (`pfifo_fast_dequeue`).
@@ -34,8 +33,7 @@ impl<'a, D: TxDevice> Shared<'a, D> {
         ensures step { solo (view cpu.new) ≡ draining_to false (solo (view cpu.old)) }
         ensures made { steps cpu.new ≡ clear_draining_log ∷ steps cpu.old }
     {
-        self.table
-            .fetch_and::<Brand, _>(&mut cpu.known.seat, STATE, ALL_BUT_DRAINING, &());
+        self.fetch_and_word::<Brand, _>(&mut cpu.known.seat, STATE, ALL_BUT_DRAINING, &());
     }
 
     /// Sets MISSED: after a packet that was laid back, at the end of the quota (`__qdisc_run`), or where the stopped
@@ -48,8 +46,7 @@ impl<'a, D: TxDevice> Shared<'a, D> {
         ensures step { solo (view cpu.new) ≡ set_bit_alone (view cpu.old) (missed_to true (solo (view cpu.old))) }
         ensures made { (was : Bool) × (steps cpu.new ≡ set_missed_log was ∷ steps cpu.old) }
     {
-        self.table
-            .fetch_or::<Brand, _>(&mut cpu.known.seat, STATE, MISSED, &());
+        self.fetch_or_word::<Brand, _>(&mut cpu.known.seat, STATE, MISSED, &());
     }
 
     /// Sets DRAINING where the queue is stopped still (`qdisc_maybe_clear_missed`). The seat stands there only after its
@@ -62,7 +59,6 @@ impl<'a, D: TxDevice> Shared<'a, D> {
         ensures step { solo (view cpu.new) ≡ set_bit_alone (view cpu.old) (draining_to true (solo (view cpu.old))) }
         ensures made { (was : Bool) × (steps cpu.new ≡ set_draining_log was ∷ steps cpu.old) }
     {
-        self.table
-            .fetch_or::<Brand, _>(&mut cpu.known.seat, STATE, DRAINING, &());
+        self.fetch_or_word::<Brand, _>(&mut cpu.known.seat, STATE, DRAINING, &());
     }
 }

@@ -39,9 +39,13 @@ impl<'a, D: TxDevice> Shared<'a, D> {
     {
         let free = 2 * rank as u64;
         let word = turn_word(owner);
-        let found = self
-            .table
-            .compare_exchange::<Brand, _>(seat, word, free, free + 1, &(n, owner, rank));
+        let found = self.compare_exchange_word::<Brand, _>(
+            seat,
+            word,
+            free,
+            free + 1,
+            &(n, owner, rank),
+        );
         marks.busy = found == free;
         found
     }
@@ -86,8 +90,7 @@ impl<'a, D: TxDevice> Shared<'a, D> {
     {
         let next = 2 * rank as u64 + 2;
         let word = turn_word(owner);
-        self.table
-            .store::<Brand, _>(seat, word, next, &(owner, rank));
+        self.store_word::<Brand, _>(seat, word, next, &(owner, rank));
         marks.busy = false;
     }
 
@@ -116,7 +119,6 @@ impl<'a, D: TxDevice> Shared<'a, D> {
         ensures made { steps cpu.new ≡ load_turn_log owner result ∷ steps cpu.old }
     {
         let word = turn_word(owner);
-        self.table
-            .load::<Brand, _>(&mut cpu.known.seat, word, &owner)
+        self.load_word::<Brand, _>(&mut cpu.known.seat, word, &owner)
     }
 }

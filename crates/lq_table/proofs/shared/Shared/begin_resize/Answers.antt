@@ -10,18 +10,21 @@ use Rattle.lq_table.proofs.shared.Shared.begin_resize.Answers.Kept.{begins_resiz
 use Rattle.lq_log.specs.Made.{seen}
 use Rattle.lq_table.proofs.shared.Shared.begin_resize.Goals as goal
 
-pub load-requires : goal.load-requires
-load-requires g c =
-    let t = c.args.self.now in let k = keyed_setup t.table.kit.shared.key in let slots = t.table.kit.shared.table_id.slots in let seat = c.args.cpu.now.known.seat in let h = c.requires.rests in
-    let fits : c.args.len ≤ k.max_len = let x = c.requires.len.1 in let y = t.same.2 in omega arith in
-    let word : size_place < t.table.kit.shared.table_id.words = let wide = t.sized.0 in omega arith in (
-      c.requires.seat.0,
-      word,
-      begins_resize k slots seat.id (seen seat.me) c.args.len c.args.event c.requires.at.0 c.requires.at.1 h.0 h.1 h.2 c.requires.locks c.requires.len.0 fits c.requires.seat.1,
-    )
+pub load_word-requires : goal.load_word-requires
+load_word-requires g c = (
+  c.type_bounds.send-D,
+  (
+      let t = c.args.self.now in let k = keyed_setup t.table.kit.shared.key in let slots = t.table.kit.shared.table_id.slots in let seat = c.args.cpu.now.known.seat in let h = c.requires.rests in
+      let fits : c.args.len ≤ k.max_len = let x = c.requires.len.1 in let y = t.same.2 in omega arith in
+      let word : size_place < t.table.kit.shared.table_id.words = let wide = t.sized.0 in omega arith in (
+        c.requires.seat.0,
+        word,
+        begins_resize k slots seat.id (seen seat.me) c.args.len c.args.event c.requires.at.0 c.requires.at.1 h.0 h.1 h.2 c.requires.locks c.requires.len.0 fits c.requires.seat.1,
+      )),
+)
 
 pub returns-clause-begun : goal.returns-clause-begun
 returns-clause-begun g c =
     let t = c.args.self.now in
-    subst (λ (z : List Info × ℕ). BeginsResize z.0 z.1 c.args.len c.args.event (view c.args.cpu.now) c.load.new.seat.me.0.view) (λ j. (t.same.0 j, t.same.2 j))
-    (let b = c.load.ensures.2.told in (b.0, b.1, ap (λ (m : Sat). m.0) b.2, b.3, b.4, b.5, b.6))
+    subst (λ (z : List Info × ℕ). BeginsResize z.0 z.1 c.args.len c.args.event (view c.args.cpu.now) c.load_word.new.seat.me.0.view) (λ j. (t.same.0 j, t.same.2 j))
+    (let b = c.load_word.ensures.2.told in (b.0, b.1, ap (λ (m : Sat). m.0) b.2, b.3, b.4, b.5, b.6))

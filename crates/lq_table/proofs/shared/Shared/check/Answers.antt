@@ -8,11 +8,14 @@ use Rattle.lq_table.proofs.shared.Shared.check.Answers.Kept.{checks_sole}
 use Rattle.lq_log.specs.Made.{seen}
 use Rattle.lq_table.proofs.shared.Shared.check.Goals as goal
 
-pub load-requires : goal.load-requires
-load-requires g c =
-    let t = c.args.self.now in let k = keyed_setup t.table.kit.shared.key in let slots = t.table.kit.shared.table_id.slots in let seat = c.args.cpu.now.known.seat in let n = c.args.n in
-    let position : seat.me.0.view.place.position ≡ Check (machine_packet k.infos n) = c.requires.at ∙ ap (λ (xs : List Info). Check (machine_packet xs n)) (sym t.same.0) in (
-      c.requires.seat.0,
-      (let wide = t.sized.0 in omega arith),
-      checks_sole k slots seat.id (seen seat.me) n position c.requires.brings.0 c.requires.brings.1 c.requires.seat.1,
-    )
+pub load_word-requires : goal.load_word-requires
+load_word-requires g c = (
+  c.type_bounds.send-D,
+  (
+      let t = c.args.self.now in let k = keyed_setup t.table.kit.shared.key in let slots = t.table.kit.shared.table_id.slots in let seat = c.args.cpu.now.known.seat in let n = c.args.n in
+      let position : seat.me.0.view.place.position ≡ Check (machine_packet k.infos n) = c.requires.at ∙ ap (λ (xs : List Info). Check (machine_packet xs n)) (sym t.same.0) in (
+        c.requires.seat.0,
+        (let wide = t.sized.0 in omega arith),
+        checks_sole k slots seat.id (seen seat.me) n position c.requires.brings.0 c.requires.brings.1 c.requires.seat.1,
+      )),
+)

@@ -6,8 +6,8 @@ use Rattle.lq_table.proofs.shared.Shared.clear_sched.Answers.Kept.{clears_sched_
 use Rattle.lq_table.proofs.shared.Shared.clear_sched.Answers.Alone.{clears_sched_solo}
 use Rattle.lq_table.proofs.shared.Shared.clear_sched.Goals as goal
 
-pub fetch_and-requires : goal.fetch_and-requires
-fetch_and-requires g c = (c.requires.seat.0, (let wide = c.args.self.now.sized.0 in omega arith), clears_sched_kept _ _ _ _ c.requires.at c.requires.seat.1)
+pub fetch_and_word-requires : goal.fetch_and_word-requires
+fetch_and_word-requires g c = (c.type_bounds.send-D, ((c.requires.seat.0, (let wide = c.args.self.now.sized.0 in omega arith), clears_sched_kept _ _ _ _ c.requires.at c.requires.seat.1)))
 
 pub returns-clause-step : goal.returns-clause-step
-returns-clause-step g c = ap (λ m. solo m.0) c.fetch_and.ensures.2.told ∙ clears_sched_solo c.args.cpu.now.known.seat.me.0.view c.requires.at
+returns-clause-step g c = ap (λ m. solo m.0) c.fetch_and_word.ensures.2.told ∙ clears_sched_solo c.args.cpu.now.known.seat.me.0.view c.requires.at

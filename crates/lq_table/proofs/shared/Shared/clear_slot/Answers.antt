@@ -12,16 +12,19 @@ use Rattle.lq_table.proofs.ResizeSlotsKept.{clears_slot}
 use Rattle.lq_log.specs.Made.{seen}
 use Rattle.lq_table.proofs.shared.Shared.clear_slot.Goals as goal
 
-pub swap-requires : goal.swap-requires
-swap-requires g c =
-    let t = c.args.self.now in let k = keyed_setup t.table.kit.shared.key in let slots = t.table.kit.shared.table_id.slots in let seat = c.args.cpu.now.known.seat in let b = c.args.band in let i = c.args.i in let h = c.requires.holder in
-    let half = ap (λ (x : Option HalfResize). unwrap_or x no_resizing) h.1.1 in
-    let inside : i < k.max_len = let x = c.requires.place.1 in let y = t.same.2 in omega arith in
-    let place : slot_word k b i ≡ c.slot_word-word.result = sym c.slot_word-word.ensures in
-    let word : c.slot_word-word.result < t.table.kit.shared.table_id.words = let wide = t.sized.0 in let h = slot_within k b i c.requires.place.0 inside in let x = t.same.1 in let y = t.same.2 in let p = place in omega arith in
-    let few : length k.infos ≤ 1000000 = subst (λ (xs : List Info). length xs ≤ 1000000) (sym t.same.0) t.sized.2 in (
-      c.requires.seat.0,
-      word,
-      subst (λ (z : ℕ × HalfResize). Allows (Rule k) slots seat.id (seen seat.me) z.0 (λ _. 0) (clear_slot_told b i z.1 (step slots z.0 0 0 none) (seen seat.me))) (λ j. (place j, sym half j))
-          (clears_slot k slots seat.id (seen seat.me) b i h.1.0 c.requires.place.0 inside h.0 h.1.1 c.requires.seat.1 few),
-    )
+pub swap_word-requires : goal.swap_word-requires
+swap_word-requires g c = (
+  c.type_bounds.send-D,
+  (
+      let t = c.args.self.now in let k = keyed_setup t.table.kit.shared.key in let slots = t.table.kit.shared.table_id.slots in let seat = c.args.cpu.now.known.seat in let b = c.args.band in let i = c.args.i in let h = c.requires.holder in
+      let half = ap (λ (x : Option HalfResize). unwrap_or x no_resizing) h.1.1 in
+      let inside : i < k.max_len = let x = c.requires.place.1 in let y = t.same.2 in omega arith in
+      let place : slot_word k b i ≡ c.slot_word-word.result = sym c.slot_word-word.ensures in
+      let word : c.slot_word-word.result < t.table.kit.shared.table_id.words = let wide = t.sized.0 in let h = slot_within k b i c.requires.place.0 inside in let x = t.same.1 in let y = t.same.2 in let p = place in omega arith in
+      let few : length k.infos ≤ 1000000 = subst (λ (xs : List Info). length xs ≤ 1000000) (sym t.same.0) t.sized.2 in (
+        c.requires.seat.0,
+        word,
+        subst (λ (z : ℕ × HalfResize). Allows (Rule k) slots seat.id (seen seat.me) z.0 (λ _. 0) (clear_slot_told b i z.1 (step slots z.0 0 0 none) (seen seat.me))) (λ j. (place j, sym half j))
+            (clears_slot k slots seat.id (seen seat.me) b i h.1.0 c.requires.place.0 inside h.0 h.1.1 c.requires.seat.1 few),
+      )),
+)

@@ -3,5 +3,5 @@ use Rattle.std.proofs.Common.{arith}
 use Rattle.lq_table.proofs.shared.Shared.end_control.Answers.Kept.{returns_control}
 use Rattle.lq_table.proofs.shared.Shared.end_control.Goals as goal
 
-pub load-requires : goal.load-requires
-load-requires g c = (c.requires.seat.0, (let wide = c.args.self.now.sized.0 in omega arith), returns_control _ _ _ _ c.requires.at c.requires.seat.1)
+pub load_word-requires : goal.load_word-requires
+load_word-requires g c = (c.type_bounds.send-D, ((c.requires.seat.0, (let wide = c.args.self.now.sized.0 in omega arith), returns_control _ _ _ _ c.requires.at c.requires.seat.1)))

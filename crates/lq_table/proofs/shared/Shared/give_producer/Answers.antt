@@ -10,13 +10,16 @@ use Rattle.lq_table.proofs.shared.Shared.give_producer.Answers.Kept.{gives_produ
 use Rattle.lq_log.specs.Made.{seen}
 use Rattle.lq_table.proofs.shared.Shared.give_producer.Goals as goal
 
-pub store-requires : goal.store-requires
-store-requires g c =
-    let t = c.args.self.now in let k = keyed_setup t.table.kit.shared.key in let slots = t.table.kit.shared.table_id.slots in let seat = c.args.cpu.now.known.seat in let i = c.requires.index in
-    let place : producer_place c.args.band ≡ c.producer_word-word.result = sym c.producer_word-word.ensures in
-    let word : c.producer_word-word.result < t.table.kit.shared.table_id.words = let wide = t.sized.0 in let b = c.requires.band in let p = place in omega arith in (
-      c.requires.seat.0,
-      word,
-      subst (λ (z : ℕ). Allows (Rule k) slots seat.id (seen seat.me) z (λ _. 2 * c.args.index) (λ _. give_producer_told c.args.band (step slots z (2 * c.args.index) 0 none) (seen seat.me) (2 * c.args.index))) place
-          (gives_producer k slots seat.id (seen seat.me) c.args.band i.0 c.args.index c.requires.band c.requires.lock.0 i.1 i.2 c.requires.seat.1 c.requires.lock.1),
-    )
+pub store_word-requires : goal.store_word-requires
+store_word-requires g c = (
+  c.type_bounds.send-D,
+  (
+      let t = c.args.self.now in let k = keyed_setup t.table.kit.shared.key in let slots = t.table.kit.shared.table_id.slots in let seat = c.args.cpu.now.known.seat in let i = c.requires.index in
+      let place : producer_place c.args.band ≡ c.producer_word-word.result = sym c.producer_word-word.ensures in
+      let word : c.producer_word-word.result < t.table.kit.shared.table_id.words = let wide = t.sized.0 in let b = c.requires.band in let p = place in omega arith in (
+        c.requires.seat.0,
+        word,
+        subst (λ (z : ℕ). Allows (Rule k) slots seat.id (seen seat.me) z (λ _. 2 * c.args.index) (λ _. give_producer_told c.args.band (step slots z (2 * c.args.index) 0 none) (seen seat.me) (2 * c.args.index))) place
+            (gives_producer k slots seat.id (seen seat.me) c.args.band i.0 c.args.index c.requires.band c.requires.lock.0 i.1 i.2 c.requires.seat.1 c.requires.lock.1),
+      )),
+)

@@ -16,28 +16,31 @@ use Rattle.lq_table.specs.Sees.{setup, steps, ends_at}
 use Rattle.lq_table.proofs.CodeReads.{head_read}
 use Rattle.lq_table.proofs.shared.Shared.head_slot.Goals as goal
 
-pub load-requires : goal.load-requires
-load-requires g c =
-    let t = c.args.self.now in let k = keyed_setup t.table.kit.shared.key in let slots = t.table.kit.shared.table_id.slots in let seat = c.args.cpu.now.known.seat in let b = c.args.band in
-    let where_ = c.requires.at in let i = c.head-head.result in let head = head_read c.args.cpu.now.station c.station.result.now c.args.band c.head-head.result (ends_at c.args.band c.args.cpu.now).head c.station.ensures c.head-head.ensures c.requires.station.1 in
-    let inside : i < k.max_len = let x = c.requires.head in let h = head in let y = t.same.2 in omega arith in
-    let place : slot_word k b i ≡ c.slot_word-word.result = sym c.slot_word-word.ensures in
-    let word : c.slot_word-word.result < t.table.kit.shared.table_id.words = let wide = t.sized.0 in let h = slot_within k b i c.requires.band inside in let x = t.same.1 in let y = t.same.2 in let p = place in omega arith in
-    let few : length k.infos ≤ 1000000 = subst (λ (xs : List Info). length xs ≤ 1000000) (sym t.same.0) t.sized.2 in (
-      c.requires.seat.0,
-      word,
-      subst (λ (z : ℕ). Allows (Rule k) slots seat.id (seen seat.me) z (λ x. x) (head_slot_told_all b (step slots z 0 0 none) (seen seat.me))) place
-          (sees_head_sole k slots seat.id (seen seat.me) b i where_.0 c.requires.band inside where_.1 c.requires.rests.0 c.requires.rests.1 head c.requires.seat.1 few),
-    )
+pub load_word-requires : goal.load_word-requires
+load_word-requires g c = (
+  c.type_bounds.send-D,
+  (
+      let t = c.args.self.now in let k = keyed_setup t.table.kit.shared.key in let slots = t.table.kit.shared.table_id.slots in let seat = c.args.cpu.now.known.seat in let b = c.args.band in
+      let where_ = c.requires.at in let i = c.head-head.result in let head = head_read c.args.cpu.now.station c.station.result.now c.args.band c.head-head.result (ends_at c.args.band c.args.cpu.now).head c.station.ensures c.head-head.ensures c.requires.station.1 in
+      let inside : i < k.max_len = let x = c.requires.head in let h = head in let y = t.same.2 in omega arith in
+      let place : slot_word k b i ≡ c.slot_word-word.result = sym c.slot_word-word.ensures in
+      let word : c.slot_word-word.result < t.table.kit.shared.table_id.words = let wide = t.sized.0 in let h = slot_within k b i c.requires.band inside in let x = t.same.1 in let y = t.same.2 in let p = place in omega arith in
+      let few : length k.infos ≤ 1000000 = subst (λ (xs : List Info). length xs ≤ 1000000) (sym t.same.0) t.sized.2 in (
+        c.requires.seat.0,
+        word,
+        subst (λ (z : ℕ). Allows (Rule k) slots seat.id (seen seat.me) z (λ x. x) (head_slot_told_all b (step slots z 0 0 none) (seen seat.me))) place
+            (sees_head_sole k slots seat.id (seen seat.me) b i where_.0 c.requires.band inside where_.1 c.requires.rests.0 c.requires.rests.1 head c.requires.seat.1 few),
+      )),
+)
 
 pub invariant_of-cpu : goal.invariant_of-cpu
 invariant_of-cpu g c =
     let at = c.requires.at in
-    record { told = c.args.cpu.now.known.told ∙ sym (head_marks _ c.load.result at.0 (step c.args.self.now.table.kit.shared.table_id.slots c.slot_word-word.result 0 0 none) (seen c.args.cpu.now.known.seat.me) (seen c.load.new.seat.me) at.1 c.load.ensures.2.told.0) }
+    record { told = c.args.cpu.now.known.told ∙ sym (head_marks _ c.load_word.result at.0 (step c.args.self.now.table.kit.shared.table_id.slots c.slot_word-word.result 0 0 none) (seen c.args.cpu.now.known.seat.me) (seen c.load_word.new.seat.me) at.1 c.load_word.ensures.2.told.0) }
 
 pub returns-clause-made : goal.returns-clause-made
 returns-clause-made g c =
-    let t = c.args.self.now in let old = c.args.cpu.now in let found = c.load.result in
+    let t = c.args.self.now in let old = c.args.cpu.now in let found = c.load_word.result in
     let head = head_read old.station c.station.result.now c.args.band c.head-head.result (ends_at c.args.band old).head c.station.ensures c.head-head.ensures c.requires.station.1 in
-    let made : c.load.new.seat.me.0.steps ≡ load_slot_log (setup t) c.args.band c.head-head.result found ∷ steps old = search rules in
+    let made : c.load_word.new.seat.me.0.steps ≡ load_slot_log (setup t) c.args.band c.head-head.result found ∷ steps old = search rules in
     made ∙ ap (λ (i : ℕ). load_slot_log (setup t) c.args.band i found ∷ steps old) head

@@ -1,5 +1,5 @@
 use Rattle.lq_table.specs.Moves.{pass_told}
 use Rattle.lq_table.proofs.shared.Shared.leave.Given as goal
 
-abbrev pub ghosts-fetch_sub : goal.ghosts-fetch_sub
-ghosts-fetch_sub g a = record { told = pass_told }
+abbrev pub ghosts-fetch_sub_word : goal.ghosts-fetch_sub_word
+ghosts-fetch_sub_word g a = record { told = pass_told }

@@ -10,13 +10,16 @@ use Rattle.lq_table.proofs.shared.Shared.load_producer.Answers.Kept.{loads_produ
 use Rattle.lq_log.specs.Made.{seen}
 use Rattle.lq_table.proofs.shared.Shared.load_producer.Goals as goal
 
-pub load-requires : goal.load-requires
-load-requires g c =
-    let t = c.args.self.now in let k = keyed_setup t.table.kit.shared.key in let slots = t.table.kit.shared.table_id.slots in let seat = c.args.cpu.now.known.seat in let b = c.args.band in
-    let place : producer_place b ≡ c.producer_word-word.result = sym c.producer_word-word.ensures in
-    let word : c.producer_word-word.result < t.table.kit.shared.table_id.words = let wide = t.sized.0 in let small = c.requires.band in let p = place in omega arith in (
-      c.requires.seat.0,
-      word,
-      subst (λ (z : ℕ). Allows (Rule k) slots seat.id (seen seat.me) z (λ x. x) (load_producer_told b (step slots z 0 0 none) (seen seat.me))) place
-          (loads_producer k slots seat.id (seen seat.me) b c.requires.band c.requires.seat.1),
-    )
+pub load_word-requires : goal.load_word-requires
+load_word-requires g c = (
+  c.type_bounds.send-D,
+  (
+      let t = c.args.self.now in let k = keyed_setup t.table.kit.shared.key in let slots = t.table.kit.shared.table_id.slots in let seat = c.args.cpu.now.known.seat in let b = c.args.band in
+      let place : producer_place b ≡ c.producer_word-word.result = sym c.producer_word-word.ensures in
+      let word : c.producer_word-word.result < t.table.kit.shared.table_id.words = let wide = t.sized.0 in let small = c.requires.band in let p = place in omega arith in (
+        c.requires.seat.0,
+        word,
+        subst (λ (z : ℕ). Allows (Rule k) slots seat.id (seen seat.me) z (λ x. x) (load_producer_told b (step slots z 0 0 none) (seen seat.me))) place
+            (loads_producer k slots seat.id (seen seat.me) b c.requires.band c.requires.seat.1),
+      )),
+)

@@ -6,8 +6,8 @@ use Rattle.lq_table.proofs.shared.Shared.load_state.Answers.Kept.{looks_sole}
 use Rattle.lq_table.proofs.shared.Shared.load_state.Answers.Alone.{looks_solo}
 use Rattle.lq_table.proofs.shared.Shared.load_state.Goals as goal
 
-pub load-requires : goal.load-requires
-load-requires g c = (c.requires.seat.0, (let wide = c.args.self.now.sized.0 in omega arith), looks_sole _ _ _ _ c.requires.at c.requires.seat.1)
+pub load_word-requires : goal.load_word-requires
+load_word-requires g c = (c.type_bounds.send-D, ((c.requires.seat.0, (let wide = c.args.self.now.sized.0 in omega arith), looks_sole _ _ _ _ c.requires.at c.requires.seat.1)))
 
 pub returns-clause-step : goal.returns-clause-step
-returns-clause-step g c = ap (λ m. solo m.0) c.load.ensures.2.told.0 ∙ looks_solo c.load.result c.args.cpu.now.known.seat.me.0.view c.requires.at
+returns-clause-step g c = ap (λ m. solo m.0) c.load_word.ensures.2.told.0 ∙ looks_solo c.load_word.result c.args.cpu.now.known.seat.me.0.view c.requires.at

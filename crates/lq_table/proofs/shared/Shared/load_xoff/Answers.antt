@@ -15,17 +15,20 @@ use Rattle.lq_table.proofs.shared.Shared.load_xoff.Answers.Alone.{loads_stop_sol
 use Rattle.lq_log.specs.Made.{seen}
 use Rattle.lq_table.proofs.shared.Shared.load_xoff.Goals as goal
 
-pub load-requires : goal.load-requires
-load-requires g c =
-    let t = c.args.self.now in let k = keyed_setup t.table.kit.shared.key in let slots = t.table.kit.shared.table_id.slots in let seat = c.args.cpu.now.known.seat in
-    let e = t.same.5 in let below : c.args.queue < k.queues = (let b = c.requires.queue in omega arith) in
-    let at : load_xoff_queue k.infos seat.me.0.view.holder.slot seat.me.0.view.place.position c.args.queue ≡ c.args.queue = subst (λ (xs : List Info). load_xoff_queue xs seat.me.0.view.holder.slot seat.me.0.view.place.position c.args.queue ≡ c.args.queue) (sym t.same.0) c.requires.at.1 in
-    let few : length k.infos ≤ 1000000 = subst (λ (xs : List Info). length xs ≤ 1000000) (sym t.same.0) t.sized.2 in (
-      c.requires.seat.0,
-      (let wide = t.sized.0 in let b = xoff_in k c.args.queue below in let w = c.stop_word-word.ensures.keyed in let s = t.same.1 in let m = t.same.2 in let l = ap Rattle.std.proofs.Common.length t.same.0 in omega arith),
-      subst (λ (z : ℕ). Allows (Rule k) slots seat.id (seen seat.me) z (λ x. x) (load_xoff_told_all c.args.queue (step slots z 0 0 none) (seen seat.me))) (sym c.stop_word-word.ensures.keyed)
-          (loads_stop_sole k slots seat.id (seen seat.me) c.args.queue c.requires.at.0 at below few c.requires.seat.1),
-    )
+pub load_word-requires : goal.load_word-requires
+load_word-requires g c = (
+  c.type_bounds.send-D,
+  (
+      let t = c.args.self.now in let k = keyed_setup t.table.kit.shared.key in let slots = t.table.kit.shared.table_id.slots in let seat = c.args.cpu.now.known.seat in
+      let e = t.same.5 in let below : c.args.queue < k.queues = (let b = c.requires.queue in omega arith) in
+      let at : load_xoff_queue k.infos seat.me.0.view.holder.slot seat.me.0.view.place.position c.args.queue ≡ c.args.queue = subst (λ (xs : List Info). load_xoff_queue xs seat.me.0.view.holder.slot seat.me.0.view.place.position c.args.queue ≡ c.args.queue) (sym t.same.0) c.requires.at.1 in
+      let few : length k.infos ≤ 1000000 = subst (λ (xs : List Info). length xs ≤ 1000000) (sym t.same.0) t.sized.2 in (
+        c.requires.seat.0,
+        (let wide = t.sized.0 in let b = xoff_in k c.args.queue below in let w = c.stop_word-word.ensures.keyed in let s = t.same.1 in let m = t.same.2 in let l = ap Rattle.std.proofs.Common.length t.same.0 in omega arith),
+        subst (λ (z : ℕ). Allows (Rule k) slots seat.id (seen seat.me) z (λ x. x) (load_xoff_told_all c.args.queue (step slots z 0 0 none) (seen seat.me))) (sym c.stop_word-word.ensures.keyed)
+            (loads_stop_sole k slots seat.id (seen seat.me) c.args.queue c.requires.at.0 at below few c.requires.seat.1),
+      )),
+)
 
 pub returns-clause-step : goal.returns-clause-step
-returns-clause-step g c = ap (λ m. solo m.0) c.load.ensures.2.told.0.0 ∙ loads_stop_solo c.args.cpu.now.known.seat.me.0.view c.load.result
+returns-clause-step g c = ap (λ m. solo m.0) c.load_word.ensures.2.told.0.0 ∙ loads_stop_solo c.args.cpu.now.known.seat.me.0.view c.load_word.result

@@ -1,5 +1,5 @@
 use Rattle.lq_table.specs.States.{look_missed_told_all}
 use Rattle.lq_table.proofs.shared.Shared.look_missed.Given as goal
 
-abbrev pub ghosts-load : goal.ghosts-load
-ghosts-load g a = record { told = look_missed_told_all }
+abbrev pub ghosts-load_word : goal.ghosts-load_word
+ghosts-load_word g a = record { told = look_missed_told_all }

@@ -10,12 +10,15 @@ use mathlib.Core.Option.{none}
 use Rattle.lq_log.specs.Made.{seen}
 use Rattle.lq_table.proofs.shared.Shared.look_stop.Goals as goal
 
-pub load-requires : goal.load-requires
-load-requires g c =
-    let t = c.args.self.now in let k = keyed_setup t.table.kit.shared.key in let slots = t.table.kit.shared.table_id.slots in let seat = c.args.cpu.now.known.seat in
-    let e : k.queues ≡ t.queues = t.same.5 in let below : c.args.queue < k.queues = (let b = c.requires.queue in omega arith) in (
-      c.requires.seat.0,
-      (let wide = t.sized.0 in let b = xoff_in k c.args.queue below in let w = c.stop_word-word.ensures.keyed in let s = t.same.1 in let m = t.same.2 in let l = ap Rattle.std.proofs.Common.length t.same.0 in omega arith),
-      subst (λ (z : ℕ). Allows (Rule k) slots seat.id (seen seat.me) z (λ n. n) (look_stop_told_all c.args.queue (step slots z 0 0 none) (seen seat.me))) (sym c.stop_word-word.ensures.keyed)
-          (looks_stop_sole k slots seat.id (seen seat.me) c.args.queue c.requires.at c.requires.seat.1),
-    )
+pub load_word-requires : goal.load_word-requires
+load_word-requires g c = (
+  c.type_bounds.send-D,
+  (
+      let t = c.args.self.now in let k = keyed_setup t.table.kit.shared.key in let slots = t.table.kit.shared.table_id.slots in let seat = c.args.cpu.now.known.seat in
+      let e : k.queues ≡ t.queues = t.same.5 in let below : c.args.queue < k.queues = (let b = c.requires.queue in omega arith) in (
+        c.requires.seat.0,
+        (let wide = t.sized.0 in let b = xoff_in k c.args.queue below in let w = c.stop_word-word.ensures.keyed in let s = t.same.1 in let m = t.same.2 in let l = ap Rattle.std.proofs.Common.length t.same.0 in omega arith),
+        subst (λ (z : ℕ). Allows (Rule k) slots seat.id (seen seat.me) z (λ n. n) (look_stop_told_all c.args.queue (step slots z 0 0 none) (seen seat.me))) (sym c.stop_word-word.ensures.keyed)
+            (looks_stop_sole k slots seat.id (seen seat.me) c.args.queue c.requires.at c.requires.seat.1),
+      )),
+)

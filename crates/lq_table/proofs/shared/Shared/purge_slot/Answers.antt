@@ -20,34 +20,37 @@ use Rattle.lq_table.specs.Sees.{view, setup, steps, ends_at}
 use Rattle.lq_table.proofs.CodeReads.{head_read}
 use Rattle.lq_table.proofs.shared.Shared.purge_slot.Goals as goal
 
-pub load-requires : goal.load-requires
-load-requires g c =
-    let t = c.args.self.now in let k = keyed_setup t.table.kit.shared.key in let slots = t.table.kit.shared.table_id.slots in let seat = c.args.cpu.now.known.seat in let b = c.args.band in
-    let i = c.head-head.result in let at = c.requires.at in let left = ap (λ (x : Option Left). unwrap_or x no_left) at.5 in let purge = ap (λ (x : Option Purge). unwrap_or x first_purge) at.3 in
-    let head = head_read c.args.cpu.now.station c.station.result.now c.args.band c.head-head.result (ends_at c.args.band c.args.cpu.now).head c.station.ensures c.head-head.ensures c.requires.station.1 in
-    let inside : i < k.max_len = let x = c.requires.head in let h = head in let y = t.same.2 in omega arith in
-    let place : slot_word k b i ≡ c.slot_word-word.result = sym c.slot_word-word.ensures in
-    let word : c.slot_word-word.result < t.table.kit.shared.table_id.words = let wide = t.sized.0 in let h = slot_within k b i c.requires.band inside in let x = t.same.1 in let y = t.same.2 in let p = place in omega arith in
-    let few : length k.infos ≤ 1000000 = subst (λ (xs : List Info). length xs ≤ 1000000) (sym t.same.0) t.sized.2 in (
-      c.requires.seat.0,
-      word,
-      subst (λ (z : ℕ × Purge × Left). Allows (Rule k) slots seat.id (seen seat.me) z.0 (λ x. x) (purge_slot_told b z.1 z.2 (step slots z.0 0 0 none) (seen seat.me))) (λ j. (place j, sym purge j, sym left j))
-          (purge_sees k slots seat.id (seen seat.me) b i at.0 at.1 c.requires.band inside few at.2 at.3 at.4 at.5 c.requires.packets.0 c.requires.packets.1 c.requires.rests.0 c.requires.rests.1 head c.requires.seat.1),
-    )
+pub load_word-requires : goal.load_word-requires
+load_word-requires g c = (
+  c.type_bounds.send-D,
+  (
+      let t = c.args.self.now in let k = keyed_setup t.table.kit.shared.key in let slots = t.table.kit.shared.table_id.slots in let seat = c.args.cpu.now.known.seat in let b = c.args.band in
+      let i = c.head-head.result in let at = c.requires.at in let left = ap (λ (x : Option Left). unwrap_or x no_left) at.5 in let purge = ap (λ (x : Option Purge). unwrap_or x first_purge) at.3 in
+      let head = head_read c.args.cpu.now.station c.station.result.now c.args.band c.head-head.result (ends_at c.args.band c.args.cpu.now).head c.station.ensures c.head-head.ensures c.requires.station.1 in
+      let inside : i < k.max_len = let x = c.requires.head in let h = head in let y = t.same.2 in omega arith in
+      let place : slot_word k b i ≡ c.slot_word-word.result = sym c.slot_word-word.ensures in
+      let word : c.slot_word-word.result < t.table.kit.shared.table_id.words = let wide = t.sized.0 in let h = slot_within k b i c.requires.band inside in let x = t.same.1 in let y = t.same.2 in let p = place in omega arith in
+      let few : length k.infos ≤ 1000000 = subst (λ (xs : List Info). length xs ≤ 1000000) (sym t.same.0) t.sized.2 in (
+        c.requires.seat.0,
+        word,
+        subst (λ (z : ℕ × Purge × Left). Allows (Rule k) slots seat.id (seen seat.me) z.0 (λ x. x) (purge_slot_told b z.1 z.2 (step slots z.0 0 0 none) (seen seat.me))) (λ j. (place j, sym purge j, sym left j))
+            (purge_sees k slots seat.id (seen seat.me) b i at.0 at.1 c.requires.band inside few at.2 at.3 at.4 at.5 c.requires.packets.0 c.requires.packets.1 c.requires.rests.0 c.requires.rests.1 head c.requires.seat.1),
+      )),
+)
 
 pub returns-clause-made : goal.returns-clause-made
 returns-clause-made g c =
-    let t = c.args.self.now in let old = c.args.cpu.now in let found = c.load.result in
+    let t = c.args.self.now in let old = c.args.cpu.now in let found = c.load_word.result in
     let head = head_read old.station c.station.result.now c.args.band c.head-head.result (ends_at c.args.band old).head c.station.ensures c.head-head.ensures c.requires.station.1 in
-    let made : c.load.new.seat.me.0.steps ≡ load_slot_log (setup t) c.args.band c.head-head.result found ∷ steps old = search rules in
+    let made : c.load_word.new.seat.me.0.steps ≡ load_slot_log (setup t) c.args.band c.head-head.result found ∷ steps old = search rules in
     made ∙ ap (λ (i : ℕ). load_slot_log (setup t) c.args.band i found ∷ steps old) head
 
 pub returns-clause-none : goal.returns-clause-none
 returns-clause-none g c = λ u l purge left zero_.
-    let old = c.args.cpu.now in let t = c.load.ensures.2.told.0 zero_ in
-    subst (λ (x : Purge × Left). (held_of (at c.args.band x.1.bands) ≡ []) × (c.load.new.seat.me.0.view ≡ purge_slot_view_empty x.0 (view old))) (λ j. (unwrap_or (purge j) first_purge, unwrap_or (left j) no_left)) (t.0, ap (λ (m : Sat). m.0) t.1)
+    let old = c.args.cpu.now in let t = c.load_word.ensures.2.told.0 zero_ in
+    subst (λ (x : Purge × Left). (held_of (at c.args.band x.1.bands) ≡ []) × (c.load_word.new.seat.me.0.view ≡ purge_slot_view_empty x.0 (view old))) (λ j. (unwrap_or (purge j) first_purge, unwrap_or (left j) no_left)) (t.0, ap (λ (m : Sat). m.0) t.1)
 
 pub returns-clause-taken : goal.returns-clause-taken
 returns-clause-taken g c = λ l left some.
-    let old = c.args.cpu.now in let t = c.load.ensures.2.told.1 some in
-    let n = c.load.result - 1 in subst (λ (x : Left). (slice_get (held_of (at c.args.band x.bands)) 0 ≡ Some n) × (c.load.new.seat.me.0.view ≡ purge_slot_view c.args.band n x (view old))) (ap (λ (x : Option Left). unwrap_or x no_left) left) (t.0, ap (λ (m : Sat). m.0) t.1)
+    let old = c.args.cpu.now in let t = c.load_word.ensures.2.told.1 some in
+    let n = c.load_word.result - 1 in subst (λ (x : Left). (slice_get (held_of (at c.args.band x.bands)) 0 ≡ Some n) × (c.load_word.new.seat.me.0.view ≡ purge_slot_view c.args.band n x (view old))) (ap (λ (x : Option Left). unwrap_or x no_left) left) (t.0, ap (λ (m : Sat). m.0) t.1)

@@ -4,5 +4,5 @@ use Rattle.lq_table.specs.States.{requeue_told}
 use Rattle.lq_table.specs.Views.{no_station}
 use Rattle.lq_table.proofs.shared.Shared.requeue.Given as goal
 
-abbrev pub ghosts-fetch_or : goal.ghosts-fetch_or
-ghosts-fetch_or g a = record { told = requeue_told (with_slot (unwrap_or a._about.now no_station) a.seat.now.me.0.view.holder.slot) }
+abbrev pub ghosts-fetch_or_word : goal.ghosts-fetch_or_word
+ghosts-fetch_or_word g a = record { told = requeue_told (with_slot (unwrap_or a.about.now no_station) a.seat.now.me.0.view.holder.slot) }

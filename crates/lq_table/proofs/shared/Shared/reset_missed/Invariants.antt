@@ -1,5 +1,5 @@
 use Rattle.lq_table.specs.Purges.{reset_missed_told}
 use Rattle.lq_table.proofs.shared.Shared.reset_missed.Given as goal
 
-abbrev pub ghosts-fetch_and : goal.ghosts-fetch_and
-ghosts-fetch_and g a = record { told = reset_missed_told }
+abbrev pub ghosts-fetch_and_word : goal.ghosts-fetch_and_word
+ghosts-fetch_and_word g a = record { told = reset_missed_told }

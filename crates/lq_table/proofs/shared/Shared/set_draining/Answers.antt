@@ -6,8 +6,8 @@ use Rattle.lq_table.proofs.shared.Shared.set_draining.Answers.Kept.{sets_drainin
 use Rattle.lq_table.proofs.shared.Shared.set_draining.Answers.Alone.{sets_draining_solo}
 use Rattle.lq_table.proofs.shared.Shared.set_draining.Goals as goal
 
-pub fetch_or-requires : goal.fetch_or-requires
-fetch_or-requires g c = (c.requires.seat.0, (let wide = c.args.self.now.sized.0 in omega arith), sets_draining_all _ _ _ _ c.requires.at c.requires.seat.1)
+pub fetch_or_word-requires : goal.fetch_or_word-requires
+fetch_or_word-requires g c = (c.type_bounds.send-D, ((c.requires.seat.0, (let wide = c.args.self.now.sized.0 in omega arith), sets_draining_all _ _ _ _ c.requires.at c.requires.seat.1)))
 
 pub returns-clause-step : goal.returns-clause-step
-returns-clause-step g c = ap (λ m. solo m.0) c.fetch_or.ensures.2.told ∙ sets_draining_solo c.args.cpu.now.known.seat.me.0.view c.requires.at
+returns-clause-step g c = ap (λ m. solo m.0) c.fetch_or_word.ensures.2.told ∙ sets_draining_solo c.args.cpu.now.known.seat.me.0.view c.requires.at

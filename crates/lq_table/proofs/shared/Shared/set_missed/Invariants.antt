@@ -1,5 +1,5 @@
 use Rattle.lq_table.specs.States.{set_bit_told}
 use Rattle.lq_table.proofs.shared.Shared.set_missed.Given as goal
 
-abbrev pub ghosts-fetch_or : goal.ghosts-fetch_or
-ghosts-fetch_or g a = record { told = set_bit_told }
+abbrev pub ghosts-fetch_or_word : goal.ghosts-fetch_or_word
+ghosts-fetch_or_word g a = record { told = set_bit_told }

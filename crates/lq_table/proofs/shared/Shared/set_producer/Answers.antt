@@ -10,13 +10,16 @@ use Rattle.lq_table.proofs.shared.Shared.set_producer.Answers.Kept.{sets_produce
 use Rattle.lq_log.specs.Made.{seen}
 use Rattle.lq_table.proofs.shared.Shared.set_producer.Goals as goal
 
-pub store-requires : goal.store-requires
-store-requires g c =
-    let t = c.args.self.now in let k = keyed_setup t.table.kit.shared.key in let slots = t.table.kit.shared.table_id.slots in let seat = c.args.cpu.now.known.seat in let b = c.args.band in let i = c.args.index in let h = c.requires.holder in
-    let place : producer_place b ≡ c.producer_word-word.result = sym c.producer_word-word.ensures in
-    let word : c.producer_word-word.result < t.table.kit.shared.table_id.words = let wide = t.sized.0 in let x = c.requires.band in let p = place in omega arith in (
-      c.requires.seat.0,
-      word,
-      subst (λ (z : ℕ). Allows (Rule k) slots seat.id (seen seat.me) z (λ _. 2 * i + 1) (λ _. set_producer_told b i (step slots z (2 * i + 1) 0 none) (seen seat.me) (2 * i + 1))) place
-          (sets_producer k slots seat.id (seen seat.me) b i h.1.0 c.requires.band h.0 h.1.1 h.2 c.requires.seat.1),
-    )
+pub store_word-requires : goal.store_word-requires
+store_word-requires g c = (
+  c.type_bounds.send-D,
+  (
+      let t = c.args.self.now in let k = keyed_setup t.table.kit.shared.key in let slots = t.table.kit.shared.table_id.slots in let seat = c.args.cpu.now.known.seat in let b = c.args.band in let i = c.args.index in let h = c.requires.holder in
+      let place : producer_place b ≡ c.producer_word-word.result = sym c.producer_word-word.ensures in
+      let word : c.producer_word-word.result < t.table.kit.shared.table_id.words = let wide = t.sized.0 in let x = c.requires.band in let p = place in omega arith in (
+        c.requires.seat.0,
+        word,
+        subst (λ (z : ℕ). Allows (Rule k) slots seat.id (seen seat.me) z (λ _. 2 * i + 1) (λ _. set_producer_told b i (step slots z (2 * i + 1) 0 none) (seen seat.me) (2 * i + 1))) place
+            (sets_producer k slots seat.id (seen seat.me) b i h.1.0 c.requires.band h.0 h.1.1 h.2 c.requires.seat.1),
+      )),
+)

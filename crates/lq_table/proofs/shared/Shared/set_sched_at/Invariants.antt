@@ -1,5 +1,5 @@
 use Rattle.lq_table.specs.States.{set_sched_told_all}
 use Rattle.lq_table.proofs.shared.Shared.set_sched_at.Given as goal
 
-abbrev pub ghosts-fetch_or : goal.ghosts-fetch_or
-ghosts-fetch_or g a = record { told = set_sched_told_all }
+abbrev pub ghosts-fetch_or_word : goal.ghosts-fetch_or_word
+ghosts-fetch_or_word g a = record { told = set_sched_told_all }

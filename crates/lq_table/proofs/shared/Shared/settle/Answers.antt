@@ -17,24 +17,27 @@ use Rattle.lq_table.proofs.shared.Shared.settle.Answers.Kept.{settles_fate}
 use Rattle.lq_log.specs.Made.{seen}
 use Rattle.lq_table.proofs.shared.Shared.settle.Goals as goal
 
-pub store-requires : goal.store-requires
-store-requires g c =
-    let t = c.args.self.now in let k = keyed_setup t.table.kit.shared.key in let slots = t.table.kit.shared.table_id.slots in let seat = c.args.cpu.now.known.seat in
-    let n = c.args.n in let f = c.args.fate in let st = carried c.args.cpu.now in let b = band_in k.infos n in
-    let place : fates_offset k + n ≡ c.fate_word_of-word.result = sym c.fate_word_of-word.ensures in
-    let inside : n < length k.infos = (let l = ap length t.same.0 in let h = c.requires.packet.0 in omega arith) in
-    let word : c.fate_word_of-word.result < t.table.kit.shared.table_id.words = let wide = t.sized.0 in let inside = c.requires.packet.0 in let x = t.same.1 in let y = t.same.2 in let p = place in omega arith in
-    let may = subst (λ (xs : List Info). MaySettle (band_in xs n) n f st seat.me.0.view) (sym t.same.0) c.requires.may in (
-      c.requires.seat.0,
-      word,
-      subst (λ (z : ℕ × ℕ). Allows (Rule k) slots seat.id (seen seat.me) z.0 (λ _. z.1) (λ _. settle_told st b n f (step slots z.0 z.1 0 none) (seen seat.me) z.1)) (λ j. (place j, sym c.fate_word.ensures.word j))
-          (settles_fate k slots seat.id st (seen seat.me) b n f inside c.requires.packet.1 c.requires.seat.1 may),
-    )
+pub store_word-requires : goal.store_word-requires
+store_word-requires g c = λ _. (
+  c.type_bounds.send-D,
+  (
+      let t = c.args.self.now in let k = keyed_setup t.table.kit.shared.key in let slots = t.table.kit.shared.table_id.slots in let seat = c.args.cpu.now.known.seat in
+      let n = c.args.n in let f = c.args.fate in let st = carried c.args.cpu.now in let b = band_in k.infos n in
+      let place : fates_offset k + n ≡ c.fate_word_of-word.result = sym c.fate_word_of-word.ensures in
+      let inside : n < length k.infos = (let l = ap length t.same.0 in let h = c.requires.packet.0 in omega arith) in
+      let word : c.fate_word_of-word.result < t.table.kit.shared.table_id.words = let wide = t.sized.0 in let inside = c.requires.packet.0 in let x = t.same.1 in let y = t.same.2 in let p = place in omega arith in
+      let may = subst (λ (xs : List Info). MaySettle (band_in xs n) n f st seat.me.0.view) (sym t.same.0) c.requires.may in (
+        c.requires.seat.0,
+        word,
+        subst (λ (z : ℕ × ℕ). Allows (Rule k) slots seat.id (seen seat.me) z.0 (λ _. z.1) (λ _. settle_told st b n f (step slots z.0 z.1 0 none) (seen seat.me) z.1)) (λ j. (place j, sym c.fate_word.ensures.word j))
+            (settles_fate k slots seat.id st (seen seat.me) b n f inside c.requires.packet.1 c.requires.seat.1 may),
+      )),
+)
 
 pub returns-clause-settled : goal.returns-clause-settled
 returns-clause-settled g c =
     let old = c.args.cpu.now in
-    ap (λ (m : Sat). m.0) c.store.ensures.2.told ∙ ap (λ (xs : List Info). settle_view (carried old) (band_in xs c.args.n) c.args.n c.args.fate (view old)) c.args.self.now.same.0
+    ap (λ (m : Sat). m.0) c.store_word.ensures.2.told ∙ ap (λ (xs : List Info). settle_view (carried old) (band_in xs c.args.n) c.args.n c.args.fate (view old)) c.args.self.now.same.0
 
 pub returns-clause-step : goal.returns-clause-step
 returns-clause-step g c = let old = c.args.cpu.now in

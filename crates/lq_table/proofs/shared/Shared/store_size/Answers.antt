@@ -12,12 +12,15 @@ use Rattle.lq_table.proofs.shared.Shared.store_size.Answers.Kept.{stores_size}
 use Rattle.lq_log.specs.Made.{seen}
 use Rattle.lq_table.proofs.shared.Shared.store_size.Goals as goal
 
-pub store-requires : goal.store-requires
-store-requires g c =
-    let t = c.args.self.now in let k = keyed_setup t.table.kit.shared.key in let slots = t.table.kit.shared.table_id.slots in let seat = c.args.cpu.now.known.seat in let h = c.requires.holder in let r = c.requires.ready in let half = sym (ap (λ (x : Option HalfResize). unwrap_or x no_resizing) r.1) in
-    let word : size_place < t.table.kit.shared.table_id.words = let wide = t.sized.0 in omega arith in (
-      c.requires.seat.0,
-      word,
-      subst (λ (z : ℕ × HalfResize). Allows (Rule k) slots seat.id (seen seat.me) size_place (λ _. z.0) (λ _. store_size_told z.1 (step slots size_place z.0 0 none) (seen seat.me) z.0)) (λ j. (sym r.2 j, half j))
-          (stores_size k slots seat.id (seen seat.me) r.0 h r.1 c.requires.seat.1 r.3),
-    )
+pub store_word-requires : goal.store_word-requires
+store_word-requires g c = (
+  c.type_bounds.send-D,
+  (
+      let t = c.args.self.now in let k = keyed_setup t.table.kit.shared.key in let slots = t.table.kit.shared.table_id.slots in let seat = c.args.cpu.now.known.seat in let h = c.requires.holder in let r = c.requires.ready in let half = sym (ap (λ (x : Option HalfResize). unwrap_or x no_resizing) r.1) in
+      let word : size_place < t.table.kit.shared.table_id.words = let wide = t.sized.0 in omega arith in (
+        c.requires.seat.0,
+        word,
+        subst (λ (z : ℕ × HalfResize). Allows (Rule k) slots seat.id (seen seat.me) size_place (λ _. z.0) (λ _. store_size_told z.1 (step slots size_place z.0 0 none) (seen seat.me) z.0)) (λ j. (sym r.2 j, half j))
+            (stores_size k slots seat.id (seen seat.me) r.0 h r.1 c.requires.seat.1 r.3),
+      )),
+)

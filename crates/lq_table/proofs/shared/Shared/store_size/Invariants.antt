@@ -3,5 +3,5 @@ use Rattle.lq_table.specs.Resizes.{store_size_told}
 use Rattle.lq_table.specs.Views.{no_resizing}
 use Rattle.lq_table.proofs.shared.Shared.store_size.Given as goal
 
-abbrev pub ghosts-store : goal.ghosts-store
-ghosts-store g a = record { told = store_size_told (unwrap_or a.seat.now.me.0.view.holder.resizing no_resizing) }
+abbrev pub ghosts-store_word : goal.ghosts-store_word
+ghosts-store_word g a = record { told = store_size_told (unwrap_or a.seat.now.me.0.view.holder.resizing no_resizing) }

@@ -15,18 +15,21 @@ use Rattle.lq_table.proofs.shared.Shared.store_slot.Answers.Kept.{stores_slot}
 use Rattle.lq_log.specs.Made.{seen}
 use Rattle.lq_table.proofs.shared.Shared.store_slot.Goals as goal
 
-pub store-requires : goal.store-requires
-store-requires g c =
-    let t = c.args.self.now in let k = keyed_setup t.table.kit.shared.key in let slots = t.table.kit.shared.table_id.slots in let seat = c.args.cpu.now.known.seat in let b = c.args.band in let n = c.args.n in
-    let lock = c.requires.lock in let i = c.at-index.result in let where_ = c.requires.at in
-    let is : i ≡ (at b seat.me.0.view.locks).index = c.at-index.ensures ∙ sym lock.0.1 in
-    let inside : i < k.max_len = let x = lock.0.2 in let y = t.same.2 in omega arith in
-    let place : slot_word k b i ≡ c.slot_word-word.result = sym c.slot_word-word.ensures in
-    let word : c.slot_word-word.result < t.table.kit.shared.table_id.words = let wide = t.sized.0 in let h = slot_within k b i c.requires.band inside in let x = t.same.1 in let y = t.same.2 in let p = place in omega arith in
-    let position : seat.me.0.view.place.position ≡ Put (machine_packet k.infos n) where_.0 = where_.1 ∙ ap (λ (xs : List Info). Put (machine_packet xs n) where_.0) (sym t.same.0) in
-    let of_band : band_in k.infos n ≡ b = subst (λ (xs : List Info). band_in xs n ≡ b) (sym t.same.0) c.requires.packet.1 in (
-      c.requires.seat.0,
-      word,
-      subst (λ (z : ℕ). Allows (Rule k) slots seat.id (seen seat.me) z (λ _. n + 1) (λ _. store_slot_told b n (step slots z (n + 1) 0 none) (seen seat.me) (n + 1))) place
-          (stores_slot k slots seat.id (seen seat.me) b i n where_.0 c.requires.band inside position lock.0.0 lock.1 lock.2 is c.requires.packet.0 of_band c.requires.seat.1 lock.0.3),
-    )
+pub store_word-requires : goal.store_word-requires
+store_word-requires g c = (
+  c.type_bounds.send-D,
+  (
+      let t = c.args.self.now in let k = keyed_setup t.table.kit.shared.key in let slots = t.table.kit.shared.table_id.slots in let seat = c.args.cpu.now.known.seat in let b = c.args.band in let n = c.args.n in
+      let lock = c.requires.lock in let i = c.at-index.result in let where_ = c.requires.at in
+      let is : i ≡ (at b seat.me.0.view.locks).index = c.at-index.ensures ∙ sym lock.0.1 in
+      let inside : i < k.max_len = let x = lock.0.2 in let y = t.same.2 in omega arith in
+      let place : slot_word k b i ≡ c.slot_word-word.result = sym c.slot_word-word.ensures in
+      let word : c.slot_word-word.result < t.table.kit.shared.table_id.words = let wide = t.sized.0 in let h = slot_within k b i c.requires.band inside in let x = t.same.1 in let y = t.same.2 in let p = place in omega arith in
+      let position : seat.me.0.view.place.position ≡ Put (machine_packet k.infos n) where_.0 = where_.1 ∙ ap (λ (xs : List Info). Put (machine_packet xs n) where_.0) (sym t.same.0) in
+      let of_band : band_in k.infos n ≡ b = subst (λ (xs : List Info). band_in xs n ≡ b) (sym t.same.0) c.requires.packet.1 in (
+        c.requires.seat.0,
+        word,
+        subst (λ (z : ℕ). Allows (Rule k) slots seat.id (seen seat.me) z (λ _. n + 1) (λ _. store_slot_told b n (step slots z (n + 1) 0 none) (seen seat.me) (n + 1))) place
+            (stores_slot k slots seat.id (seen seat.me) b i n where_.0 c.requires.band inside position lock.0.0 lock.1 lock.2 is c.requires.packet.0 of_band c.requires.seat.1 lock.0.3),
+      )),
+)

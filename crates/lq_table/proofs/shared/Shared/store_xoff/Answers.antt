@@ -14,15 +14,18 @@ use Rattle.lq_table.proofs.shared.Shared.store_xoff.Answers.Kept.{stores_xoff}
 use Rattle.lq_log.specs.Made.{seen}
 use Rattle.lq_table.proofs.shared.Shared.store_xoff.Goals as goal
 
-pub store-requires : goal.store-requires
-store-requires g c =
-    let t = c.args.self.now in let k = keyed_setup t.table.kit.shared.key in let slots = t.table.kit.shared.table_id.slots in let seat = c.args.cpu.now.known.seat in let at = c.requires.at in
-    let e = t.same.5 in let below : c.args.queue < k.queues = (let b = c.requires.queue in omega arith) in (
-      c.requires.seat.0,
-      (let wide = t.sized.0 in let b = xoff_in k c.args.queue below in let w = c.stop_word-word.ensures.keyed in let s = t.same.1 in let m = t.same.2 in let l = ap Rattle.std.proofs.Common.length t.same.0 in omega arith),
-      subst (λ (z : ℕ × ℕ). Allows (Rule k) slots seat.id (seen seat.me) z.0 (λ _. z.1) (store_xoff_told (step slots z.0 z.1 0 none) (seen seat.me))) (λ j. (sym c.stop_word-word.ensures.keyed j, sym at.3 j))
-          (stores_xoff k slots seat.id c.args.queue (seen seat.me) at.0 at.1 below at.2 at.4 c.requires.seat.1),
-    )
+pub store_word-requires : goal.store_word-requires
+store_word-requires g c = (
+  c.type_bounds.send-D,
+  (
+      let t = c.args.self.now in let k = keyed_setup t.table.kit.shared.key in let slots = t.table.kit.shared.table_id.slots in let seat = c.args.cpu.now.known.seat in let at = c.requires.at in
+      let e = t.same.5 in let below : c.args.queue < k.queues = (let b = c.requires.queue in omega arith) in (
+        c.requires.seat.0,
+        (let wide = t.sized.0 in let b = xoff_in k c.args.queue below in let w = c.stop_word-word.ensures.keyed in let s = t.same.1 in let m = t.same.2 in let l = ap Rattle.std.proofs.Common.length t.same.0 in omega arith),
+        subst (λ (z : ℕ × ℕ). Allows (Rule k) slots seat.id (seen seat.me) z.0 (λ _. z.1) (store_xoff_told (step slots z.0 z.1 0 none) (seen seat.me))) (λ j. (sym c.stop_word-word.ensures.keyed j, sym at.3 j))
+            (stores_xoff k slots seat.id c.args.queue (seen seat.me) at.0 at.1 below at.2 at.4 c.requires.seat.1),
+      )),
+)
 
 pub returns-clause-step : goal.returns-clause-step
-returns-clause-step g c = let at = c.requires.at in ap (λ m. solo m.0) c.store.ensures.2.told ∙ (stores_solo c.args.cpu.now.known.seat.me.0.view c.args.queue at.0 at.1 at.2 ∙ ap (λ (x : ℕ). heard (Stop c.args.queue x) (solo c.args.cpu.now.known.seat.me.0.view)) (sym at.3))
+returns-clause-step g c = let at = c.requires.at in ap (λ m. solo m.0) c.store_word.ensures.2.told ∙ (stores_solo c.args.cpu.now.known.seat.me.0.view c.args.queue at.0 at.1 at.2 ∙ ap (λ (x : ℕ). heard (Stop c.args.queue x) (solo c.args.cpu.now.known.seat.me.0.view)) (sym at.3))

@@ -21,27 +21,30 @@ use Rattle.lq_table.proofs.shared.Shared.take_producer.Goals as goal
 twice : (n : ℕ) → n % 2 ≡ 0 → n ≡ 2 * (n / 2)
 twice n even = omega arith
 
-pub compare_exchange-found-requires : goal.compare_exchange-found-requires
-compare_exchange-found-requires g c =
-    let t = c.args.self.now in let k = keyed_setup t.table.kit.shared.key in let slots = t.table.kit.shared.table_id.slots in let seat = c.args.cpu.now.known.seat in let b = c.args.band in let seen_ = c.args.seen in
-    let place : producer_place b ≡ c.producer_word-word.result = sym c.producer_word-word.ensures in
-    let word : c.producer_word-word.result < t.table.kit.shared.table_id.words = let wide = t.sized.0 in let small = c.requires.band in let p = place in omega arith in (
-      c.requires.seat.0,
-      word,
-      subst (λ (z : ℕ × ℕ). Allows (Rule k) slots seat.id (seen seat.me) z.0 (λ x. either (eqb x z.1) (z.1 + 1) x) (take_producer_told_all b (seen_ / 2) k.max_len (step slots z.0 z.1 (z.1 + 1) none) (seen seat.me)))
-          (λ j. (place j, sym (twice seen_ c.requires.even) j)) (gets_producer_sole k slots seat.id (seen seat.me) b c.requires.band c.requires.seat.1 (seen_ / 2) c.requires.idle),
-    )
+pub compare_exchange_word-found-requires : goal.compare_exchange_word-found-requires
+compare_exchange_word-found-requires g c = (
+  c.type_bounds.send-D,
+  (
+      let t = c.args.self.now in let k = keyed_setup t.table.kit.shared.key in let slots = t.table.kit.shared.table_id.slots in let seat = c.args.cpu.now.known.seat in let b = c.args.band in let seen_ = c.args.seen in
+      let place : producer_place b ≡ c.producer_word-word.result = sym c.producer_word-word.ensures in
+      let word : c.producer_word-word.result < t.table.kit.shared.table_id.words = let wide = t.sized.0 in let small = c.requires.band in let p = place in omega arith in (
+        c.requires.seat.0,
+        word,
+        subst (λ (z : ℕ × ℕ). Allows (Rule k) slots seat.id (seen seat.me) z.0 (λ x. either (eqb x z.1) (z.1 + 1) x) (take_producer_told_all b (seen_ / 2) k.max_len (step slots z.0 z.1 (z.1 + 1) none) (seen seat.me)))
+            (λ j. (place j, sym (twice seen_ c.requires.even) j)) (gets_producer_sole k slots seat.id (seen seat.me) b c.requires.band c.requires.seat.1 (seen_ / 2) c.requires.idle),
+      )),
+)
 
 pub invariant_of-cpu : goal.invariant_of-cpu
 invariant_of-cpu g c =
-    let x = c.compare_exchange-found in let t = x.ensures.2.told.0 in let marks = λ (m : Sat). marks_of m.0 in
+    let x = c.compare_exchange_word-found in let t = x.ensures.2.told.0 in let marks = λ (m : Sat). marks_of m.0 in
     let to = dite (ℕ_discrete x.result (2 * (c.args.seen / 2))) (λ is. ap marks (t.0 is).0) (λ other. ap marks (t.1 other)) in
     record { told = c.args.cpu.now.known.told ∙ sym to }
 
 pub returns-then-found-seen : goal.returns-then-found-seen
 returns-then-found-seen g c =
     let old = c.args.cpu.now in let v = view old in let b = c.args.band in let seen_ = c.args.seen in
-    let x = c.compare_exchange-found in let e = x.ensures in let is = c.if-found-seen.true in
+    let x = c.compare_exchange_word-found in let e = x.ensures in let is = c.if-found-seen.true in
     let got = e.2.told.0.0 (is ∙ twice seen_ c.requires.even) in record {
       seat = ((e.0, e.1), refl, ap (λ (m : Sat). m.1) got.0);
       got = λ _. (ap (λ (m : Sat). m.0) got.0, c.put.ensures, subst (λ (l : ℕ). seen_ / 2 < l) c.args.self.now.same.2 got.1);
@@ -53,7 +56,7 @@ returns-then-found-seen g c =
 pub returns-else-found-seen : goal.returns-else-found-seen
 returns-else-found-seen g c =
     let old = c.args.cpu.now in let v = view old in let seen_ = c.args.seen in
-    let x = c.compare_exchange-found in let e = x.ensures in let apart = c.if-found-seen.false in
+    let x = c.compare_exchange_word-found in let e = x.ensures in let apart = c.if-found-seen.false in
     let same = e.2.told.0.1 (λ is. apart (is ∙ sym (twice seen_ c.requires.even))) in record {
       seat = ((e.0, e.1), refl, ap (λ (m : Sat). m.1) same);
       got = λ is. absurd (false≢true is);

@@ -15,36 +15,39 @@ use mathlib.Core.Option.{none}
 use Rattle.lq_log.specs.Made.{seen}
 use Rattle.lq_table.proofs.shared.Shared.wake.Goals as goal
 
-pub compare_exchange-found-requires : goal.compare_exchange-found-requires
-compare_exchange-found-requires g c =
-    let t = c.args.self.now in let k = keyed_setup t.table.kit.shared.key in let slots = t.table.kit.shared.table_id.slots in let seat = c.args.cpu.now.known.seat in
-    let e : k.queues ≡ t.queues = t.same.5 in let below : c.args.queue < k.queues = (let b = c.requires.queue in omega arith) in (
-      c.requires.seat.0,
-      (let wide = t.sized.0 in let b = xoff_in k c.args.queue below in let w = c.stop_word-word.ensures.keyed in let s = t.same.1 in let m = t.same.2 in let l = ap Rattle.std.proofs.Common.length t.same.0 in omega arith),
-      subst (λ (z : ℕ). Allows (Rule k) slots seat.id (seen seat.me) z (λ n. either (eqb n 1) 0 n) (wake_told_all c.args.queue (step slots z 1 0 none) (seen seat.me))) (sym c.stop_word-word.ensures.keyed)
-          (wakes_sole k slots seat.id (seen seat.me) c.args.queue below c.requires.at c.requires.seat.1),
-    )
+pub compare_exchange_word-found-requires : goal.compare_exchange_word-found-requires
+compare_exchange_word-found-requires g c = (
+  c.type_bounds.send-D,
+  (
+      let t = c.args.self.now in let k = keyed_setup t.table.kit.shared.key in let slots = t.table.kit.shared.table_id.slots in let seat = c.args.cpu.now.known.seat in
+      let e : k.queues ≡ t.queues = t.same.5 in let below : c.args.queue < k.queues = (let b = c.requires.queue in omega arith) in (
+        c.requires.seat.0,
+        (let wide = t.sized.0 in let b = xoff_in k c.args.queue below in let w = c.stop_word-word.ensures.keyed in let s = t.same.1 in let m = t.same.2 in let l = ap Rattle.std.proofs.Common.length t.same.0 in omega arith),
+        subst (λ (z : ℕ). Allows (Rule k) slots seat.id (seen seat.me) z (λ n. either (eqb n 1) 0 n) (wake_told_all c.args.queue (step slots z 1 0 none) (seen seat.me))) (sym c.stop_word-word.ensures.keyed)
+            (wakes_sole k slots seat.id (seen seat.me) c.args.queue below c.requires.at c.requires.seat.1),
+      )),
+)
 
 pub invariant_of-cpu : goal.invariant_of-cpu
 invariant_of-cpu g c =
-    let x = c.compare_exchange-found in let t = x.ensures.2.told.0 in
+    let x = c.compare_exchange_word-found in let t = x.ensures.2.told.0 in
     let marks = λ (m : Sat). marks_of m.0 in
     let to = dite (ℕ_discrete x.result 1) (λ is. ap marks (t.0 is)) (λ other. ap marks (t.1 other)) in
     record { told = c.args.cpu.now.known.told ∙ sym to }
 
 pub returns-clause-same : goal.returns-clause-same
 returns-clause-same g c =
-    let x = c.compare_exchange-found in let t = x.ensures.2.told.0 in
+    let x = c.compare_exchange_word-found in let t = x.ensures.2.told.0 in
     let to = dite (ℕ_discrete x.result 1) (λ is. ap (λ (m : Sat). m.1) (t.0 is)) (λ other. ap (λ (m : Sat). m.1) (t.1 other)) in
     ((x.ensures.0, x.ensures.1), refl, refl, to)
 
 pub returns-clause-opened : goal.returns-clause-opened
-returns-clause-opened g c = λ is. ap (λ (m : Sat). m.0) (c.compare_exchange-found.ensures.2.told.0.0 (eqb-true c.compare_exchange-found.result 1 is))
+returns-clause-opened g c = λ is. ap (λ (m : Sat). m.0) (c.compare_exchange_word-found.ensures.2.told.0.0 (eqb-true c.compare_exchange_word-found.result 1 is))
 
 pub returns-clause-still : goal.returns-clause-still
 returns-clause-still g c = λ no_.
-    let x = c.compare_exchange-found in
+    let x = c.compare_exchange_word-found in
     ap (λ (m : Sat). m.0) (x.ensures.2.told.0.1 (λ is. true≢false (sym (eq-eqb x.result 1 is) ∙ no_)))
 
 pub returns-clause-sole : goal.returns-clause-sole
-returns-clause-sole g c = λ sole. ap (λ (n : ℕ). eqb n 1) (c.compare_exchange-found.ensures.2.told.1 sole)
+returns-clause-sole g c = λ sole. ap (λ (n : ℕ). eqb n 1) (c.compare_exchange_word-found.ensures.2.told.1 sole)

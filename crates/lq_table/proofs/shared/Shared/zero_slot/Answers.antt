@@ -10,15 +10,18 @@ use Rattle.lq_table.proofs.shared.Shared.zero_slot.Answers.Kept.{empties_slot}
 use Rattle.lq_log.specs.Made.{seen}
 use Rattle.lq_table.proofs.shared.Shared.zero_slot.Goals as goal
 
-pub store-requires : goal.store-requires
-store-requires g c =
-    let t = c.args.self.now in let k = keyed_setup t.table.kit.shared.key in let slots = t.table.kit.shared.table_id.slots in let seat = c.args.cpu.now.known.seat in let b = c.args.band in
-    let h = c.requires.holder in let e = c.requires.edge in let i = c.args.i in
-    let inside : i < k.max_len = let x = c.requires.band.1 in let y = t.same.2 in omega arith in
-    let place : slot_word k b i ≡ c.slot_word-word.result = sym c.slot_word-word.ensures in
-    let word : c.slot_word-word.result < t.table.kit.shared.table_id.words = let wide = t.sized.0 in let h = slot_within k b i c.requires.band.0 inside in let x = t.same.1 in let y = t.same.2 in let p = place in omega arith in (
-      c.requires.seat.0,
-      word,
-      subst (λ (z : ℕ). Allows (Rule k) slots seat.id (seen seat.me) z (λ _. 0) (λ _. zero_slot_told b (step slots z 0 0 none) (seen seat.me) 0)) place
-          (empties_slot k slots seat.id (seen seat.me) b i c.requires.band.0 inside h.0 h.1 e.0 e.1 c.requires.seat.1),
-    )
+pub store_word-requires : goal.store_word-requires
+store_word-requires g c = (
+  c.type_bounds.send-D,
+  (
+      let t = c.args.self.now in let k = keyed_setup t.table.kit.shared.key in let slots = t.table.kit.shared.table_id.slots in let seat = c.args.cpu.now.known.seat in let b = c.args.band in
+      let h = c.requires.holder in let e = c.requires.edge in let i = c.args.i in
+      let inside : i < k.max_len = let x = c.requires.band.1 in let y = t.same.2 in omega arith in
+      let place : slot_word k b i ≡ c.slot_word-word.result = sym c.slot_word-word.ensures in
+      let word : c.slot_word-word.result < t.table.kit.shared.table_id.words = let wide = t.sized.0 in let h = slot_within k b i c.requires.band.0 inside in let x = t.same.1 in let y = t.same.2 in let p = place in omega arith in (
+        c.requires.seat.0,
+        word,
+        subst (λ (z : ℕ). Allows (Rule k) slots seat.id (seen seat.me) z (λ _. 0) (λ _. zero_slot_told b (step slots z 0 0 none) (seen seat.me) 0)) place
+            (empties_slot k slots seat.id (seen seat.me) b i c.requires.band.0 inside h.0 h.1 e.0 e.1 c.requires.seat.1),
+      )),
+)
