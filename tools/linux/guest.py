@@ -3,6 +3,7 @@ import lzma
 import re
 import shutil
 import subprocess
+import tempfile
 from pathlib import Path
 
 from linux.packages import Missing, run
@@ -94,21 +95,29 @@ def build(tools, kernel, folder):
     return image
 
 
-def boot(tools, kernel, image, share, processors=1, patience=600):
-    """Boots the guest, which works through SHARE/*.cases and leaves an .answers beside each. It is emulated throughout."""
+def boot(tools, kernel, image, share, processors=1, patience=600, steer=None):
+    """Boots the guest, which works through SHARE/*.cases and leaves an .answers beside each. It is emulated throughout. `steer` is told
+    where the emulator's debugger listens, if the guest's order of steps is chosen."""
     words = ["nice", "-n", "19", "qemu-system-x86_64", *tools.firmware(), "-M", "pc", "-accel", "tcg,thread=single",
              "-cpu", "qemu64", "-smp", str(processors), "-m", "512", "-nographic", "-no-reboot", "-nic", "none",
              "-kernel", str(kernel.image()), "-initrd", str(image),
-             # on a busy host a kernel's test of its timer fails, and the kernel with it
-             "-append", "console=ttyS0 quiet ipv6.disable=1 panic=-1 no_timer_check",
+             # on a busy host a kernel's test of its timer fails, and the kernel with it; a debugger needs the addresses of the System.map
+             "-append", "console=ttyS0 quiet ipv6.disable=1 panic=-1 no_timer_check nokaslr",
              "-virtfs", f"local,path={share},mount_tag=share,security_model=none"]
     console = share / "console"
-    with open(console, "wb") as it:
+    with open(console, "wb") as it, tempfile.TemporaryDirectory(prefix="beside-linux-") as room:
+        debugger = Path(room) / "debugger"
+        words += ["-gdb", f"unix:{debugger},server=on,wait=off"] if steer else []
+        guest = subprocess.Popen(words, env=tools.environment(), stdin=subprocess.DEVNULL, stdout=it, stderr=it)
         try:
-            subprocess.run(words, env=tools.environment(), stdin=subprocess.DEVNULL, stdout=it, stderr=it, check=False,
-                           timeout=patience)
+            if steer:
+                steer(debugger)
+            guest.wait(patience)
         except subprocess.TimeoutExpired:
             raise Missing(f"the guest didn't end in {patience} seconds; its console is in {console}") from None
+        finally:
+            guest.kill()
+            guest.wait()
     if not (share / "kernel").exists():
         raise Missing(f"the guest didn't come to its cases; its console is in {console}")
     return Kernel(share)

@@ -1,0 +1,128 @@
+"""One order of steps of two senders in a guest, by the emulator's debugger: that which the second try of `qdisc_run_begin` is for.
+
+The first sender has run the bands to their end, and goes on only when the second one has put its packet into them and failed to get the run lock. The second one
+sets MISSED only when the first one has released the lock and looked for MISSED. A kernel without the second try then leaves the second
+sender's packet in its band.
+"""
+import re
+import socket
+import time
+
+from lib import captures
+from lib.plans import Plan, Station
+from linux.packages import Missing, run
+from linux.plans import Sent, frame
+
+# of the registers, in the debugger's order: the stack's top
+RSP = 7
+# the function that has `qdisc_run_begin` and `qdisc_run_end` within it, the one that runs the bands, and the one by which a transmit ends
+TRANSMIT, RUN, END = "__dev_queue_xmit", "__qdisc_run", "__local_bh_enable_ip"
+# how MISSED, bit 2 of the state, is set: test_and_set_bit of arch/x86/include/asm/bitops.h
+SETS_MISSED = re.compile(r"^ *([0-9a-f]+):\s+lock bts[ql]? +\$0x2,", re.M)
+
+
+def two_packets():
+    """A packet of each of two senders, which go through the bands."""
+    plan = Plan(station=[Station(len=8, bypass=False)], senders=2, irq_every=1000)
+    return Sent(plan, captures.Capture(captures.ethernet([frame(0, 0, 0, n) for n in range(2)])))
+
+
+def symbols_of(text):
+    """The addresses of a System.map by name."""
+    return {name: int(address, 16) for address, _, name in map(str.split, text.splitlines())}
+
+
+def places_of_missed(text):
+    """Where a disassembled function sets MISSED."""
+    return [int(it, 16) for it in SETS_MISSED.findall(text)]
+
+
+class Places:
+    """Where a kernel that was built in a folder does the steps."""
+
+    def __init__(self, folder):
+        map_file, image = folder / "System.map", folder / "vmlinux"
+        if not (map_file.is_file() and image.is_file()):
+            raise Missing(f"{folder} has no System.map and vmlinux: it is the folder in which the kernel was built")
+        symbols = symbols_of(map_file.read_text(encoding="ascii"))
+        for it in (TRANSMIT, RUN, END):
+            if it not in symbols:
+                raise Missing(f"{map_file} has no {it}")
+        self.run, self.end, self.start = symbols[RUN], symbols[END], symbols[TRANSMIT]
+        self.stop = min(it for it in symbols.values() if it > self.start)
+        self.missed = places_of_missed(run(["objdump", "-d", "--no-show-raw-insn", f"--start-address={self.start}", f"--stop-address={self.stop}", str(image)]))
+        if not self.missed:
+            raise Missing(f"{TRANSMIT} of {image} sets no MISSED")
+
+
+class Debugger:
+    """The emulator's debugger, by the protocol of gdb's remote targets."""
+
+    def __init__(self, path, patience):
+        self.end = time.monotonic() + patience
+        self.wire = socket.socket(socket.AF_UNIX)
+        while self.wire.connect_ex(str(path)):
+            self._wait()
+        self.wire.settimeout(patience)
+        self.read = self.wire.makefile("rb")
+
+    def _wait(self):
+        if time.monotonic() > self.end:
+            raise Missing("the emulator's debugger doesn't answer")
+        time.sleep(0.1)
+
+    def send(self, words):
+        self.wire.sendall(f"${words}#{sum(words.encode()) % 256:02x}".encode())
+
+    def answer(self):
+        """The next packet of the emulator; what comes before it are its signs that it read ours."""
+        while (sign := self.read.read(1)) != b"$":
+            if not sign:
+                raise Missing("the guest ended before the order was made")
+        text = b"".join(iter(lambda: self.read.read(1), b"#")).decode()
+        self.read.read(2)
+        self.wire.sendall(b"+")
+        return text
+
+    def ask(self, words):
+        self.send(words)
+        return self.answer()
+
+    def top_of_stack(self, processor):
+        """The word at the top of a processor's stack: at the begin of a function, where it returns to."""
+        self.ask(f"Hg{processor}")
+        registers = bytes.fromhex(self.ask("g")[: 16 * (RSP + 1)])
+        at = int.from_bytes(registers[8 * RSP :], "little")
+        return int.from_bytes(bytes.fromhex(self.ask(f"m{at:x},8")), "little")
+
+    def go(self, processors, places):
+        """Lets processors go on until one comes to one of these places, and answers its number."""
+        for it in places:
+            self.ask(f"Z1,{it:x},1")
+        self.send("vCont;" + ";".join(f"c:{it}" for it in processors) if processors else "vCont;c")
+        stopped = re.search(r"thread:(?:p\w+\.)?(\w+);", self.answer())
+        for it in places:
+            self.ask(f"z1,{it:x},1")
+        return int(stopped[1], 16)
+
+    def leave(self):
+        """Lets the guest go on to its end."""
+        self.ask("D")
+        self.wire.close()
+
+
+def make_order(path, places, processors, patience=300):
+    """Makes the order, and lets the guest go on."""
+    it = Debugger(path, patience)
+    it.ask("?")
+    first = it.go((), [places.run])
+    returns = it.top_of_stack(first)
+    it.go([first], [returns])
+    it.go([other for other in range(1, processors + 1) if other != first], places.missed)
+    while True:
+        it.go([first], [places.end])
+        if places.start < it.top_of_stack(first) < places.stop:
+            break
+        # beyond that place, so that it doesn't stop there again
+        it.ask(f"vCont;s:{first}")
+    it.leave()
