@@ -5,7 +5,7 @@ ghost use Rattle.lq_model.specs.Words.{IsWordOf};
 ghost use Rattle.lq_model.specs.Numbers.{greatest};
 ghost use Rattle.lq_table.specs.Places.{state_place, lock_place, inside_place, size_place};
 ghost use Rattle.lq_table.specs.Sees.{closed_words, closed_stops, closed_fates, closed_home};
-ghost use Rattle.lq_table.specs.Ended.{lent_fates};
+ghost use Rattle.lq_table.specs.Ended.{ended_fates, lent_fates};
 
 use crate::ended::{Closed, Ended, FateWords};
 use crate::places::{INSIDE, LOCK, SIZE, STATE, XOFF};
@@ -41,6 +41,18 @@ impl<D: TxDevice> Ended<D> {
     {
         self.plan
     }
+
+    /// The words in which the fates of its packets stand.
+    pub fn fate_words(&self) -> FateWords<'_>
+        ensures fates { lent_fates result ≡ ended_fates self.now }
+        ensures packets { result.packets ≡ self.now.packets }
+    {
+        FateWords {
+            words: &self.table.words,
+            from: self.fates_from,
+            packets: self.packets,
+        }
+    }
 }
 
 impl FateWords<'_> {
@@ -60,12 +72,7 @@ impl<D: TxDevice> Closed<D> {
         ensures fates { lent_fates result ≡ closed_fates self.now }
         ensures packets { result.packets ≡ self.now.ended.packets }
     {
-        let ended = &self.ended;
-        FateWords {
-            words: &ended.table.words,
-            from: ended.fates_from,
-            packets: ended.packets,
-        }
+        self.ended.fate_words()
     }
 
     fn greatest_stop(&self) -> u64
