@@ -26,6 +26,8 @@ pub mod Woken
 pub mod OpenedTimes
 -- a sender on its way
 pub mod Sending
+-- a sender comes to a packet of its own
+pub mod Coming
 -- how often queues are opened matters after the packets of the run alone
 pub mod SameOpenings
 -- the devices of a bench: configured, taken out and laid back

@@ -1,12 +1,12 @@
 -- After a packet its sender opens the queues of all stations so many times, and does soft interrupts after each.
-use Rattle.std.proofs.Common.{◌≡◌, ℕ, zero, suc, ◌+◌, ◌<◌, List, refl, subst, arith}
+use Rattle.std.proofs.Common.{◌≡◌, ℕ, zero, suc, ◌+◌, List, subst, arith}
 use Rattle.lq_model.specs.Alone.{RunningStation, opened_and_served, turn_ended}
 use Rattle.lq_model.specs.Plan.{Plan}
 use Rattle.lq_model.specs.declared.fate.Info.{Info}
 use Rattle.lq_seat.specs.State.{SeatState, TableState}
 use Rattle.lq_senders.specs.Lanes.{AllOpened, AreRunAlone, KeepAll, LaneStands}
 use Rattle.lq_senders.specs.Woken.{AllWoke}
-use Rattle.lq_senders.proofs.Turns.{keep-none, keep-on, keep-opened, lane-made, lane-opened, runs-opened}
+use Rattle.lq_senders.proofs.Turns.{keep-none, keep-on, keep-opened, lane-made, lane-opened, runs-opened, runs-rested}
 use Rattle.lq_senders.proofs.Woken.{woke-opened}
 
 -- so many times, so far
@@ -37,7 +37,10 @@ opened-once-more plan infos sender count n tables times old now new lane (mid, (
       subst (λ k. AllWoke k start new) more (woke-opened (count + times) start now mid new woken drained (before.woke start count woke));
 }
 
--- where they are opened at all, this is what follows the packet
-pub turn-opened : (infos : List Info) (times : ℕ) (stations : List RunningStation) → 0 < times → opened_and_served infos times stations ≡ turn_ended infos times stations
-turn-opened infos zero stations some = absurd (omega arith)
-turn-opened infos (suc times) stations some = refl
+-- this is what follows a packet, also where they aren't opened
+pub turn-ended : (plan : Plan) (infos : List Info) (tables : List TableState) (sender count n times : ℕ) (old new : List SeatState)
+    → LaneStands plan infos sender count n tables old → AreOpenedTimes plan infos tables times old new
+    → (stations : List RunningStation) → AreRunAlone plan infos old stations → AreRunAlone plan infos new (turn_ended infos times stations)
+turn-ended plan infos tables sender count n zero old new lane opened stations runs =
+    runs-rested plan infos sender count n tables new stations (opened.stands sender count n lane) (opened.runs stations runs)
+turn-ended plan infos tables sender count n (suc times) old new lane opened stations runs = opened.runs stations runs

@@ -1,6 +1,6 @@
 -- What the calls of a run say of its plan, its packets, its openings and its tables.
 use Rattle.std.specs.Prelude.{ℕ, List, map}
-use Rattle.lq_model.specs.Alone.{RunningStation, finished, turn_ended, with_events, with_packet}
+use Rattle.lq_model.specs.Alone.{RunningStation, finished, with_events}
 use Rattle.lq_model.specs.Device.{DeviceState}
 use Rattle.lq_seat.specs.State.{SeatState}
 use Rattle.lq_senders.specs.Ends.{HaveFatesAlone}
@@ -76,14 +76,6 @@ module _ {D G : Type 0} where
   -- so many events of the plan, from this one on
   abbrev pub events_on : Run D G → ℕ → ℕ → List RunningStation → List RunningStation
   events_on run next count stations = with_events run.plan.now run.infos.now (numbers_from next count) stations
-
-  -- what follows packet n: the queues are opened as often as the run has it after this packet, and soft interrupts are done
-  abbrev pub turn_after : Run D G → ℕ → List RunningStation → List RunningStation
-  turn_after run n stations = turn_ended run.infos.now (opens_in run n) stations
-
-  -- so many events, then packet n and what follows it
-  abbrev pub packet_brought : Run D G → ℕ → ℕ → ℕ → List RunningStation → List RunningStation
-  packet_brought run next count n stations = turn_after run n (with_packet run.plan.now run.infos.now n (events_on run next count stations))
 
   -- A SENDER ON ITS WAY
 

@@ -2,11 +2,11 @@
 ghost use Rattle.std.specs.Prelude.{◌≡◌, ℕ, ◌+◌, ◌<◌, ◌≤◌, ◌-◌, true, false, List, length, slice_get};
 ghost use Rattle.lq_seat.specs.Calls.{WakesQueues, Drains};
 ghost use Rattle.lq_seat.specs.State.{SeatState};
-ghost use Rattle.lq_senders.specs.Lanes.{AllDid, AllOpened, AreSeats, KeepAll, KeepSeats};
-ghost use Rattle.lq_senders.specs.Runs.{ComesTo, DevicesGoOn, HasDevices, RunsAs, SeatsDone, SeatsGoOn, SeatsRunAs, SeatsStand, events_on, opens_in, packet_brought, turn_after};
-ghost use Rattle.lq_senders.specs.Way.{IsSplitAt, StandAfter, StandBefore, StandEarlier};
+ghost use Rattle.lq_senders.specs.Lanes.{AllDid, AllOpened, AreSeats, KeepAll};
+ghost use Rattle.lq_senders.specs.Runs.{ComesTo, DevicesGoOn, HasDevices, RunsAs, SeatsDone, SeatsGoOn, SeatsRunAs, SeatsStand, events_on};
+ghost use Rattle.lq_senders.specs.Way.{IsSplitAt, StandAfter};
 ghost use Rattle.lq_senders.specs.Woken.{AllWoke, CountsDown, OtherCalls, count_sent};
-ghost use Rattle.lq_model.specs.Alone.{opened_and_served, with_packet};
+ghost use Rattle.lq_model.specs.Alone.{opened_and_served};
 ghost use Rattle.lq_model.specs.Device.{DeviceState};
 ghost use Rattle.lq_model.specs.Plan.{owner_in};
 ghost use Rattle.lq_model.specs.declared.plan.EventPlan.{EventPlan as AnEvent};
@@ -19,27 +19,6 @@ use lq_gate::Gate;
 use lq_plan::Plan;
 use lq_seat::{Seat, Table};
 use std::sync::Wait;
-
-/// Sends packet `n`, the next of its owner.
-fn send_packet<'r, 'a, R: Wait, D: TxDevice, G: Gate>(
-    rt: &R,
-    run: &Run<'r, 'a, D, G>,
-    seats: &mut Vec<Seat<D>>,
-    n: u32,
-)
-    requires packet { n < length run.now.infos.now }
-    requires stands { (count : ℕ) × SeatsStand run.now (owner_in run.now.infos.now n) count n seats.old.items }
-    ensures stands { (count : ℕ) → SeatsStand run.now (owner_in run.now.infos.now n) count n seats.old.items
-        → (owner_in run.now.infos.now n ≡ 0 → IsSplitAt run.now.plan.now count n)
-        → SeatsStand run.now (owner_in run.now.infos.now n) count (n + 1) seats.new.items }
-    ensures keeps { KeepAll seats.old.items seats.new.items }
-    ensures calls { AllDid OtherCalls seats.old.items seats.new.items }
-    ensures runs { SeatsRunAs run.now (with_packet run.now.plan.now run.now.infos.now n) seats.old.items seats.new.items }
-{
-    let station = run.infos[n as usize].station;
-    let table = &run.tables[station as usize];
-    seats[station as usize].send(rt, table, n);
-}
 
 /// Wakes the queues of each station.
 fn wake_all<'a, D: TxDevice>(tables: &[Table<'a, D>], seats: &mut Vec<Seat<D>>)
@@ -88,34 +67,9 @@ fn open_times<'r, 'a, R: Wait, D: TxDevice, G: Gate>(
     }
 }
 
-/// What a sender does after packet `n`, before which it was so far: it opens the queues as often as the run has it. No seat is raised
-/// where it doesn't.
-fn turn<'r, 'a, R: Wait, D: TxDevice, G: Gate>(
-    rt: &R,
-    run: &Run<'r, 'a, D, G>,
-    seats: &mut Vec<Seat<D>>,
-    n: u32,
-    at: Progress,
-)
-    requires packet { n < length run.now.infos.now }
-    requires number { at.sent ≡ count_sent run.now.infos.now (owner_in run.now.infos.now n) n }
-    requires counted { CountsDown run.now.openings.now at.sent at.left }
-    requires stands { (sender : ℕ) × (count : ℕ) × (m : ℕ) × SeatsStand run.now sender count m seats.old.items }
-    ensures stands { (sender count : ℕ) → SeatsGoOn run.now sender count count seats.old.items seats.new.items }
-    ensures keeps { KeepAll seats.old.items seats.new.items }
-    ensures runs { SeatsRunAs run.now (turn_after run.now n) seats.old.items seats.new.items }
-    ensures woke { (start : List SeatState) (count : ℕ) → AllWoke count start seats.old.items
-        → AllWoke (count + opens_in run.now n) start seats.new.items }
-{
-    let times = opened_after(run.openings, n, at);
-    if times > 0 {
-        open_times(rt, run, seats, times);
-    }
-}
-
 /// Does the plan's events from `next` on that stand before packet `n`: the event that is next then.
 #[inline(never)]
-fn events_before<'r, 'a, R: Wait, D: TxDevice, G: Gate>(
+pub fn events_before<'r, 'a, R: Wait, D: TxDevice, G: Gate>(
     rt: &R,
     run: &Run<'r, 'a, D, G>,
     sender: &mut Sender<D>,
@@ -161,35 +115,6 @@ fn has_events_before(plan: &Plan, owner: u32, next: u32, n: u32) -> bool
     plan.event(next).before <= n
 }
 
-/// Does the events that stand before packet `n`, if this is the first sender. For most packets there is none, and nothing is called.
-#[inline(always)]
-pub fn events_of<'r, 'a, R: Wait, D: TxDevice, G: Gate>(
-    rt: &R,
-    run: &Run<'r, 'a, D, G>,
-    sender: &mut Sender<D>,
-    next: u32,
-    n: u32,
-) -> u32
-    requires next { next ≤ length run.now.plan.now.events }
-    requires stands { (m : ℕ) × SeatsStand run.now sender.old.owner next m sender.old.seats.items }
-    requires devices { sender.old.owner ≡ 0 → (units : List DeviceState) × HasDevices D.state run.now units next sender.old }
-    ensures owner { sender.new.owner ≡ sender.old.owner }
-    ensures within { (next ≤ result) × (result ≤ length run.now.plan.now.events) }
-    ensures done { (k : ℕ) (event : AnEvent) → next ≤ k → k < result
-        → slice_get run.now.plan.now.events k ≡ Some event → event.before ≤ n }
-    ensures left { sender.old.owner ≡ 0 → StandAfter run.now.plan.now result n }
-    ensures stands { SeatsGoOn run.now sender.old.owner next result sender.old.seats.items sender.new.seats.items }
-    ensures calls { AllDid OtherCalls sender.old.seats.items sender.new.seats.items }
-    ensures devices { DevicesGoOn D.state run.now next result sender.old sender.new }
-    ensures runs { RunsAs D.state run.now next (events_on run.now next (result - next)) sender.old sender.new }
-{
-    if has_events_before(run.plan, sender.owner, next, n) {
-        events_before(rt, run, sender, next, n)
-    } else {
-        next
-    }
-}
-
 /// Passes the gate before packet `n`, with the sender's own number and the packet's among the sender's. The plan's events that
 /// stand before the packet were done, and it isn't sent yet.
 fn pass_before<'r, 'a, D: TxDevice, G: Gate>(
@@ -214,46 +139,8 @@ pub fn pass_last<'r, 'a, D: TxDevice, G: Gate>(run: &Run<'r, 'a, D, G>, sender: 
     run.gate.pass(sender.owner, k);
 }
 
-/// Brings packet `n`, of which the sender has sent `at.sent` before: the event that is next then.
-fn bring<'r, 'a, R: Wait, D: TxDevice, G: Gate>(
-    rt: &R,
-    run: &Run<'r, 'a, D, G>,
-    sender: &mut Sender<D>,
-    at: Progress,
-    n: u32,
-) -> u32
-    requires own { owner_in run.now.infos.now n ≡ sender.old.owner }
-    requires packet { n < length run.now.infos.now }
-    requires sent { at.sent ≡ count_sent run.now.infos.now sender.old.owner n }
-    requires counted { CountsDown run.now.openings.now at.sent at.left }
-    requires next { at.next ≤ length run.now.plan.now.events }
-    requires earlier { StandEarlier run.now.plan.now at.next n }
-    requires stands { SeatsStand run.now sender.old.owner at.next n sender.old.seats.items }
-    requires devices { sender.old.owner ≡ 0 → (units : List DeviceState) × HasDevices D.state run.now units at.next sender.old }
-    ensures owner { sender.new.owner ≡ sender.old.owner }
-    ensures within { (at.next ≤ result) × (result ≤ length run.now.plan.now.events) }
-    ensures done { StandBefore run.now.plan.now result n }
-    ensures left { sender.old.owner ≡ 0 → StandAfter run.now.plan.now result n }
-    ensures stands { SeatsStand run.now sender.old.owner result (n + 1) sender.new.seats.items }
-    ensures keeps { KeepSeats sender.old.seats.items sender.new.seats.items }
-    ensures devices { DevicesGoOn D.state run.now at.next result sender.old sender.new }
-    ensures runs { RunsAs D.state run.now at.next (packet_brought run.now at.next (result - at.next) n) sender.old sender.new }
-    ensures woke { (start : List SeatState) (count : ℕ) → AllWoke count start sender.old.seats.items
-        → AllWoke (count + opens_in run.now n) start sender.new.seats.items }
-{
-    let next = events_of(rt, run, sender, at.next, n);
-    let now = Progress {
-        sent: at.sent,
-        next,
-        left: at.left,
-    };
-    pass_before(run, sender, now, n);
-    send_packet(rt, run, &mut sender.seats, n);
-    turn(rt, run, &mut sender.seats, n, at);
-    next
-}
-
-/// Comes to packet `n`: sends it if it is the sender's.
+/// Comes to packet `n`. If it is the sender's, it does the plan's events before it, passes the gate, sends it, and opens the queues as
+/// often as the run has it. This is one function, because a test follows each call that may wait, inlined or not.
 pub fn come_to<'r, 'a, R: Wait, D: TxDevice, G: Gate>(
     rt: &R,
     run: &Run<'r, 'a, D, G>,
@@ -272,10 +159,24 @@ pub fn come_to<'r, 'a, R: Wait, D: TxDevice, G: Gate>(
         → ComesTo D.state run.now sender.old.owner (n + 1) result start brought sender.new }
     ensures counted { CountsDown run.now.openings.now result.sent result.left }
 {
-    if run.infos[n as usize].owner as u32 != sender.owner {
+    let info = &run.infos[n as usize];
+    if info.owner as u32 != sender.owner {
         return at;
     }
-    let next = bring(rt, run, sender, at, n);
+    let next = if has_events_before(run.plan, sender.owner, at.next, n) {
+        events_before(rt, run, sender, at.next, n)
+    } else {
+        at.next
+    };
+    let at = Progress { next, ..at };
+    pass_before(run, sender, at, n);
+    let station = info.station as usize;
+    let table = &run.tables[station];
+    sender.seats[station].send(rt, table, n);
+    let times = opened_after(run.openings, n, at);
+    if times > 0 {
+        open_times(rt, run, &mut sender.seats, times);
+    }
     Progress {
         sent: at.sent + 1,
         next,

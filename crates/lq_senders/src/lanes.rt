@@ -6,7 +6,7 @@ ghost use Rattle.lq_senders.specs.Woken.{OtherCalls};
 ghost use Rattle.lq_model.specs.Device.{DeviceState};
 
 use crate::countdown::left_at_start;
-use crate::lane::{come_to, events_of, pass_last};
+use crate::lane::{come_to, events_before, pass_last};
 use crate::sender::{Progress, Run, Sender};
 use lq_device::TxDevice;
 use lq_gate::Gate;
@@ -33,7 +33,9 @@ fn events_left<'r, 'a, R: Wait, D: TxDevice, G: Gate>(
         → RunsAs D.state run.now next (events_on run.now next (length run.now.plan.now.events - next)) sender.old sender.new }
 {
     run.plan.stays_within_limits();
-    let _last = events_of(rt, run, sender, next, u32::MAX);
+    if sender.owner == 0 {
+        let _last = events_before(rt, run, sender, next, u32::MAX);
+    }
 }
 
 /// Sends a sender's packets. The first sender does the plan's events, each before its packets with that number or a higher one.
