@@ -1,11 +1,13 @@
 //! The text of the counts.
-ghost use Rattle.std.specs.Prelude.{◌≡◌, ◌++◌, IfOk, OnOk, length};
+ghost use Rattle.std.specs.Prelude.{◌≡◌, ◌++◌, ℕ, IfOk, List, OnOk, length};
 ghost use Rattle.lq_model.specs.Texts.{counts_text};
-ghost use Rattle.lq_fates.specs.Counts.{station_lines, station_text, total_text, unit_lines, unit_text, unsent_text};
+ghost use Rattle.lq_model.specs.declared.fate.Fate.{Fate};
+ghost use Rattle.lq_model.specs.declared.fate.Info.{Info};
+ghost use Rattle.lq_fates.specs.Counts.{AreCounts, station_lines, station_text, total_text, unit_lines, unit_text, unsent_text};
 
-use crate::counts::{Unsent, counts_of};
+use crate::counts::{Counts, Unsent};
 use crate::text::{push_bytes, push_counted};
-use lq_model::{Fate, Info, NoMemory};
+use lq_model::NoMemory;
 use std::alloc::Global;
 
 // The four counts at the end of a line.
@@ -62,26 +64,19 @@ fn push_stations(text: &mut Vec<u8>, counts: &[Unsent]) -> Result<(), NoMemory>
     Ok(())
 }
 
-/// The lines that tell the counts of these fates, where packet n goes to the station of the n-th info: what each
-/// unit sent, what each station didn't send, and the counts of all packets.
+/// The lines that tell these counts: what each unit sent, what each station didn't send, and the counts of all packets, of which there
+/// are `total`.
 ///
 /// # NoMemory
 ///
-/// There was no room for the counts or for the text.
-pub fn counts_text(
-    alloc: Global,
-    fates: &[Fate],
-    infos: &[Info],
-    stations: u32,
-    units: u32,
-) -> Result<Vec<u8>, NoMemory>
-    requires { length fates.now ≡ length infos.now }
-    ensures { IfOk result (λ text. text.items ≡ counts_text fates.now infos.now stations units) }
+/// There was no room for the text.
+pub fn counts_text(alloc: Global, counts: &Counts, total: usize) -> Result<Vec<u8>, NoMemory>
+    ensures { (fates : List Fate) (infos : List Info) (stations units : ℕ) → AreCounts fates infos stations units counts.now → total ≡ length fates
+        → IfOk result (λ text. text.items ≡ counts_text fates infos stations units) }
 {
-    let counts = counts_of(alloc, fates, infos, stations, units)?;
     let mut text = Vec::new(alloc);
     push_units(&mut text, &counts.by_unit)?;
     push_stations(&mut text, &counts.by_station)?;
-    push_total(&mut text, fates.len(), counts.sent, &counts.unsent)?;
+    push_total(&mut text, total, counts.sent, &counts.unsent)?;
     Ok(text)
 }

@@ -2,6 +2,7 @@
 ghost use Rattle.std.specs.Prelude.{◌≡◌, ◌^◌, ◌<◌, All, IfOk, length, replicate, []};
 ghost use Rattle.lq_fates.specs.Counts.{AreCounts, AreWithOne, CanCount, CanCountOneMore, counted_unsent, counted_by_station, counted_by_unit, none_unsent};
 
+use crate::fates::Fates;
 use lq_model::{Fate, Info, NoMemory};
 use std::alloc::Global;
 
@@ -21,6 +22,7 @@ const NONE: Unsent = Unsent {
     refused: 0,
 };
 
+/// Counts of the fates of a run's packets.
 #[derive(Drop)]
 pub struct Counts {
     /// What each unit sent.
@@ -106,19 +108,24 @@ fn no_counts(alloc: Global, stations: u32, units: u32) -> Result<Counts, NoMemor
 }
 
 /// The counts of packets with these fates, of which packet n goes to the station of the n-th info.
-pub fn counts_of(
+///
+/// # NoMemory
+///
+/// There was no room for them.
+pub fn counts_of<F: Fates>(
     alloc: Global,
-    fates: &[Fate],
+    fates: &F,
     infos: &[Info],
     stations: u32,
     units: u32,
 ) -> Result<Counts, NoMemory>
-    requires { length fates.now ≡ length infos.now }
-    ensures { IfOk result (λ counts. AreCounts fates.now infos.now stations units counts) }
+    requires { length (F.fates fates.now) ≡ length infos.now }
+    ensures { IfOk result (λ counts. AreCounts (F.fates fates.now) infos.now stations units counts) }
 {
     let mut counts = no_counts(alloc, stations, units)?;
-    for (n, fate) in fates.iter().enumerate() {
-        count_packet(&mut counts, fate, infos[n].station as u32);
+    for n in 0..fates.len() {
+        let fate = fates.fate(n);
+        count_packet(&mut counts, &fate, infos[n].station as u32);
     }
     Ok(counts)
 }

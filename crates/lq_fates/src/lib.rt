@@ -10,8 +10,9 @@ mod sent;
 mod text;
 
 pub use count_lines::counts_text;
-pub use fates::{fates_text, push_fate_line};
+pub use counts::{Counts, counts_of};
+pub use fates::{Fates, fates_text, push_fate_line};
 pub use laws::sent_is_that_list;
 pub use lq_model::{Cause, Fate, Info, NoMemory};
-pub use sent::sent_of;
+pub use sent::sent_by_units;
 pub use text::{push_bytes, push_counted, push_number};
