@@ -1,4 +1,4 @@
--- After a run each packet's fate can be read, and is read.
+-- After a run each packet's fate can be read, and stations lend their words.
 use Rattle.std.proofs.Common.{◌≡◌, ℕ, ◌+◌, ◌<◌, List, inl, inr, length, get_or, Option, Some, refl, sym, ap, ◌∙◌, subst, arith}
 use Rattle.std.specs.Option.{option_map_or}
 use Rattle.std.specs.Prelude.{slice_get, slice_index, slice_set}
@@ -9,7 +9,9 @@ use Rattle.lq_model.specs.Words.{IsWordOf}
 use Rattle.lq_model.specs.declared.fate.Fate.{Fate}
 use Rattle.lq_model.specs.declared.fate.Info.{Info}
 use Rattle.lq_seat.specs.State.{SeatState, Setup, seat_account}
-use Rattle.lq_senders.specs.Ends.{AreLent, AreFatesAmong, HasFateAmong, ClosedState, FatesRead, HasSentAll, IsClosedStation, IsLentBy, IsReadable}
+use Rattle.lq_senders.specs.Ends.{ClosedState, HasSentAll, IsClosedStation, IsReadable}
+use Rattle.lq_senders.specs.Told.{AreLent, IsLentBy}
+use Rattle.lq_table.specs.Ended.{EndedState}
 use Rattle.lq_senders.specs.Lanes.{IsSendable}
 use Rattle.lq_senders.proofs.Seats.{set-apart, set-here}
 use Rattle.lq_senders.proofs.Starts.{of-plan}
@@ -38,40 +40,17 @@ module _ (plan : Plan) (infos : List Info) (opens : ℕ → ℕ) (others : ℕ) 
     each = λ n x inside at. let is = as-closed n x inside at in let fate = fate-in plan infos is.0 x n inside is.1 in (fate.0, fate.2);
   }
 
--- READING
+-- LENT WORDS
 
 -- the words of one more station
-pub one-more-lent : (closed : List ClosedState) (count : ℕ) (lent : List (Option FateWords)) (y : ClosedState) (w : FateWords) → count < length lent → slice_get closed count ≡ Some y → IsLentBy y w
-    → AreLent closed count lent → AreLent closed (count + 1) (slice_set lent count (Some w))
-one-more-lent closed count lent y w room here is all = record {
-  each = λ station x below at. elim (below-or-at station count (omega (arith, below))) [
-    | inl less ↦ (let old = all.each station x less at in (old.0, set-apart lent count station (Some w) (λ same. omega (arith, less, same)) ∙ old.1, old.2))
-    | inr same ↦ (w, ap (slice_get (slice_set lent count (Some w))) same ∙ set-here lent count (Some w) room, subst (λ z. IsLentBy z w) (same_Some y x (sym here ∙ (ap (slice_get closed) (sym same) ∙ at))) is)
+pub one-more-lent : (ended : List EndedState) (count : ℕ) (lent : List (Option FateWords)) (y : EndedState) (w : FateWords) → count < length lent → slice_get ended count ≡ Some y → IsLentBy y w
+    → AreLent ended count lent → AreLent ended (count + 1) (slice_set lent count (Some w))
+one-more-lent ended count lent y w room here is all = record {
+  each = λ station e below at. elim (below-or-at station count (omega (arith, below))) [
+    | inl less ↦ (let old = all.each station e less at in (old.0, set-apart lent count station (Some w) (λ same. omega (arith, less, same)) ∙ old.1, old.2))
+    | inr same ↦ (w, ap (slice_get (slice_set lent count (Some w))) same ∙ set-here lent count (Some w) room, subst (λ z. IsLentBy z w) (same_Some y e (sym here ∙ (ap (slice_get ended) (sym same) ∙ at))) is)
   ];
 }
-
-module _ (infos : List Info) (closed : List ClosedState) (lent : List (Option FateWords)) (all : AreLent closed (length closed) lent) (readable : IsReadable infos closed) where
-  -- the closed table of the packet's station, and its words
-  lent-at : (n : ℕ) → n < length infos → (x : ClosedState) × (slice_get closed (station_in infos n) ≡ Some x) × ((w : FateWords) × (slice_get lent (station_in infos n) ≡ Some (Some w)) × IsLentBy x w)
-  lent-at n inside =
-      let x = event-there closed (station_in infos n) (readable.stations n inside) in
-      (x.0, x.1, all.each (station_in infos n) x.0 (readable.stations n inside) x.1)
-
-  pub has-fate-among : (n : ℕ) → n < length infos → HasFateAmong infos lent n
-  has-fate-among n inside =
-      let at = lent-at n inside in
-      let w = at.2.0 in
-      let is = at.2.2 in
-      let fate = readable.each n at.0 inside at.1 in
-      (w, at.2.1, (let packets = readable.packets n at.0 inside at.1 in let same = is.packets in omega arith), (fate.0, subst (λ words. IsWordOf fate.0 (slice_index words n)) (sym is.fates) fate.1))
-
-  pub all-read : (fates : List Fate) → length fates ≡ length infos → AreFatesAmong infos lent fates → FatesRead infos closed (length infos) fates
-  all-read fates long read = record {
-    so_many = long;
-    each = λ n x fate at there.
-        let w = all.each (station_in infos n) x (slice_get_within closed (station_in infos n) x at) at in
-        subst (λ words. IsWordOf fate (slice_index words n)) (w.2.fates) (read n fate there w.0 w.1);
-  }
 
 -- a packet's station, read off the list; and what lies at the station's place
 module _ (infos : List Info) (lent : List (Option FateWords)) (n : ℕ) (d : Info) (inside : n < length infos) (w : FateWords) (at : slice_get lent (station_in infos n) ≡ Some (Some w)) where

@@ -111,25 +111,22 @@ pub record HasRun (plan : Plan) (infos : List Info) (opens : ℕ → ℕ) (IsBen
       → (j : ℕ) (x : ClosedState) → slice_get closed j ≡ Some x → IsEndedAs plan infos fates j x.ended
   pub boxes : (before after : List DeviceState) → IsBench before → AreBack plan closed spares after → SameBoxes plan before after
 
--- What is given back of a run, before the devices that are left in the bench: the fates that were read, as they are laid out, and
--- the devices in the order of units.
+-- What is given back of a run, before the devices that are left in the bench: the fates that were read, and the devices in the
+-- order of units.
 pub record IsGivenBack (plan : Plan) (infos : List Info) (closed : List ClosedState)
-    (spares rest after : List DeviceState) (fates laid : List Fate) : Type 0 where
+    (spares rest after : List DeviceState) (fates : List Fate) : Type 0 where
   pub read : FatesRead infos closed (length infos) fates
-  pub all : laid ≡ fates
   pub bench : after ≡ by_unit plan (map home_device closed) spares ++ rest
   pub many : length after ≡ unit_count plan + length rest
 
 module _ {plan : Plan} {infos : List Info} {opens : ℕ → ℕ} {IsBench : List DeviceState → Type 0} {closed : List ClosedState}
-    {spares rest after : List DeviceState} {fates laid : List Fate}
-    (run : HasRun plan infos opens IsBench closed spares) (back : IsGivenBack plan infos closed spares rest after fates laid) where
-  pub fates-given : (before : List DeviceState) → IsBench before → AreFatesOf plan infos opens laid before after
-  fates-given before bench = subst (λ (given : List Fate). AreFatesOf plan infos opens given before after) (sym back.all)
-      (run.fates before after fates bench back.read (are-back plan closed spares after rest back.bench))
+    {spares rest after : List DeviceState} {fates : List Fate}
+    (run : HasRun plan infos opens IsBench closed spares) (back : IsGivenBack plan infos closed spares rest after fates) where
+  pub fates-given : (before : List DeviceState) → IsBench before → AreFatesOf plan infos opens fates before after
+  fates-given before bench = run.fates before after fates bench back.read (are-back plan closed spares after rest back.bench)
 
-  pub stays-given : (ended : List EndedState) → ended ≡ map (λ (x : ClosedState). x.ended) closed → AreEnded plan infos laid ended
-  stays-given ended is = subst (λ (given : List Fate). AreEnded plan infos given ended) (sym back.all)
-      (stays-are plan infos fates closed ended run.one_a_station is (run.ended fates back.read))
+  pub stays-given : (ended : List EndedState) → ended ≡ map (λ (x : ClosedState). x.ended) closed → AreEnded plan infos fates ended
+  stays-given ended is = stays-are plan infos fates closed ended run.one_a_station is (run.ended fates back.read)
 
   pub boxes-given : (before : List DeviceState) → IsBench before → unit_count plan ≤ length before
       → identities_of after ≡ take (unit_count plan) (identities_of before) ++ identities_of rest

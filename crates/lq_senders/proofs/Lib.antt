@@ -60,6 +60,8 @@ pub mod Untouched
 pub mod FatesOfRun
 -- each packet's fate can be read
 pub mod FatesRead
+-- the fates that words tell
+pub mod WordsTold
 -- the fates that a whole run leaves
 pub mod Leaves
 -- the devices that swaps bring are configured

@@ -15,11 +15,10 @@ use Rattle.lq_model.specs.declared.fate.Fate.{Fate}
 use Rattle.lq_model.specs.declared.fate.Info.{Info}
 use Rattle.lq_plan.specs.Limits.{IsWithinLimits}
 use Rattle.lq_table.specs.declared.ended.Closed.{Closed}
-use Rattle.lq_table.specs.declared.ended.FateWords.{FateWords}
 use Rattle.lq_seat.specs.Ends.{HasDecidedAll, PurgesHungOnly, HungOnly, IsSoundAtClose}
 use Rattle.lq_seat.specs.State.{new_seat, SeatState, TableState, IsTableOf, setup_of, IsHere, HasAllOf, seat_account, no_station, HangsWhere, IsCallOf, latest_unit, units_of, closed_home}
 use Rattle.lq_senders.specs.Fates.{AllTell}
-use Rattle.lq_table.specs.Ended.{EndedState, ended_state, lent_fates}
+use Rattle.lq_table.specs.Ended.{EndedState, ended_state}
 use Rattle.lq_senders.specs.Lanes.{AllOwn, AreRunAlone, after_sending}
 use Rattle.lq_senders.specs.Units.{DevicesStand, DoTell, by_unit, unit_at}
 use Rattle.lq_senders.specs.Way.{down_after_events}
@@ -110,26 +109,6 @@ pub record IsReadable (infos : List Info) (closed : List ClosedState) : Type 0 w
   pub stations : (n : ℕ) → n < length infos → station_in infos n < length closed
   pub packets : (n : ℕ) (x : ClosedState) → n < length infos → slice_get closed (station_in infos n) ≡ Some x → n < x.ended.packets
   pub each : (n : ℕ) (x : ClosedState) → n < length infos → slice_get closed (station_in infos n) ≡ Some x → (fate : Fate) × IsWordOf fate (slice_index x.ended.words n)
-
--- the fate words that a station's closed table lends
-pub record IsLentBy (x : ClosedState) (w : FateWords) : Type 0 where
-  pub packets : w.packets ≡ x.ended.packets
-  pub fates : lent_fates w ≡ x.ended.words
-
--- those of the first so many stations, each at the station's number
-pub record AreLent (closed : List ClosedState) (count : ℕ) (lent : List (Option FateWords)) : Type 0 where
-  pub each : (station : ℕ) (x : ClosedState) → station < count → slice_get closed station ≡ Some x → (w : FateWords) × (slice_get lent station ≡ Some (Some w)) × IsLentBy x w
-
--- the packet has a fate among the words of its station
-abbrev pub HasFateAmong : List Info → List (Option FateWords) → ℕ → Type 0
-HasFateAmong infos lent n = (w : FateWords) × (slice_get lent (station_in infos n) ≡ Some (Some w)) × (n < w.packets) × ((fate : Fate) × IsWordOf fate (slice_index (lent_fates w) n))
-
--- it is this one
-abbrev pub IsFateAmong : List Info → List (Option FateWords) → ℕ → Fate → Type 0
-IsFateAmong infos lent n fate = (w : FateWords) → slice_get lent (station_in infos n) ≡ Some (Some w) → IsWordOf fate (slice_index (lent_fates w) n)
-
-abbrev pub AreFatesAmong : List Info → List (Option FateWords) → List Fate → Type 0
-AreFatesAmong infos lent fates = (n : ℕ) (fate : Fate) → slice_get fates n ≡ Some fate → IsFateAmong infos lent n fate
 
 -- the fates of the first so many packets were read
 pub record FatesRead (infos : List Info) (closed : List ClosedState) (count : ℕ) (fates : List Fate) : Type 0 where

@@ -12,6 +12,10 @@ pub mod Lanes
 pub mod Joins
 -- what the fates of a run are, what its devices did, and what stays of its stations
 pub mod Fates
+-- the fates that the words of stations tell
+pub mod Told
+-- those that are read off stations that have ended
+pub mod RunFates
 -- what a run leaves at its end
 pub mod Ends
 -- what a run begins with

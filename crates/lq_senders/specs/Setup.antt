@@ -119,15 +119,14 @@ pub record AreEmptyLanes {D : Type 0} (plan : Plan) (lanes : List (Sender D)) : 
 
 -- ROOM
 
--- empty lists, with room for the seats of the other senders and the stations, and a place for the fate of each packet
-pub record HasRoomForRun {D : Type 0} {g : Ghosts D} (plan : Plan) (packets : ℕ) (room : Room D g) : Type 0 where
+-- empty lists, with room for the seats of the other senders and the stations
+pub record HasRoomForRun {D : Type 0} {g : Ghosts D} (plan : Plan) (room : Room D g) : Type 0 where
   pub others : AreEmptyLanes plan room.others.items
   pub none_closed : room.closed.items ≡ []
   pub no_home : room.homes.items ≡ []
   pub none_ended : room.ended.items ≡ []
   pub closed : length plan.stations ≤ vec_capacity room.closed
   pub homes : length plan.stations ≤ vec_capacity room.homes
-  pub fates : length room.fates.items ≡ packets
   pub ended : length plan.stations ≤ vec_capacity room.ended
 
 -- no unit's device, with room for all of them

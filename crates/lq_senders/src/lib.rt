@@ -25,6 +25,7 @@ pub use laws::{
     same_openings_make_same_fates, stations_run_apart,
 };
 pub use lq_gate::{Free, Gate, Resources};
+pub use read::RunFates;
 pub use send::send_all;
 pub use sender::{Job, Progress, Run, Sender, Senders};
 pub use undo::undo_swaps;

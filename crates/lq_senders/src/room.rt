@@ -1,19 +1,16 @@
 //! The memory of a run but that of its units, which is all taken before a device leaves the bench.
-ghost use Rattle.std.specs.Prelude.{IfOk, length};
+ghost use Rattle.std.specs.Prelude.{IfOk};
 ghost use Rattle.lq_senders.specs.Setup.{HasRoomForRun};
 
 use crate::sender::Sender;
 use crate::setup::{lanes_for, room_for};
 use lq_device::TxDevice;
-use lq_model::{Fate, Info, NoMemory};
+use lq_model::NoMemory;
 use lq_plan::Plan;
 use lq_table::{Closed, Ended};
 use std::alloc::Global;
 
-/// What stands at a packet's place until its fate is read.
-const NOT_READ: Fate = Fate::Refused { event: 0 };
-
-/// Empty lists, with room for what a run lays into them, and a place for the fate of each packet.
+/// Empty lists, with room for what a run lays into them.
 #[derive(Drop)]
 pub struct Room<D: TxDevice> {
     /// The senders but the first, each with room for its seats.
@@ -22,24 +19,15 @@ pub struct Room<D: TxDevice> {
     pub closed: Vec<Closed<D>>,
     /// The devices that come out of them.
     pub homes: Vec<D>,
-    /// The places of the packets' fates.
-    pub fates: Vec<Fate>,
     /// What stays of each station.
     pub ended: Vec<Ended<D>>,
 }
 
-/// Takes the memory of a run of so many packets.
-pub fn take_room<D: TxDevice>(
-    alloc: Global,
-    plan: &Plan,
-    infos: &[Info],
-) -> Result<Room<D>, NoMemory>
-    ensures { IfOk result (λ room. HasRoomForRun plan.now (length infos.now) room) }
+/// Takes the memory of a run.
+pub fn take_room<D: TxDevice>(alloc: Global, plan: &Plan) -> Result<Room<D>, NoMemory>
+    ensures { IfOk result (λ room. HasRoomForRun plan.now room) }
 {
     let count = plan.stations() as usize;
-    let Ok(fates) = vec![in alloc; NOT_READ; infos.len()] else {
-        return Err(NoMemory);
-    };
     let others = lanes_for(alloc, plan)?;
     let closed = room_for(alloc, count)?;
     let ended = room_for(alloc, count)?;
@@ -48,7 +36,6 @@ pub fn take_room<D: TxDevice>(
         others,
         closed,
         homes,
-        fates,
         ended,
     })
 }

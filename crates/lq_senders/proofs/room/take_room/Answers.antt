@@ -1,4 +1,4 @@
-use Rattle.std.proofs.Common.{sym, ◌∙◌, arith}
+use Rattle.std.proofs.Common.{arith}
 use Rattle.lq_senders.proofs.room.take_room.Goals as goal
 
 pub returns : goal.returns
@@ -11,6 +11,5 @@ returns g c =
       none_ended = c.in_ok-ended.ensures.empty;
       closed = let room = c.in_ok-closed.ensures.room in omega arith;
       homes = let room = c.in_ok-homes.ensures.room in omega arith;
-      fates = sym c.in-Ok.fates.ok.0 ∙ c.in-Ok.ensures.len;
       ended = let room = c.in_ok-ended.ensures.room in omega arith;
     }

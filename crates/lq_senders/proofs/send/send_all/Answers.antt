@@ -1,6 +1,8 @@
 use Rattle.std.proofs.Common.{refl, ◌∙◌, map}
 use Rattle.lq_model.specs.Plan.{unit_count}
+use Rattle.lq_senders.specs.Told.{fates_told}
 use Rattle.lq_senders.specs.Woken.{opens_by}
+use Rattle.lq_table.specs.Ended.{ended_state}
 use Rattle.lq_senders.proofs.Openings.{boxes-whole}
 use Rattle.lq_senders.proofs.send.send_all.Goals as goal
 
@@ -16,17 +18,17 @@ invariant_of-job g c = record {
 pub returns-clause-fates : goal.returns-clause-fates
 returns-clause-fates g c opens are =
     let plan = c.args.plan.now in let infos = c.args.infos.now in let before = map g.D.TxDevice.state c.args.bench.now.items in
-    c.same_openings_make_same_fates.ensures plan infos (opens_by c.args.openings.now infos) opens c.send_ready-left.result.fates.items before
-    (map g.D.TxDevice.state c.send_ready-left.new.bench.items) are (c.send_ready-left.ensures.fates before c.in_ok-units.ensures.ready)
+    c.same_openings_make_same_fates.ensures plan infos (opens_by c.args.openings.now infos) opens (fates_told infos (map ended_state c.send_ready.result.items)) before
+    (map g.D.TxDevice.state c.send_ready.new.bench.items) are (c.send_ready.ensures.fates before c.in_ok-units.ensures.ready)
 
 pub returns-clause-others : goal.returns-clause-others
-returns-clause-others g c = c.send_ready-left.ensures.rest ∙ c.in_ok-units.ensures.rest
+returns-clause-others g c = c.send_ready.ensures.rest ∙ c.in_ok-units.ensures.rest
 
 pub returns-clause-boxes : goal.returns-clause-boxes
 returns-clause-boxes g c =
-    boxes-whole g.D.TxDevice.state (unit_count c.args.plan.now) c.args.bench.now.items c.args.bench.now.items c.make_ready.new.bench.items c.send_ready-left.new.bench.items
+    boxes-whole g.D.TxDevice.state (unit_count c.args.plan.now) c.args.bench.now.items c.args.bench.now.items c.make_ready.new.bench.items c.send_ready.new.bench.items
     c.in_ok-units.ensures.rest refl
-    (c.send_ready-left.ensures.boxes (map g.D.TxDevice.state c.args.bench.now.items) c.in_ok-units.ensures.ready)
+    (c.send_ready.ensures.boxes (map g.D.TxDevice.state c.args.bench.now.items) c.in_ok-units.ensures.ready)
 
 pub make_ready-requires-clause-devices : goal.make_ready-requires-clause-devices
 make_ready-requires-clause-devices g c κs within = c.requires.units
@@ -43,17 +45,17 @@ returns-in_err-units-clause-len g c = c.in_err-units.ensures.len
 pub returns-in_err-units-clause-boxes : goal.returns-in_err-units-clause-boxes
 returns-in_err-units-clause-boxes g c = c.in_err-units.ensures.boxes
 
-pub send_ready-left-requires-clause-ready : goal.send_ready-left-requires-clause-ready
-send_ready-left-requires-clause-ready g c κs within = (map g.D.TxDevice.state c.args.bench.now.items, c.in_ok-units.ensures.ready)
+pub send_ready-requires-clause-ready : goal.send_ready-requires-clause-ready
+send_ready-requires-clause-ready g c κs within = (map g.D.TxDevice.state c.args.bench.now.items, c.in_ok-units.ensures.ready)
 
-pub send_ready-left-requires-clause-room : goal.send_ready-left-requires-clause-room
-send_ready-left-requires-clause-room g c κs within = c.in_ok-room.ensures
+pub send_ready-requires-clause-room : goal.send_ready-requires-clause-room
+send_ready-requires-clause-room g c κs within = c.in_ok-room.ensures
 
-pub send_ready-left-requires-clause-bench_room : goal.send_ready-left-requires-clause-bench_room
-send_ready-left-requires-clause-bench_room g c κs within = c.in_ok-units.ensures.back_room
+pub send_ready-requires-clause-bench_room : goal.send_ready-requires-clause-bench_room
+send_ready-requires-clause-bench_room g c κs within = c.in_ok-units.ensures.back_room
 
 pub returns-clause-ended : goal.returns-clause-ended
-returns-clause-ended g c = c.send_ready-left.ensures.ended
+returns-clause-ended g c = c.send_ready.ensures.ended
 
 pub returns-clause-len : goal.returns-clause-len
-returns-clause-len g c = c.send_ready-left.ensures.len ∙ c.in_ok-units.ensures.less
+returns-clause-len g c = c.send_ready.ensures.len ∙ c.in_ok-units.ensures.less

@@ -1,9 +1,10 @@
-use Rattle.std.proofs.Common.{◌++◌, List, drop, take, length, sym, ap, ◌∙◌, subst, arith, map}
-use Rattle.std.proofs.lemmas.List.{length-map, take_at}
+use Rattle.std.proofs.Common.{◌++◌, ◌≤◌, List, length, sym, ap, ◌∙◌, subst, arith, map}
+use Rattle.std.proofs.lemmas.List.{length-map}
 use Rattle.lq_model.specs.Device.{DeviceState}
 use Rattle.lq_seat.specs.State.{TableState}
 use Rattle.lq_senders.specs.Ends.{AreOver, ClosedState, FatesRead, IsReadable, closed_state, home_device}
-use Rattle.lq_table.specs.Ended.{ended_state}
+use Rattle.lq_senders.specs.Told.{TellEach, fates_told}
+use Rattle.lq_table.specs.Ended.{EndedState, ended_state}
 use Rattle.lq_table.specs.declared.ended.Closed.{Closed}
 use Rattle.lq_senders.specs.Lanes.{AreReadyLanes}
 use Rattle.lq_senders.specs.Setup.{AreSplitting, AreUnitsReady}
@@ -11,6 +12,7 @@ use Rattle.lq_senders.specs.Units.{by_unit}
 use Rattle.lq_senders.specs.Woken.{opens_by}
 use Rattle.lq_senders.proofs.HandsBack.{HasRun, IsGivenBack, at-home, boxes-given, closed-many, fates-given, stays-given}
 use Rattle.lq_senders.proofs.Prepared.{are-over}
+use Rattle.lq_senders.proofs.WordsTold.{tell-each, told-read}
 use Rattle.lq_senders.proofs.Splits.{are-first, lane-stands, splitting-opened}
 use Rattle.lq_senders.proofs.send.send_ready.Given as given
 use Rattle.lq_senders.proofs.send.send_ready.Goals as goal
@@ -86,20 +88,6 @@ has_run g c =
           sent (over g split before ready);
     }
 
-pub read_fates-requires-clause-stations : goal.read_fates-requires-clause-stations
-read_fates-requires-clause-stations g c κs within =
-    let many = (has_run g (goal.at.read_fates-requires-clause-stations g c).After-runs_keep_boxes).one_a_station in
-    let long = length-map c.run-spares.new.closed.items closed_state in
-    let same = ap length c.as_slice-2.ensures.value in let few = c.stays_within_limits.ensures.stations in omega arith
-
-pub read_fates-requires-clause-readable : goal.read_fates-requires-clause-readable
-read_fates-requires-clause-readable g c κs within =
-    subst (λ (xs : List _). IsReadable c.args.job.now.infos.now (closed_states g xs)) (sym c.as_slice-2.ensures.value)
-    (has_run g (goal.at.read_fates-requires-clause-readable g c).After-runs_keep_boxes).readable
-
-pub read_fates-requires-clause-places : goal.read_fates-requires-clause-places
-read_fates-requires-clause-places g c κs within = ap length c.as_mut_slice.ensures.value ∙ c.requires.room.fates
-
 pub take_apart-requires-clause-home : goal.take_apart-requires-clause-home
 take_apart-requires-clause-home g c κs within = (has_run g (goal.at.take_apart-requires-clause-home g c).After-runs_keep_boxes).home
 
@@ -122,18 +110,21 @@ hand_back-requires-clause-spares g c κs within =
 
 -- WHAT IS GIVEN BACK
 
-given_back : (g : given.Over) (c : After-hand_back g) → IsGivenBack c.args.job.now.plan.now c.args.job.now.infos.now
+-- what stays of the stations, as it is laid out
+abbrev stays : (g : given.Over) → After-hand_back g → List EndedState
+stays g c = map (ended_state {D = g.row.D.Denot} {g = g.D.TxDevice}) c.take_apart.new.ended.items
+
+given_back : (g : given.Over) (c : After-hand_back g) → IsReadable c.args.job.now.infos.now (closed_states g c.run-spares.new.closed.items)
+    → IsGivenBack c.args.job.now.plan.now c.args.job.now.infos.now
     (closed_states g c.run-spares.new.closed.items) (map g.D.TxDevice.state c.run-spares.result.items)
-    (map g.D.TxDevice.state c.args.bench.now.items) (map g.D.TxDevice.state c.hand_back.new.bench.items) c.read_fates.new.fates
-    (take c.args.room.fates.len (c.read_fates.new.fates ++ drop (length c.read_fates.new.fates) c.args.room.fates.items))
-given_back g c =
-    let plan = c.args.job.now.plan.now in let infos = c.args.job.now.infos.now in let fates = c.read_fates.new.fates in
+    (map g.D.TxDevice.state c.args.bench.now.items) (map g.D.TxDevice.state c.hand_back.new.bench.items)
+    (fates_told c.args.job.now.infos.now (stays g c))
+given_back g c readable =
+    let plan = c.args.job.now.plan.now in let infos = c.args.job.now.infos.now in let closed = closed_states g c.run-spares.new.closed.items in
     let state = g.D.TxDevice.state in let rest = c.args.bench.now.items in let after = c.hand_back.new.bench.items in
     record {
-      read = subst (λ (xs : List _). FatesRead infos (closed_states g xs) (length infos) fates) c.as_slice-2.ensures.value
-          c.read_fates.ensures;
-      all = let same = c.read_fates.auto.fates in let long = c.as_mut_slice.ensures.len in
-          take_at fates (drop (length fates) c.args.room.fates.items) c.args.room.fates.len (omega arith);
+      read = subst (λ (ended : List EndedState). FatesRead infos closed (length infos) (fates_told infos ended)) (sym c.take_apart.ensures.ended)
+          (told-read infos closed readable);
       bench = c.hand_back.ensures.states
           ∙ ap (λ homes. by_unit plan homes (map state c.run-spares.result.items) ++ map state rest) c.take_apart.ensures.homes;
       many = let len = c.hand_back.ensures.len in let ok = c.hand_back.new.bench.ok.0 in let ok' = c.args.bench.now.ok.0 in
@@ -141,12 +132,19 @@ given_back g c =
     }
 
 pub returns-clause-fates : goal.returns-clause-fates
-returns-clause-fates g c = fates-given (has_run g (goal.at.returns-clause-fates g c).After-runs_keep_boxes) (given_back g c)
+returns-clause-fates g c = let run = has_run g (goal.at.returns-clause-fates g c).After-runs_keep_boxes in fates-given run (given_back g c run.readable)
 
 pub returns-clause-ended : goal.returns-clause-ended
-returns-clause-ended g c = stays-given (has_run g (goal.at.returns-clause-ended g c).After-runs_keep_boxes) (given_back g c)
-    (map (ended_state {D = g.row.D.Denot} {g = g.D.TxDevice}) c.take_apart.new.ended.items) c.take_apart.ensures.ended
+returns-clause-ended g c =
+    let run = has_run g (goal.at.returns-clause-ended g c).After-runs_keep_boxes in stays-given run (given_back g c run.readable) (stays g c) c.take_apart.ensures.ended
+
+pub returns-clause-told : goal.returns-clause-told
+returns-clause-told g c =
+    let run = has_run g (goal.at.returns-clause-told g c).After-runs_keep_boxes in
+    let stations : length (closed_states g c.run-spares.new.closed.items) ≤ 8 = (let many = run.one_a_station in let few = c.stays_within_limits.ensures.stations in omega arith) in
+    subst (TellEach c.args.job.now.infos.now) (sym c.take_apart.ensures.ended)
+    (tell-each c.args.job.now.infos.now (closed_states g c.run-spares.new.closed.items) run.readable c.args.job.now.sendable.few stations)
 
 pub returns-clause-boxes : goal.returns-clause-boxes
 returns-clause-boxes g c before ready =
-    boxes-given (has_run g (goal.at.returns-clause-boxes g c).After-runs_keep_boxes) (given_back g c) before ready ready.units
+    let run = has_run g (goal.at.returns-clause-boxes g c).After-runs_keep_boxes in boxes-given run (given_back g c run.readable) before ready ready.units
