@@ -10,7 +10,8 @@ pub files_written-append : (s : HostState) (xs ys : List FileText) → files_wri
 files_written-append s [] ys = refl
 files_written-append s (x ∷ xs) ys = files_written-append (filed s x.name x.text) xs ys
 
-cut_none : (ys : List FileText) (old new : HostState) → new ≡ old → FilesAreCut ys old new
+-- before the first one
+pub cut_none : (ys : List FileText) (old new : HostState) → new ≡ old → FilesAreCut ys old new
 cut_none [] old new same = same
 cut_none (y ∷ ys) old new same = inl (inl same)
 

@@ -14,6 +14,8 @@ pub mod NumberLemmas
 pub mod ParseLemmas
 -- the command table as clap reads it
 pub mod CommandLemmas
+-- what each unit sent, list by list
+pub mod SentLists
 -- the files and the lines of multi-queue roots
 pub mod GroupLemmas
 -- what their children sent

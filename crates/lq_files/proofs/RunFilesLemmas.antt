@@ -1,6 +1,8 @@
 -- What is written of a run and of a tap, from what its parts are.
-use Rattle.std.proofs.Common.{◌≡◌, ◌⊎◌, ◌++◌, ◌∷◌, [], ℕ, List, sym, ap, ◌∙◌, subst, inl, inr}
-use Rattle.lq_model.specs.Plan.{infos_of, unit_count}
+use Rattle.std.proofs.Common.{◌≡◌, ◌⊎◌, ◌++◌, ◌∷◌, [], ℕ, List, length, refl, sym, ap, ◌∙◌, subst, inl, inr}
+use Rattle.lq_fates.specs.Counts.{AreCounts}
+use Rattle.lq_fates.specs.declared.counts.Counts.{Counts}
+use Rattle.lq_model.specs.Plan.{Plan, infos_of, unit_count}
 use Rattle.lq_model.specs.Texts.{fates_text}
 use Rattle.lq_model.specs.declared.fate.Fate.{Fate}
 use Rattle.lq_model.specs.declared.fate.Info.{Info}
@@ -13,7 +15,14 @@ use Rattle.lq_files.specs.Groups.{group_files}
 use Rattle.lq_files.specs.RunFiles.{Run, counts_output, fates_name, unit_files, texts_of}
 use Rattle.lq_files.specs.TapFiles.{read_name, tap_texts_of}
 use Rattle.lq_files.specs.Written.{FileText, FileIsCut, FilesAreCut, OutputHasPrefix, IsCut, files_written, written}
-use Rattle.lq_files.proofs.FileLemmas.{cut_after, cut_before, cut_next, cut_whole, files_written-append, whole_next}
+use Rattle.lq_files.proofs.FileLemmas.{cut_after, cut_before, cut_next, cut_none, cut_whole, files_written-append, whole_next}
+
+-- the counts of a plan's stations and units
+pub counts_of_plan :
+    (plan : Plan) (fates : List Fate) (infos : List Info) (stations units : ℕ) (counts : Counts) → stations ≡ length plan.stations → units ≡ unit_count plan
+    → AreCounts fates infos stations units counts → AreCounts fates infos (length plan.stations) (unit_count plan) counts
+counts_of_plan plan fates infos stations units counts all_stations all_units are =
+    subst (λ s. AreCounts fates infos s (unit_count plan) counts) all_stations (subst (λ u. AreCounts fates infos stations u counts) all_units are)
 
 -- the files of the units, of as many as the plan needs, and of the multi-queue roots
 abbrev files_of_units : Run → List Fate → ℕ → List FileText
@@ -24,6 +33,10 @@ files_of_groups run fates = group_files run.out run.capture run.plan fates
 
 abbrev file_of_fates : Run → List Fate → FileText
 file_of_fates run fates = record { name = fates_name run.out; text = fates_text fates }
+
+-- it was stopped before the first file
+pub stopped_first : (run : Run) (fates : List Fate) (old : HostState) → IsCut (texts_of run fates) old old
+stopped_first run fates old = inl (cut_none (texts_of run fates).files old old refl)
 
 -- it was stopped in the units' files
 pub stopped_in_units :

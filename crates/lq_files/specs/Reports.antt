@@ -1,26 +1,26 @@
 -- What the code hands on of a run and of a tap, as the definitions of what is written have it.
 use Rattle.std.specs.Prelude.{ℕ, List}
+use Rattle.lq_model.specs.declared.fate.Fate.{Fate}
 use Rattle.lq_files.specs.Groups.{group_files}
 use Rattle.lq_files.specs.RunFiles.{Run, run_of, texts_of, unit_files}
 use Rattle.lq_files.specs.TapFiles.{tap_texts_of}
 use Rattle.lq_files.specs.Written.{FileText, Texts}
 use Rattle.lq_files.specs.declared.report.RunInputs.{RunInputs}
-use Rattle.lq_files.specs.declared.report.RunReport.{RunReport}
 use Rattle.lq_files.specs.declared.report.TapReport.{TapReport}
 
 abbrev pub run_of_inputs : RunInputs → Run
 run_of_inputs run = run_of run.out.now run.plan.now run.capture.now
 
--- THE FILES OF A RUN
+-- THE FILES OF A RUN with these fates
 
-abbrev pub unit_files_of : RunReport → ℕ → List FileText
-unit_files_of report units = unit_files report.run.out.now report.run.capture.now report.fates.now units
+abbrev pub unit_files_of : RunInputs → List Fate → ℕ → List FileText
+unit_files_of run fates units = unit_files run.out.now run.capture.now fates units
 
-abbrev pub group_files_of : RunReport → List FileText
-group_files_of report = group_files report.run.out.now report.run.capture.now report.run.plan.now report.fates.now
+abbrev pub group_files_of : RunInputs → List Fate → List FileText
+group_files_of run fates = group_files run.out.now run.capture.now run.plan.now fates
 
-abbrev pub run_texts : RunReport → Texts
-run_texts report = texts_of (run_of_inputs report.run) report.fates.now
+abbrev pub run_texts : RunInputs → List Fate → Texts
+run_texts run fates = texts_of (run_of_inputs run) fates
 
 -- THE FILES OF A TAP
 

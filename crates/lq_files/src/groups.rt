@@ -1,10 +1,10 @@
 //! What the children of a multi-queue root sent together: the file of each root, and the line that counts it.
-ghost use Rattle.std.specs.Prelude.{◌≡◌, ◌++◌, ◌∷◌, [], ◌+◌, ◌<◌, ◌≤◌, ◌^◌, ℕ, IfOk, OnErr, OnOk, count_by, length, map, nat_lt, string_bytes};
+ghost use Rattle.std.specs.Prelude.{◌≡◌, ◌++◌, ◌<◌, ◌≤◌, ◌^◌, ℕ, IfOk, List, OnErr, OnOk, count_by, length, map, nat_lt, string_bytes};
 ghost use Rattle.lq_host.specs.Host.{filed};
-ghost use Rattle.lq_model.specs.Numbers.{first_numbers};
-ghost use Rattle.lq_model.specs.Plan.{first_at, mq_at};
-ghost use Rattle.lq_model.specs.Sent.{sent_of};
+ghost use Rattle.lq_model.specs.Plan.{mq_at};
 ghost use Rattle.lq_model.specs.Settled.{AreSerials};
+ghost use Rattle.lq_model.specs.declared.fate.Fate.{Fate};
+ghost use Rattle.lq_fates.specs.Sent.{sent_by_units};
 ghost use Rattle.lq_pcapng.specs.File.{packets_of_file, text_of};
 ghost use Rattle.lq_plan.specs.Limits.{max_stations};
 ghost use Rattle.lq_files.specs.Reports.{group_files_of};
@@ -16,7 +16,7 @@ use crate::answer::Stop;
 use crate::report::RunReport;
 use crate::source::Packets;
 use crate::write::write_packets_file;
-use lq_fates::{push_bytes, sent_of};
+use lq_fates::{Fates, push_bytes};
 use lq_host::Host;
 use lq_model::{Fate, NoMemory};
 use lq_mq::{joint, mq_text};
@@ -32,68 +32,49 @@ fn name_of_group_capture(alloc: Global, out: &str, j: u32) -> Result<String, All
     format!(in alloc; "{out}.mq{j}.pcap")
 }
 
-fn push_list(lists: &mut Vec<Vec<u32>>, list: Vec<u32>) -> Result<(), NoMemory>
-    ensures { OnOk result (lists.new.items ≡ lists.old.items ++ list ∷ []) }
-{
-    lists.push(list).map_err(|_| NoMemory)
-}
-
-/// The packets that each child of group `j` sent, in order of serial.
-fn sent_by_children(
+/// The packets that the children of group `j` sent, by serial, and at one serial by child. List u of `sent` has those that unit u sent.
+fn sent_by_group(
     alloc: Global,
     plan: &Plan,
-    fates: &[Fate],
+    sent: &[Vec<u32>],
     j: u32,
-) -> Result<Vec<Vec<u32>>, NoMemory>
+) -> Result<Vec<u32>, NoMemory>
     requires group { j < length plan.now.groups }
-    requires serials { (unit : ℕ) → AreSerials fates.now unit }
-    ensures { IfOk result (λ lists. map (λ list. list.items) lists.items
-        ≡ map (λ k. sent_of fates.now (first_at plan.now.groups j + k)) (first_numbers (mq_at plan.now.groups j))) }
+    requires units { length plan.now.stations ≤ length sent.now }
+    ensures { (fates : List Fate) → map (λ list. list.items) sent.now ≡ sent_by_units fates (length sent.now)
+        → IfOk result (λ all. all.items ≡ sent_by_group plan.now fates j) }
 {
-    let first = plan.first(j);
-    let mut lists = Vec::new(alloc);
-    for k in 0..plan.mq(j) {
-        let sent = sent_of(alloc, fates, first + k)?;
-        push_list(&mut lists, sent)?;
-    }
-    Ok(lists)
-}
-
-/// The packets that the children of group `j` sent, by serial, and at one serial by child. Beside the list that it makes it needs
-/// the children's own, of one number for each packet.
-fn sent_by_group(alloc: Global, plan: &Plan, fates: &[Fate], j: u32) -> Result<Vec<u32>, NoMemory>
-    requires group { j < length plan.now.groups }
-    requires serials { (unit : ℕ) → AreSerials fates.now unit }
-    ensures { IfOk result (λ all. all.items ≡ sent_by_group plan.now fates.now j) }
-{
-    let lists = sent_by_children(alloc, plan, fates, j)?;
-    joint(alloc, &lists)
+    let first = plan.first(j) as usize;
+    joint(alloc, &sent[first..first + plan.mq(j) as usize])
 }
 
 /// Makes the file of group `j`: the capture of the packets that its children sent.
-fn write_group<R: Threads + Sync, H: Host>(
+fn write_group<R: Threads + Sync, H: Host, F: Fates>(
     rt: &R,
     alloc: Global,
     host: &mut H,
-    report: &RunReport<'_>,
+    report: &RunReport<'_, F>,
+    sent: &[Vec<u32>],
     j: u32,
 ) -> Result<(), Stop>
     requires may { H.may_create (group_capture_name report.now.run.out.now j) }
     requires group { j < length report.now.run.plan.now.groups }
-    requires serials { (unit : ℕ) → AreSerials report.now.fates.now unit }
-    requires known { length report.now.fates.now ≤ (packets_of_file report.now.run.capture.now).count }
+    requires serials { (unit : ℕ) → AreSerials (F.fates report.now.fates.now) unit }
+    requires known { length (F.fates report.now.fates.now) ≤ (packets_of_file report.now.run.capture.now).count }
+    requires units { length report.now.run.plan.now.stations ≤ length sent.now }
+    requires sent { map (λ list. list.items) sent.now ≡ sent_by_units (F.fates report.now.fates.now) (length sent.now) }
     ensures handles { (H.state host.new).handles ≡ (H.state host.old).handles }
     ensures ok { OnOk result (H.state host.new ≡ filed (H.state host.old) (group_capture_name report.now.run.out.now j)
-        (text_of report.now.run.capture.now (sent_by_group report.now.run.plan.now report.now.fates.now j))) }
+        (text_of report.now.run.capture.now (sent_by_group report.now.run.plan.now (F.fates report.now.fates.now) j))) }
     ensures err { OnErr result (FileIsCut (group_capture_name report.now.run.out.now j)
-        (text_of report.now.run.capture.now (sent_by_group report.now.run.plan.now report.now.fates.now j)) (H.state host.old) (H.state host.new)) }
+        (text_of report.now.run.capture.now (sent_by_group report.now.run.plan.now (F.fates report.now.fates.now) j)) (H.state host.old) (H.state host.new)) }
     ensures cause { StopsFor (H.fault_count host.old) (H.fault_count host.new) result }
 {
-    let sent = sent_by_group(alloc, report.run.plan, report.fates, j)?;
+    let all = sent_by_group(alloc, report.run.plan, sent, j)?;
     let name = name_of_group_capture(alloc, report.run.out, j)?;
     let packets = Packets {
         capture: report.run.capture,
-        numbers: &sent,
+        numbers: &all,
     };
     write_packets_file(rt, alloc, host, name.as_str(), &packets)
 }
@@ -107,25 +88,28 @@ fn is_root(plan: &Plan, j: u32) -> bool
 }
 
 /// Makes the files of the multi-queue roots, in ascending order.
-pub fn write_groups<R: Threads + Sync, H: Host>(
+pub fn write_groups<R: Threads + Sync, H: Host, F: Fates>(
     rt: &R,
     alloc: Global,
     host: &mut H,
-    report: &RunReport<'_>,
+    report: &RunReport<'_, F>,
+    sent: &[Vec<u32>],
 ) -> Result<(), Stop>
     requires may { (j : ℕ) → j < max_stations → H.may_create (group_capture_name report.now.run.out.now j) }
-    requires serials { (unit : ℕ) → AreSerials report.now.fates.now unit }
-    requires known { length report.now.fates.now ≤ (packets_of_file report.now.run.capture.now).count }
+    requires serials { (unit : ℕ) → AreSerials (F.fates report.now.fates.now) unit }
+    requires known { length (F.fates report.now.fates.now) ≤ (packets_of_file report.now.run.capture.now).count }
+    requires units { length report.now.run.plan.now.stations ≤ length sent.now }
+    requires sent { map (λ list. list.items) sent.now ≡ sent_by_units (F.fates report.now.fates.now) (length sent.now) }
     ensures handles { (H.state host.new).handles ≡ (H.state host.old).handles }
     ensures ok { OnOk result (H.state host.new
-        ≡ files_written (H.state host.old) (group_files_of report.now)) }
-    ensures err { OnErr result (FilesAreCut (group_files_of report.now)
+        ≡ files_written (H.state host.old) (group_files_of report.now.run (F.fates report.now.fates.now))) }
+    ensures err { OnErr result (FilesAreCut (group_files_of report.now.run (F.fates report.now.fates.now))
         (H.state host.old) (H.state host.new)) }
     ensures cause { StopsFor (H.fault_count host.old) (H.fault_count host.new) result }
 {
     for j in 0..report.run.plan.groups() {
         if is_root(report.run.plan, j) {
-            write_group(rt, alloc, host, report, j)?;
+            write_group(rt, alloc, host, report, sent, j)?;
         }
     }
     Ok(())
@@ -139,34 +123,37 @@ fn is_sent_between(fate: &Fate, low: u32, high: u32) -> bool
 }
 
 /// How many packets such units sent.
-fn count_sent_between(fates: &[Fate], low: u32, high: u32) -> usize
-    ensures { result ≡ count_by (is_sent_between low high) fates.now }
+fn count_sent_between<F: Fates>(fates: &F, low: u32, high: u32) -> usize
+    ensures { result ≡ count_by (is_sent_between low high) (F.fates fates.now) }
 {
-    fates
-        .iter()
-        .filter(|fate| is_sent_between(fate, low, high))
-        .count()
+    let mut count = 0;
+    for n in 0..fates.len() {
+        if is_sent_between(&fates.fate(n), low, high) {
+            count += 1;
+        }
+    }
+    count
 }
 
 /// How many packets the children of group `j` sent.
-fn count_sent(plan: &Plan, fates: &[Fate], j: u32) -> usize
+fn count_sent<F: Fates>(plan: &Plan, fates: &F, j: u32) -> usize
     requires { j < length plan.now.groups }
-    ensures sent { result ≡ length (sent_by_group plan.now fates.now j) }
-    ensures few { result ≤ length fates.now }
+    ensures sent { result ≡ length (sent_by_group plan.now (F.fates fates.now) j) }
+    ensures few { result ≤ length (F.fates fates.now) }
 {
     let first = plan.first(j);
     count_sent_between(fates, first, first + plan.mq(j))
 }
 
 /// Writes a line for each multi-queue root to the end of a text: how many children it has, and how many packets they sent.
-pub fn push_mq_lines(
+pub fn push_mq_lines<F: Fates>(
     alloc: Global,
     text: &mut Vec<u8>,
     plan: &Plan,
-    fates: &[Fate],
+    fates: &F,
 ) -> Result<(), NoMemory>
-    requires { length fates.now < 2 ^ 32 }
-    ensures { OnOk result (text.new.items ≡ text.old.items ++ mq_lines plan.now fates.now) }
+    requires { length (F.fates fates.now) < 2 ^ 32 }
+    ensures { OnOk result (text.new.items ≡ text.old.items ++ mq_lines plan.now (F.fates fates.now)) }
 {
     for j in 0..plan.groups() {
         if is_root(plan, j) {

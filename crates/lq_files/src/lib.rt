@@ -7,7 +7,6 @@ mod answer;
 mod command;
 mod decide;
 mod groups;
-mod lines;
 mod outputs;
 mod parts;
 mod pieces;

@@ -1,6 +1,7 @@
 //! What is written of a run and of a tap: what became of which packets.
 
-use lq_model::{Fate, Info};
+use lq_fates::Fates;
+use lq_model::Info;
 use lq_pcapng::CaptureFile;
 use lq_plan::Plan;
 use lq_tap_fates::TapFate;
@@ -15,12 +16,12 @@ pub struct RunInputs<'a> {
 
 /// A run that is done, as its files and its lines tell it.
 #[derive(Clone, Copy)]
-pub struct RunReport<'a> {
+pub struct RunReport<'a, F: Fates> {
     pub run: RunInputs<'a>,
     /// What each packet of the capture is to the rules.
     pub infos: &'a [Info],
     /// What became of it.
-    pub fates: &'a [Fate],
+    pub fates: &'a F,
 }
 
 /// A tap that is done, as its files and its line tell it.

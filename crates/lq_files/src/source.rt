@@ -3,9 +3,10 @@ ghost use Rattle.std.specs.Prelude.{◌≡◌, ◌+◌, ◌<◌, ◌++◌, [], A
 ghost use Rattle.lq_pcapng.specs.File.{packets_of_file};
 ghost use Rattle.lq_files.specs.Parts.{lines_from, packets_from};
 
-use crate::lines::Line;
+use lq_fates::{Fates, push_fate_line};
 use lq_model::NoMemory;
 use lq_pcapng::CaptureFile;
+use lq_tap_fates::{TapFate, push_tap_fate_line};
 use std::marker::Sync;
 
 /// A text of numbered pieces, of which threads may make some each.
@@ -53,26 +54,52 @@ impl<'a> Source for Packets<'a> {
     }
 }
 
-/// The lines of these fates, of the packets from number 0 on.
+/// The lines of the fates of a run, of the packets from number 0 on.
 #[derive(Drop)]
-pub struct Lines<'a, F: Line> {
-    pub fates: &'a [F],
+pub struct FateLines<'a, F: Fates> {
+    pub fates: &'a F,
 }
 
-impl<'a, F: Line> Source for Lines<'a, F> {
+impl<'a, F: Fates> Source for FateLines<'a, F> {
     ghost use Rattle.std.specs.Prelude.{⊤};
+    ghost use Rattle.lq_model.specs.Texts.{fate_words};
 
-    ghost count = { λ l. length l.fates.now };
+    ghost count = { λ l. length (F.fates l.fates.now) };
 
     ghost can_make = { λ _. ⊤ };
 
-    ghost from = { λ l n. lines_from F.words l.fates.now n };
+    ghost from = { λ l n. lines_from fate_words (F.fates l.fates.now) n };
 
     fn len(&self) -> usize {
         self.fates.len()
     }
 
     fn push_piece(&self, text: &mut Vec<u8>, n: usize) -> Result<(), NoMemory> {
-        self.fates[n].push_line(text, n)
+        push_fate_line(text, n, self.fates.fate(n))
+    }
+}
+
+/// The lines of the fates of a tap, of the packets from number 0 on.
+#[derive(Drop)]
+pub struct TapLines<'a> {
+    pub fates: &'a [TapFate],
+}
+
+impl<'a> Source for TapLines<'a> {
+    ghost use Rattle.std.specs.Prelude.{⊤};
+    ghost use Rattle.lq_tap_fates.specs.Texts.{tap_fate_words};
+
+    ghost count = { λ l. length l.fates.now };
+
+    ghost can_make = { λ _. ⊤ };
+
+    ghost from = { λ l n. lines_from tap_fate_words l.fates.now n };
+
+    fn len(&self) -> usize {
+        self.fates.len()
+    }
+
+    fn push_piece(&self, text: &mut Vec<u8>, n: usize) -> Result<(), NoMemory> {
+        push_tap_fate_line(text, n, self.fates[n])
     }
 }

@@ -11,7 +11,7 @@ ghost use Rattle.lq_files.specs.Written.{FileIsCut, IsCut, OutputHasPrefix, writ
 
 use crate::answer::Stop;
 use crate::report::TapReport;
-use crate::source::Packets;
+use crate::source::{Packets, TapLines};
 use crate::write::{write_fates, write_output, write_packets_file};
 use lq_host::Host;
 use lq_tap_fates::{TapFate, tap_total_line};
@@ -80,6 +80,9 @@ pub fn write_tap<R: Threads + Sync, H: Host>(
     ensures cause { StopsFor (H.fault_count host.old) (H.fault_count host.new) result }
 {
     write_read(rt, alloc, host, report)?;
-    write_fates(rt, alloc, host, report.out, report.fates)?;
+    let lines = TapLines {
+        fates: report.fates,
+    };
+    write_fates(rt, alloc, host, report.out, &lines)?;
     write_total(alloc, host, report.fates)
 }

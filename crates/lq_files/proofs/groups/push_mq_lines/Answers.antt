@@ -5,8 +5,8 @@ use Rattle.lq_files.proofs.groups.push_mq_lines.Goals as goal
 use Rattle.lq_files.proofs.groups.push_mq_lines.Goals.{then-is_root+in_ok-line+in_ok-push_bytes, else-is_root}
 
 pub loop-j-preserved : goal.loop-j-preserved
-loop-j-preserved c =
-    let plan = c.args.plan.now in let fates = c.args.fates.now in let j = c.loop-j.j in let old = c.args.text.now.items in let text = c.loop-j.text.items in
+loop-j-preserved g c =
+    let plan = c.args.plan.now in let fates = g.F.Fates.fates c.args.fates.now in let j = c.loop-j.j in let old = c.args.text.now.items in let text = c.loop-j.text.items in
     let next = ap (λ n. old ++ lines_below plan fates n) (sym (add-one j)) in
     elim c.if-is_root.branch [
       | then-is_root+in_ok-line+in_ok-push_bytes w ↦
@@ -19,7 +19,7 @@ loop-j-preserved c =
     ]
 
 pub returns : goal.returns
-returns c =
+returns g c =
     let plan = c.args.plan.now in
     let end : c.loop-j.j ≡ length plan.groups = omega arith in
-    c.loop-j.invariant ∙ ap (λ n. c.args.text.now.items ++ lines_below plan c.args.fates.now n) end
+    c.loop-j.invariant ∙ ap (λ n. c.args.text.now.items ++ lines_below plan (g.F.Fates.fates c.args.fates.now) n) end

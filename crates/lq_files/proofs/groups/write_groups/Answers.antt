@@ -9,12 +9,12 @@ pub returns-in_err-write_group-clause-err : goal.returns-in_err-write_group-clau
 returns-in_err-write_group-clause-err g c =
     let plan = c.args.report.now.run.plan.now in let j = c.loop-j.j in
     on_err_any c.from_residual.result
-    (root_cut c.args.report.now.run.out.now c.args.report.now.run.capture.now plan c.args.report.now.fates.now j (length plan.groups) (g.H.Host.state c.args.host.now) (g.H.Host.state c.loop-j.host) (g.H.Host.state c.write_group.new.host)
+    (root_cut c.args.report.now.run.out.now c.args.report.now.run.capture.now plan (g.F.Fates.fates c.args.report.now.fates.now) j (length plan.groups) (g.H.Host.state c.args.host.now) (g.H.Host.state c.loop-j.host) (g.H.Host.state c.write_group.new.host)
     (subst (λ n. j < n) c.groups-j-end.ensures.groups c.loop-j-test.true) (sym c.is_root.ensures ∙ c.if-is_root.true) c.loop-j.invariant.whole c.in_err-write_group.ensures.err)
 
 pub loop-j-preserved : goal.loop-j-preserved
 loop-j-preserved g c =
-    let out = c.args.report.now.run.out.now in let capture = c.args.report.now.run.capture.now in let plan = c.args.report.now.run.plan.now in let fates = c.args.report.now.fates.now in let j = c.loop-j.j in
+    let out = c.args.report.now.run.out.now in let capture = c.args.report.now.run.capture.now in let plan = c.args.report.now.run.plan.now in let fates = g.F.Fates.fates (g.F.Fates.fates c.args.report.now.fates.now) in let j = c.loop-j.j in
     let old = g.H.Host.state c.args.host.now in let mid = g.H.Host.state c.loop-j.host in
     elim c.if-is_root.branch [
       | then-is_root+in_ok-write_group w ↦ record {

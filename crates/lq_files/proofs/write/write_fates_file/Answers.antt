@@ -1,6 +1,5 @@
 use Rattle.lq_host.specs.Host.{Writes}
 use Rattle.lq_host.proofs.HostLemmas.{opened-writer, opened-is_some}
-use Rattle.lq_files.specs.Lines.{lines_of}
 use Rattle.lq_files.proofs.MoveLemmas.{on_err_any}
 use Rattle.lq_files.proofs.PieceLemmas.{IsFinished, finished}
 use Rattle.lq_files.proofs.write.write_fates_file.Given as given
@@ -18,11 +17,11 @@ finish-end-requires-clause-open g c =
 
 -- what is known of the file once it was finished
 file : (g : given.Over) (c : After-finish-end g)
-    → IsFinished c.write_lines-lines.result (g.H.Host.state c.args.host.now) c.args.name.now (lines_of g.F.Line.words 0 c.args.fates.now)
+    → IsFinished c.write_lines-lines.result (g.H.Host.state c.args.host.now) c.args.name.now (g.S.Source.from c.args.lines.now 0)
     (g.H.Host.state c.finish-end.new.self)
 file g c =
     let state = g.H.Host.state in let opened = c.in_ok-h.ensures in let done = c.write_lines-lines.ensures in
-    finished c.write_lines-lines.result (state c.args.host.now) c.args.name.now c.in_ok-h.h (lines_of g.F.Line.words 0 c.args.fates.now)
+    finished c.write_lines-lines.result (state c.args.host.now) c.args.name.now c.in_ok-h.h (g.S.Source.from c.args.lines.now 0)
     (state c.create.new.self) (state c.write_lines-lines.new.host) (state c.finish-end.new.self)
     opened.fresh opened.ok done.handles done.ok done.err c.finish-end.ensures.closed
 

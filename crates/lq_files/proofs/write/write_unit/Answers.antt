@@ -7,12 +7,12 @@ use Rattle.lq_files.proofs.write.write_unit.Goals as goal
 
 pub write_packets_file-requires-clause-known : goal.write_packets_file-requires-clause-known
 write_packets_file-requires-clause-known g c κs within =
-    subst (λ (xs : List ℕ). All (λ n. n < (packets_of_file c.args.report.now.run.capture.now).count) xs) (sym (c.deref.ensures.value ∙ c.in_ok-sent.ensures))
-    (sent_below c.args.report.now.fates.now c.args.unit (packets_of_file c.args.report.now.run.capture.now).count c.requires.serials c.requires.known)
+    subst (λ (xs : List ℕ). All (λ n. n < (packets_of_file c.args.report.now.run.capture.now).count) xs) (sym c.requires.sent)
+    (sent_below (g.F.Fates.fates c.args.report.now.fates.now) c.args.unit (packets_of_file c.args.report.now.run.capture.now).count c.requires.serials c.requires.known)
 
 pub returns-clause-err : goal.returns-clause-err
 returns-clause-err g c =
     on_err_weaker c.write_packets_file.result
-    (is_cut c.as_str.result.now (text_of c.args.report.now.run.capture.now c.deref.result.now) _ _ (g.H.Host.state c.args.host.now) (g.H.Host.state c.write_packets_file.new.host)
-    (c.as_str.ensures.value ∙ c.in_ok-name.ensures) (ap (text_of c.args.report.now.run.capture.now) (c.deref.ensures.value ∙ c.in_ok-sent.ensures)))
+    (is_cut c.as_str.result.now (text_of c.args.report.now.run.capture.now c.args.sent.now) _ _ (g.H.Host.state c.args.host.now) (g.H.Host.state c.write_packets_file.new.host)
+    (c.as_str.ensures.value ∙ c.in_ok-name.ensures) (ap (text_of c.args.report.now.run.capture.now) c.requires.sent))
     c.write_packets_file.ensures.err
