@@ -15,14 +15,15 @@ ghost use Rattle.lq_files.specs.RunFiles.{run_of};
 ghost use Rattle.lq_top.specs.Outcome.{CompletesOrStops, IsCommandStatus, LeavesNone, refuses};
 ghost use Rattle.lq_files.specs.Stop.{StopsFor};
 
+use crate::send::send_capture;
 use lq_device::TxDevice;
 use lq_files::{GenOperands, RunInputs, Status, Stop, place_on, refuse, write_counts, write_file};
 use lq_host::Host;
 use lq_model::NoMemory;
 use lq_pcap::{Capture, CaptureRefusal, gen_capture, read_capture};
 use lq_pcapng::CaptureFile;
-use lq_plan::{Openings, Plan, generated_plan, infos};
-use lq_senders::{Gate, Resources, send_all};
+use lq_plan::{Plan, generated_plan};
+use lq_senders::{Gate, Resources, RunFates};
 use lq_table::Ended;
 use std::alloc::Global;
 use std::marker::Sync;
@@ -75,9 +76,8 @@ fn run_and_count<R: Threads + Wait + Sync, H: Host, G: Gate, D: TxDevice>(
     ensures handles { (H.state host.new).handles ≡ (H.state host.old).handles }
     ensures cause { StopsFor (H.fault_count host.old) (H.fault_count host.new) result }
 {
-    let infos = infos(on.rt, on.alloc, run.plan, run.capture)?;
-    let openings = Openings::new(on.alloc, run.plan, run.capture)?;
-    let fates = send_all(on, run.plan, &infos, &openings, bench, ended)?;
+    let infos = send_capture(on, bench, ended, run)?;
+    let fates = RunFates::new(&infos, ended.as_slice());
     match write_counts(on.alloc, host, run.plan, &infos, &fates) {
         Ok(()) => Ok(Status::Done),
         Err(stop) => {

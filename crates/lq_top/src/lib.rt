@@ -6,6 +6,7 @@
 mod generate;
 pub mod laws;
 mod program;
+mod send;
 mod tap;
 mod top;
 mod trace;

@@ -15,6 +15,7 @@ ghost use Rattle.lq_top.specs.Outcome.{Completes, CompletesOrStops, CompletesOrS
 ghost use Rattle.lq_files.specs.Stop.{StopsFor};
 
 use crate::generate::gen_command;
+use crate::send::send_capture;
 use crate::tap::tap_command;
 use crate::trace::trace_command;
 use lq_device::TxDevice;
@@ -24,8 +25,7 @@ use lq_files::{
 };
 use lq_host::Host;
 use lq_model::NoMemory;
-use lq_plan::{Openings, infos};
-use lq_senders::{Gate, Resources, send_all};
+use lq_senders::{Gate, Resources, RunFates};
 use lq_table::Ended;
 use std::alloc::Global;
 use std::marker::Sync;
@@ -55,9 +55,8 @@ fn run_capture<R: Threads + Wait + Sync, H: Host, G: Gate, D: TxDevice>(
     ensures handles { (H.state host.new).handles ≡ (H.state host.old).handles }
     ensures cause { StopsFor (H.fault_count host.old) (H.fault_count host.new) result }
 {
-    let infos = infos(on.rt, on.alloc, run.plan, run.capture)?;
-    let openings = Openings::new(on.alloc, run.plan, run.capture)?;
-    let fates = send_all(on, run.plan, &infos, &openings, bench, ended)?;
+    let infos = send_capture(on, bench, ended, run)?;
+    let fates = RunFates::new(&infos, ended.as_slice());
     let report = RunReport {
         run: *run,
         infos: &infos,
