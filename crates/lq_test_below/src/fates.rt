@@ -1,5 +1,5 @@
 //! The lines of fates and counts, and the packets of a unit in order of serial.
-use lq_fates::{Cause, Fate, Info, counts_text, fates_text, sent_of};
+use lq_fates::{Cause, Fate, Info, counts_of, counts_text, fates_text, sent_by_units};
 
 // Each kind of fate; unit 1 sent packet 7 before packet 0.
 const FATES: [Fate; 9] = [
@@ -49,7 +49,9 @@ fn units_stations_and_all_have_counts(rt: HostRuntime) {
         at(1),
         at(0),
     ];
-    let text = counts_text(rt.alloc(), &FATES, &infos, 2, 3).expect(&rt, "memory");
+    let fates = Vec::from_array(rt.alloc(), FATES).expect(&rt, "memory");
+    let counts = counts_of(rt.alloc(), &fates, &infos, 2, 3).expect(&rt, "memory");
+    let text = counts_text(rt.alloc(), &counts, fates.len()).expect(&rt, "memory");
     let want =
         "unit 0 sent 2\nunit 1 sent 2\nunit 2 sent 0\nstation 0 full 1 shrunk 0 purged 1 refused 0\nstation 1 full 0 shrunk 1 purged 1 refused 1\ntotal 9 sent 4 full 1 shrunk 1 purged 2 refused 1\n";
     assert_eq!(rt; text.as_slice(), want.as_bytes());
@@ -63,6 +65,9 @@ fn sent_packets_stand_in_order_of_serial(rt: HostRuntime) {
         Fate::Sent { unit: 0, serial: 0 },
         Fate::Sent { unit: 1, serial: 0 },
     ];
-    let sent = sent_of(rt.alloc(), &fates, 1).expect(&rt, "memory");
-    assert_eq!(rt; sent.as_slice(), [3, 0].as_slice());
+    let fates = Vec::from_array(rt.alloc(), fates).expect(&rt, "memory");
+    let sent = sent_by_units(rt.alloc(), &fates, &[1, 2]).expect(&rt, "memory");
+    assert_eq!(rt; sent.len(), 2);
+    assert_eq!(rt; sent[0].as_slice(), [2].as_slice());
+    assert_eq!(rt; sent[1].as_slice(), [3, 0].as_slice());
 }
