@@ -32,3 +32,7 @@ module _ {A : Type 0} (items : A → List ℕ) (lists : List A) (fates : List Fa
 -- a list that has what a function gives for each number below one
 pub for_each_of : {A : Type 0} (f : ℕ → A) (n : ℕ) (xs : List A) → xs ≡ map f (first_numbers n) → length xs ≡ n
 for_each_of f n xs is = ap length is ∙ length_for_each f n
+
+-- so it has what the function gives for each number below its length
+pub for_each_below : (f : ℕ → ℕ) (n : ℕ) (xs : List ℕ) → xs ≡ map f (first_numbers n) → xs ≡ map f (first_numbers (length xs))
+for_each_below f n xs is = is ∙ ap (λ k. map f (first_numbers k)) (sym (for_each_of f n xs is))

@@ -14,7 +14,7 @@ returns-in_err-write_group-clause-err g c =
 
 pub loop-j-preserved : goal.loop-j-preserved
 loop-j-preserved g c =
-    let out = c.args.report.now.run.out.now in let capture = c.args.report.now.run.capture.now in let plan = c.args.report.now.run.plan.now in let fates = g.F.Fates.fates (g.F.Fates.fates c.args.report.now.fates.now) in let j = c.loop-j.j in
+    let out = c.args.report.now.run.out.now in let capture = c.args.report.now.run.capture.now in let plan = c.args.report.now.run.plan.now in let fates = g.F.Fates.fates c.args.report.now.fates.now in let j = c.loop-j.j in
     let old = g.H.Host.state c.args.host.now in let mid = g.H.Host.state c.loop-j.host in
     elim c.if-is_root.branch [
       | then-is_root+in_ok-write_group w ↦ record {
