@@ -15,15 +15,15 @@ ghost use Rattle.lq_files.specs.RunFiles.{run_of};
 ghost use Rattle.lq_top.specs.Outcome.{CompletesOrStops, IsCommandStatus, LeavesNone, refuses};
 ghost use Rattle.lq_files.specs.Stop.{StopsFor};
 
-use crate::send::send_capture;
+use crate::send::{count_told, send_capture};
 use lq_device::TxDevice;
-use lq_files::{GenOperands, RunInputs, Status, Stop, place_on, refuse, write_counts, write_file};
+use lq_files::{GenOperands, RunInputs, Status, Stop, place_on, refuse, write_file};
 use lq_host::Host;
 use lq_model::NoMemory;
 use lq_pcap::{Capture, CaptureRefusal, gen_capture, read_capture};
 use lq_pcapng::CaptureFile;
 use lq_plan::{Plan, generated_plan};
-use lq_senders::{Gate, Resources, RunFates};
+use lq_senders::{Gate, Resources};
 use lq_table::Ended;
 use std::alloc::Global;
 use std::marker::Sync;
@@ -77,8 +77,7 @@ fn run_and_count<R: Threads + Wait + Sync, H: Host, G: Gate, D: TxDevice>(
     ensures cause { StopsFor (H.fault_count host.old) (H.fault_count host.new) result }
 {
     let infos = send_capture(on, bench, ended, run)?;
-    let fates = RunFates::new(&infos, ended.as_slice());
-    match write_counts(on.alloc, host, run.plan, &infos, &fates) {
+    match count_told(on.alloc, host, run.plan, &infos, ended.as_slice()) {
         Ok(()) => Ok(Status::Done),
         Err(stop) => {
             ended.clear();

@@ -15,17 +15,17 @@ ghost use Rattle.lq_top.specs.Outcome.{Completes, CompletesOrStops, CompletesOrS
 ghost use Rattle.lq_files.specs.Stop.{StopsFor};
 
 use crate::generate::gen_command;
-use crate::send::send_capture;
+use crate::send::{send_capture, write_told};
 use crate::tap::tap_command;
 use crate::trace::trace_command;
 use lq_device::TxDevice;
 use lq_files::{
-    Command, Refusal, RunInputs, RunOperands, RunReport, Status, Stop, read_capture_file,
-    read_plan_file, read_words, refuse, write_run,
+    Command, Refusal, RunInputs, RunOperands, Status, Stop, read_capture_file, read_plan_file,
+    read_words, refuse,
 };
 use lq_host::Host;
 use lq_model::NoMemory;
-use lq_senders::{Gate, Resources, RunFates};
+use lq_senders::{Gate, Resources};
 use lq_table::Ended;
 use std::alloc::Global;
 use std::marker::Sync;
@@ -56,13 +56,7 @@ fn run_capture<R: Threads + Wait + Sync, H: Host, G: Gate, D: TxDevice>(
     ensures cause { StopsFor (H.fault_count host.old) (H.fault_count host.new) result }
 {
     let infos = send_capture(on, bench, ended, run)?;
-    let fates = RunFates::new(&infos, ended.as_slice());
-    let report = RunReport {
-        run: *run,
-        infos: &infos,
-        fates: &fates,
-    };
-    match write_run(on.rt, on.alloc, host, &report) {
+    match write_told(on, host, run, &infos, ended.as_slice()) {
         Ok(()) => Ok(Status::Done),
         Err(stop) => {
             ended.clear();

@@ -21,7 +21,7 @@ returns c = λ fates are.
     let count : first + mq - first ≡ mq_at groups j = (omega (arith, is_mq)) in
     let within : first_at groups j + mq_at groups j ≤ length sent = (omega (arith, children, units)) in
     let lists : map items (take (first + mq - first) (drop first sent)) ≡ map (λ k. sent_of fates (first_at groups j + k)) (first_numbers (mq_at groups j)) =
-        (λ i. map items (take (count i) (drop (is_first i) sent))) ∙ sent_from items sent fates (length sent) are (first_at groups j) (mq_at groups j) within in
+    (λ i. map items (take (count i) (drop (is_first i) sent))) ∙ sent_from items sent fates (length sent) are (first_at groups j) (mq_at groups j) within in
     IfOk-weaker c.joint.result
     (λ all. all.items ≡ joint (map items (take (first + mq - first) (drop first sent))))
     (λ all. all.items ≡ sent_by_group plan fates j)
