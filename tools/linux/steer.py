@@ -15,8 +15,8 @@ from linux.plans import Sent, frame
 
 # of the registers, in the debugger's order: the stack's top
 RSP = 7
-# the function that has `qdisc_run_begin` and `qdisc_run_end` within it, the one that runs the bands, and the one by which a transmit ends
-TRANSMIT, RUN, END = "__dev_queue_xmit", "__qdisc_run", "__local_bh_enable_ip"
+# the function by which a packet is sent, the one that runs the bands, and the one that sets MISSED, which may be compiled into the first
+TRANSMIT, RUN, BEGIN = "__dev_queue_xmit", "__qdisc_run", "qdisc_run_begin"
 # how MISSED, bit 2 of the state, is set: test_and_set_bit of arch/x86/include/asm/bitops.h
 SETS_MISSED = re.compile(r"^ *([0-9a-f]+):\s+lock bts[ql]? +\$0x2,", re.M)
 
@@ -45,14 +45,15 @@ class Places:
         if not (map_file.is_file() and image.is_file()):
             raise Missing(f"{folder} has no System.map and vmlinux: it is the folder in which the kernel was built")
         symbols = symbols_of(map_file.read_text(encoding="ascii"))
-        for it in (TRANSMIT, RUN, END):
+        for it in (TRANSMIT, RUN):
             if it not in symbols:
                 raise Missing(f"{map_file} has no {it}")
-        self.run, self.end, self.start = symbols[RUN], symbols[END], symbols[TRANSMIT]
-        self.stop = min(it for it in symbols.values() if it > self.start)
-        self.missed = places_of_missed(run(["objdump", "-d", "--no-show-raw-insn", f"--start-address={self.start}", f"--stop-address={self.stop}", str(image)]))
+        self.transmit, self.run, self.missed = symbols[TRANSMIT], symbols[RUN], []
+        for start in (symbols[it] for it in (TRANSMIT, BEGIN) if it in symbols):
+            stop = min(it for it in symbols.values() if it > start)
+            self.missed += places_of_missed(run(["objdump", "-d", "--no-show-raw-insn", f"--start-address={start}", f"--stop-address={stop}", str(image)]))
         if not self.missed:
-            raise Missing(f"{TRANSMIT} of {image} sets no MISSED")
+            raise Missing(f"{image} sets no MISSED in {TRANSMIT} and {BEGIN}")
 
 
 class Debugger:
@@ -65,6 +66,10 @@ class Debugger:
             self._wait()
         self.wire.settimeout(patience)
         self.read = self.wire.makefile("rb")
+        # it stops the guest for who connects, and says so unasked
+        self.send("Hg0")
+        while self.answer() != "OK":
+            pass
 
     def _wait(self):
         if time.monotonic() > self.end:
@@ -114,15 +119,9 @@ class Debugger:
 def make_order(path, places, processors, patience=300):
     """Makes the order, and lets the guest go on."""
     it = Debugger(path, patience)
-    it.ask("?")
+    sent = it.top_of_stack(it.go((), [places.transmit]))
     first = it.go((), [places.run])
-    returns = it.top_of_stack(first)
-    it.go([first], [returns])
+    it.go([first], [it.top_of_stack(first)])
     it.go([other for other in range(1, processors + 1) if other != first], places.missed)
-    while True:
-        it.go([first], [places.end])
-        if places.start < it.top_of_stack(first) < places.stop:
-            break
-        # beyond that place, so that it doesn't stop there again
-        it.ask(f"vCont;s:{first}")
+    it.go([first], [sent])
     it.leave()

@@ -36,13 +36,14 @@ class Together:
         self.results = {int(it.split()[1]): int(it.split()[2]) for it in lines if it.startswith("S ")}
         answers = Answers([it for it in lines if not it.startswith("S ")])
         self.faults, self.counts, self.quiet, self.overtaking = list(answers.faults), Counter(), 0, 0
-        self.by_bulk = 0
+        self.by_bulk, self.left = 0, []
         self.sent = [[int(it.split("/")[0]) for it in line.split(" ")[7:]] for line in answers.last]
         self.drops = [n for it in answers.drops.values() for n, _ in it]
         self.judge_fates()
         self.judge_order()
         for step in answers.steps[-2:]:
             self.judge_quiet(step)
+        self.faults += self.left
 
     def judge_fates(self):
         sent, dropped = Counter(n for it in self.sent for n in it), Counter(self.drops)
@@ -82,7 +83,7 @@ class Together:
             self.quiet += 1
             held = len(it.requeued) + len(it.other_queue) + sum(int(ring["held"]) for ring in it.bands)
             if held:
-                self.faults.append(f"a quiet queue holds {held} packets: {line}")
+                self.left.append(f"a quiet queue holds {held} packet{'s' * (held > 1)}: {line}")
 
 
 def random_plan(chance):
