@@ -17,7 +17,7 @@ from typing import Dict, List
 from lib import words
 
 SERIAL = 0.4  # of a crate's time, which several processes don't shorten: with it four idle processors take 9.6 minutes, where 9 to 10 were measured
-RANGE = (0.95, 2.1)  # of the planned time, on idle processors of the machines that were measured
+RANGE = (0.95, 3.0)  # of the planned time, on idle processors of the machines that were measured
 KNOWN, USUAL = 0.025, 1.3  # of the planned processor time, that is taken as known beforehand, and how many times it such a machine takes
 STEADY = 0.08  # of the planned seconds, that are taken to go on as slowly as the machine is
 SLOWER = 1.2  # times the processor time, from which on it is said that the machine is slower

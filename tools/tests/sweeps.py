@@ -64,11 +64,10 @@ def sweep():
     expect("sweep, a run that fails", swept("station.0.len=12..14", "e.csv"), 1, "exit code 1: a fault of 13, with station.0.len=13")
     # an interrupted one goes on
     started = subprocess.Popen([HERE / "sweep", plan, capture, "station.0.len=21..40", "f.csv", "--jobs", "2", "--program", program],
-                               cwd=room, env=own | {"SLOW": "0.1"}, stderr=subprocess.PIPE, stdout=subprocess.PIPE, text=True, preexec_fn=heeding)  # fmt: skip
-    for _ in range(200):
+                               cwd=room, env=own | {"SLOW": "0.5"}, stderr=subprocess.PIPE, stdout=subprocess.PIPE, text=True, preexec_fn=heeding)  # fmt: skip
+    results, until = room / "f.csv.runs/results", time.monotonic() + 60
+    while not (results.exists() and results.read_text(encoding="utf-8").count("\n") > 2) and time.monotonic() < until:
         time.sleep(0.02)
-        if (room / "f.csv.runs/results").exists() and (room / "f.csv.runs/results").read_text(encoding="utf-8").count("\n") > 2:
-            break
     started.send_signal(signal.SIGINT)
     out, err = started.communicate()
     if "the same call goes on" not in err or "Traceback" in err or started.returncode != -signal.SIGINT:
@@ -131,9 +130,9 @@ def two_sweeps_into_one_file():
     program.chmod(0o755)
     plan.write_text("[[station]]\nlen = 20\n", encoding="utf-8")
     words = [str(it) for it in (HERE / "sweep", plan, capture, "station.0.len=30..40", "a.csv", "--jobs", "1", "--program", program)]
-    first = subprocess.Popen(words, cwd=room, env=os.environ | {"SLOW": "0.1"}, stderr=subprocess.DEVNULL, stdout=subprocess.DEVNULL)
-    until = time.monotonic() + 30
-    while not (room / "a.csv.runs/results").exists() and time.monotonic() < until:
+    first = subprocess.Popen(words, cwd=room, env=os.environ | {"SLOW": "2"}, stderr=subprocess.DEVNULL, stdout=subprocess.DEVNULL)
+    results, until = room / "a.csv.runs/results", time.monotonic() + 60
+    while not (results.exists() and "\n" in results.read_text(encoding="utf-8")) and time.monotonic() < until:
         time.sleep(0.02)
     for keys in ("station.0.len=30..40", "station.0.len=1..3"):
         expect(f"a second sweep of {keys}", run(HERE / "sweep", plan, capture, keys, "a.csv", "--program", program, cwd=room), 1, "another sweep is under way in ")

@@ -1,5 +1,5 @@
 //! The packets that are sent, and a table of them.
-ghost use Rattle.std.specs.Prelude.{⊤, ◌≡◌, ℕ, ◌<◌, ◌≤◌, true, length, MatchOption};
+ghost use Rattle.std.specs.Prelude.{⊤, ◌≡◌, ℕ, ◌<◌, true, length, MatchOption};
 ghost use Rattle.lq_bench.specs.Senders.{IsActive, AreFourOwners};
 
 use crate::senders::OWNERS;

@@ -1,8 +1,7 @@
 //! The paths of packets.
 
 use crate::senders::Work;
-use crate::table::PLAIN;
-use lq_device::StationPlan;
+use lq_device::{PLAIN, StationPlan};
 use lq_model::Params;
 
 /// The path of a packet.

@@ -4,8 +4,8 @@ ghost use Rattle.lq_bench.specs.Ready.{IsReady, IsFirstReady, IsWhole};
 
 use crate::kind::{Holding, Kind};
 use crate::timing::{timed, timed_alone, timed_control};
-use lq_device::{BenchDevice, Station, StationPlan, TxDevice};
-use lq_model::{NoMemory, Params};
+use lq_device::{BenchDevice, PLAIN, Station, TxDevice};
+use lq_model::NoMemory;
 use lq_table::{Cpu, Shared};
 use std::alloc::Global;
 use std::io;
@@ -16,20 +16,6 @@ use std::time::Duration;
 
 /// How many seats there are, each on a thread of its own.
 const SEATS: u32 = 4;
-
-/// A station with one queue, whose device accepts every packet.
-pub(crate) const PLAIN: StationPlan = StationPlan {
-    len: 1000,
-    max_len: 1000,
-    bypass: true,
-    params: Params {
-        burst: 0,
-        busy_every: 0,
-        busy_limit: 0,
-        hang_after: 0,
-    },
-    queues: 1,
-};
 
 /// What was measured: rounds, by so many threads at once.
 #[derive(Clone, Copy, Drop)]

@@ -1,5 +1,5 @@
 //! The atomic steps themselves, on a word of a table of which nothing is known.
-ghost use Rattle.std.specs.Prelude.{◌≡◌, ◌<◌, All, IfOk, OnOk};
+ghost use Rattle.std.specs.Prelude.{◌<◌, All, IfOk, OnOk};
 ghost use Rattle.lq_bench.specs.Words.{IsStepperAt};
 
 use crate::table::{Measured, show};

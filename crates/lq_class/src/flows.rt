@@ -1,7 +1,7 @@
 //! The hash of a frame's flow, as receive-side scaling has it: Toeplitz's hash over the addresses and the ports, with the key of the
 //! published vectors (Microsoft's NDIS, "Verifying the RSS Hash Calculation").
 
-ghost use Rattle.std.specs.Prelude.{◌≡◌, ◌+◌, ◌*◌, ◌-◌, ◌/◌, ◌%◌, ◌^◌, ◌<◌, ◌≤◌, ◌++◌, ◌∷◌, ◌&&◌, nat_le, [], length, slice_index};
+ghost use Rattle.std.specs.Prelude.{◌≡◌, ◌+◌, ◌*◌, ◌-◌, ◌/◌, ◌%◌, ◌^◌, ◌<◌, ◌≤◌, ◌∷◌, ◌&&◌, nat_le, [], length, slice_index};
 ghost use Rattle.lq_model.specs.Flow.{flow_of, hash_key, has_ports, header_length, ipv4_flow, ipv6_flow, is_whole, ports_at, toeplitz};
 ghost use Rattle.lq_class.specs.Hash.{ExtendsHash};
 

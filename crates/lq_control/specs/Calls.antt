@@ -1,5 +1,5 @@
 -- What the calls of control require of the seat that makes them (`May..`), and what they ensure of it.
-use Rattle.std.specs.Prelude.{◌≡◌, ◌⊎◌, ℕ, ◌+◌, ◌-◌, ◌<◌, Bool, true, false, List, ◌++◌, None, IsSome, [], ◌∷◌, Option, Some}
+use Rattle.std.specs.Prelude.{◌≡◌, ℕ, ◌+◌, ◌-◌, ◌<◌, Bool, true, false, List, ◌++◌, None, IsSome, [], ◌∷◌, Option, Some}
 use Rattle.lq_account_laws.specs.Trail.{down_of}
 use Rattle.lq_model.specs.Account.{Event, Resize, Down, Purge, Swap, Up}
 use Rattle.lq_model.specs.Device.{DeviceState}
@@ -15,7 +15,7 @@ use Rattle.lq_run.specs.Runs.{HasNone, HasStation, Rests, ended}
 use Rattle.lq_ring.specs.Put.{no_locks}
 use Rattle.lq_ring.specs.Take.{CarriesStation}
 use Rattle.lq_qdisc.specs.Sends.{IsCallKept, IsReadyToSend}
-use Rattle.lq_table.specs.Controls.{clear_deactivated_view, shut_after}
+use Rattle.lq_table.specs.Controls.{clear_deactivated_view}
 use Rattle.lq_table.specs.Rule.{units_of}
 use Rattle.lq_table.specs.Sees.{view, known, setup, position, slot, IsSameSeat, IsElseSame, IsSole, IsAccounts, account_of, heard, solo}
 use Rattle.lq_table.specs.Locks.{locked_to}

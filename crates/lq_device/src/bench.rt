@@ -1,12 +1,12 @@
 //! The device of the built-in bench: it keeps the numbers of the packets that it accepted, and tells all.
-ghost use Rattle.std.specs.Prelude.{◌≡◌, ◌≤◌, ◌<◌, ◌+◌, ◌==◌, ◌&&◌, nat_lt, Some, [], false, OnOk, OnErr, vec_len};
+ghost use Rattle.std.specs.Prelude.{◌≡◌, ◌≤◌, ◌<◌, ◌+◌, ◌==◌, ◌&&◌, nat_lt, false, OnOk, OnErr, vec_len};
 ghost use Rattle.lq_device.specs.Multiples.{left_to_multiple};
-ghost use Rattle.lq_model.specs.Device.{IsConfigured, Answers};
+ghost use Rattle.lq_model.specs.Device.{IsConfigured};
 
 use crate::asked::Asked;
 use crate::device::TxDevice;
 use crate::multiples::{is_multiple_next, left_after_one};
-use lq_model::{NoMemory, Params, Tx};
+use lq_model::{NoMemory, Params, StationPlan, Tx};
 use std::alloc::Global;
 
 /// A device that answers by its parameters alone, so that a run over it can be told in advance.
@@ -34,11 +34,19 @@ pub struct BenchDevice {
     ghost stop_counted: { to_stop ≡ left_to_multiple (vec_len accepted) params.burst },
 }
 
-const PLAIN: Params = Params {
-    burst: 0,
-    busy_every: 0,
-    busy_limit: 0,
-    hang_after: 0,
+/// A station of which a plan writes no key: one queue, rings of 1000 slots (`DEFAULT_TX_QUEUE_LEN` of
+/// include/net/pkt_sched.h), and a device that accepts each packet.
+pub const PLAIN: StationPlan = StationPlan {
+    len: 1000,
+    max_len: 1000,
+    bypass: true,
+    params: Params {
+        burst: 0,
+        busy_every: 0,
+        busy_limit: 0,
+        hang_after: 0,
+    },
+    queues: 1,
 };
 
 /// Whether a device hangs once it has accepted so many packets.
@@ -59,7 +67,7 @@ impl BenchDevice {
             alloc,
             accepted: Vec::new(alloc),
             asked: Asked::nothing(),
-            params: PLAIN,
+            params: PLAIN.params,
             busies: 0,
             hung: false,
             to_busy: 0,

@@ -11,7 +11,7 @@ mod multiples;
 mod station;
 
 pub use asked::Asked;
-pub use bench::BenchDevice;
+pub use bench::{BenchDevice, PLAIN};
 pub use device::TxDevice;
 pub use lq_model::{NoMemory, Params, StationPlan, Tx};
 pub use multiples::{is_multiple_next, left_after_one};

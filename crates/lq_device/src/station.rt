@@ -1,5 +1,5 @@
 //! A station's device, with what the holder of its run lock keeps beside it.
-ghost use Rattle.std.specs.Prelude.{◌≡◌, ◌<◌, ◌≤◌, false, [], length, slice_get, slice_index, Some, None, IsNone, IfOk, IfErr, ◌↔◌};
+ghost use Rattle.std.specs.Prelude.{◌≡◌, ◌<◌, ◌≤◌, false, [], length, slice_get, slice_index, Some, None, IfOk, IfErr};
 ghost use Rattle.lq_device.specs.Station.{StationState, HasAnswered, AreBandEnds, sent_list, initial_station, with_slot, with_device, with_ends};
 
 use crate::device::TxDevice;

@@ -1,5 +1,5 @@
 //! The fates of packets, wherever they are kept, and their text.
-ghost use Rattle.std.specs.Prelude.{◌≡◌, ◌<◌, ◌++◌, IfOk, List, OnOk, Some, [], ◌∷◌, length, slice_get};
+ghost use Rattle.std.specs.Prelude.{◌≡◌, ◌<◌, ◌++◌, IfOk, List, OnOk, Some, length, slice_get};
 ghost use Rattle.std.specs.Fmt.{decimal};
 ghost use Rattle.lq_model.specs.Texts.{fate_words, fates_text};
 ghost use Rattle.lq_model.specs.declared.fate.Fate.{Fate};

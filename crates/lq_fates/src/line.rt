@@ -1,5 +1,5 @@
 //! A line of the fates, written from its end to its start, so that it goes into the text in one copy.
-ghost use Rattle.std.specs.Prelude.{◌≡◌, ◌++◌, ◌+◌, ◌<◌, ◌≤◌, length, drop};
+ghost use Rattle.std.specs.Prelude.{◌≡◌, ◌++◌, ◌+◌, ◌≤◌, length, drop};
 ghost use Rattle.std.specs.Fmt.{decimal};
 ghost use Rattle.lq_model.specs.Texts.{fate_words};
 

@@ -5,7 +5,7 @@
 //! decides all else: which form the words are of, whether they have its operands, and which word is which operand. Its
 //! own help and version are switched off, so that `help` and `version` are names like any other. The numbers of `gen` and
 //! of `tap` are read here from their texts.
-ghost use Rattle.std.specs.Prelude.{◌≡◌, ◌≤◌, [], ◌∷◌, true, false, IfOk, IfSome, IsOkAnd, Some, None, codes, option_map, option_and_then};
+ghost use Rattle.std.specs.Prelude.{◌≡◌, ◌≤◌, [], ◌∷◌, true, false, IfOk, IfSome, IsOkAnd, Some, None, option_map, option_and_then};
 ghost use Rattle.std.specs.List.{list_all};
 ghost use Rattle.clap.specs.Words.{app_of, found_of, with_rule, with_subcommand, rows_of, rule_of, subcommand_rows_of};
 ghost use Rattle.clap.specs.declared.builder.command.Command.TheViews.{out-Command as fields_of};

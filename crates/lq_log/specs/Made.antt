@@ -79,6 +79,10 @@ module _ {S V : Type 0} where
   abbrev pub seen : Me S (WithSteps V) → Me S V
   seen m = (m.0.view, m.1)
 
+  -- what a step tells that makes this of the view, by what it found
+  abbrev pub becomes : (ℕ → V → V) → Step S → Me S V → ℕ → Me S V → Type 0
+  becomes view _ m found m' = m' ≡ (view found m.0, m.1)
+
   -- what the step tells of the view, and that it stands at the head of the seat's steps
   pub record Noted (made_of : Step S → ℕ → Made) (told_of : Step S → Me S V → ℕ → Me S V → Type 0) (s : Step S) (m : Me S (WithSteps V)) (found : ℕ) (m' : Me S (WithSteps V)) : Type 0 where
     pub told : told_of s (seen m) found (seen m')

@@ -1,11 +1,10 @@
 //! Small runs of one sender, worked out: each clause is computed from the definition of the run.
-ghost use Rattle.std.specs.Prelude.{◌≡◌, [], ◌∷◌, true, false};
+ghost use Rattle.std.specs.Prelude.{[], ◌∷◌, true, false};
 ghost use Rattle.lq_model.specs.Runs.{packets_in_bands, packets_on, packets_to, station, plan_of_stations, group_of_two, group_event_at, one_station, no_rules, with_burst, event_at, HaveFates, HaveFatesBy, HasOpenings};
 ghost use Rattle.lq_model.specs.declared.plan.Irq.TheVariants.{Period};
 ghost use Rattle.lq_model.specs.declared.fate.Fate.TheVariants.{Sent, Full, Shrunk, Purged, Refused};
 ghost use Rattle.lq_model.specs.declared.fate.Cause.TheVariants.{Event, Hung};
 ghost use Rattle.lq_model.specs.declared.plan.EventKind.TheVariants as kind;
-ghost use Rattle.lq_model.specs.declared.plan.Split.TheVariants.{Round};
 
 /// A queue that stops at each packet and is woken after each fourth. Packet 0 is sent and stops it; packet 1 goes past
 /// the bands into the requeue slot; packets 2 and 3 go to bands 1 and 0. Where packets may not go past the bands, 1 waits

@@ -1,6 +1,6 @@
 //! Captures generated of a number and a count.
-ghost use Rattle.std.specs.Prelude.{◌≡◌, ◌*◌, ◌/◌, ◌%◌, ◌≤◌, ◌<◌, ◌++◌, IfOk, OnOk};
-ghost use Rattle.lq_model.specs.Generated.{generated_capture, generated_frame, generated_header, generated_record, spread};
+ghost use Rattle.std.specs.Prelude.{◌≡◌, ◌*◌, ◌/◌, ◌%◌, ◌≤◌, ◌<◌, IfOk};
+ghost use Rattle.lq_model.specs.Generated.{generated_capture, generated_record, spread};
 
 use crate::layout::HEADER;
 use crate::writer::push_bytes;

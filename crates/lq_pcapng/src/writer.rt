@@ -1,5 +1,5 @@
 // Writing packets of a capture in the pcapng format again.
-ghost use Rattle.std.specs.Prelude.{◌≡◌, ◌<◌, ◌++◌, OnOk, OnErr, length, take, replicate, drop};
+ghost use Rattle.std.specs.Prelude.{◌≡◌, ◌<◌, ◌++◌, OnOk, OnErr, length};
 ghost use Rattle.std.specs.List.{concat};
 ghost use Rattle.lq_pcapng.specs.Pcapng.{packet_block, without_length};
 

@@ -1,9 +1,8 @@
 // The keys of a plan, as docs/FORMATS.md has them in a table.
-ghost use Rattle.std.specs.Prelude.{◌≡◌, codes, if◌then◌else◌, map, nat_lt, ◌^◌, ◌<◌, length};
-ghost use Rattle.std.specs.Option.{option_and_then};
+ghost use Rattle.std.specs.Prelude.{◌≡◌, codes, if◌then◌else◌, nat_lt, ◌<◌};
 ghost use Rattle.toml.specs.View.{table_view};
 ghost use Rattle.lq_plan.specs.Tables.{tables_view};
-ghost use Rattle.lq_plan.specs.Keys.{event_keys, key, key_view, event_word_in, keys_view, len_in, len_presence, max_len_in, max_len_for, mq_in, group_in, params_keys, params_presence, root_keys, station_keys, version_in, version_of};
+ghost use Rattle.lq_plan.specs.Keys.{event_keys, key, key_view, event_word_in, keys_view, len_in, len_presence, max_len_in, max_len_for, mq_in, group_in, params_presence, root_keys, station_keys, version_in, version_of};
 ghost use Rattle.lq_plan.specs.Values.{number_at};
 
 use crate::values::{EventWord, event_word_of, number_at, text_at};

@@ -28,7 +28,7 @@ pub use laws::{accepts_within_limits, version_1_stays, version_2_stays, version_
 pub use lq_model::{EventKind, EventPlan, Irq, Params, PlanReason, Split, Spread, StationPlan};
 pub use openings::Openings;
 pub use order::is_at;
-pub use packets::{infos, threads_for};
+pub use packets::infos;
 pub use plan::{MAX_STATIONS, Plan};
 pub use reader::read_plan;
 pub use refusal::PlanRefusal;

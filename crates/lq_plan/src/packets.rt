@@ -21,7 +21,7 @@ const THREADS: usize = 4;
 const FEW: usize = 4_096;
 
 /// How many threads look at so many packets side by side.
-pub fn threads_for(packets: usize) -> usize
+fn threads_for(packets: usize) -> usize
     ensures { 0 < result }
 {
     if packets < FEW { 1 } else { THREADS }

@@ -1,9 +1,9 @@
 // The values of a table.
-ghost use Rattle.std.specs.Prelude.{◌≡◌, map, option_map, option_and_then, [], string_bytes};
+ghost use Rattle.std.specs.Prelude.{◌≡◌, map, option_map, option_and_then, []};
 ghost use Rattle.std.specs.Option.{option_map_or};
-ghost use Rattle.toml.specs.Data.{as_array, get_member, string};
+ghost use Rattle.toml.specs.Data.{as_array, get_member};
 ghost use Rattle.toml.specs.View.{table_view, view};
-ghost use Rattle.lq_plan.specs.Values.{elements_of, event_word_of, flag_at, number_at, split_of, spread_of, tables_at, text_at};
+ghost use Rattle.lq_plan.specs.Values.{elements_of, event_word_of, flag_at, number_at, split_of, spread_of, text_at};
 
 use lq_model::{Split, Spread};
 use toml::{Table, Value};

@@ -1,6 +1,6 @@
 -- The parts of `direct_xmit`: what each requires of the holder of the run lock (`May..`), and what each ensures of it.
-use Rattle.std.specs.Prelude.{◌≡◌, ◌<◌, ℕ, Bool, true, false, is_some, length, List, [], ◌∷◌, Some, None}
-use Rattle.lq_device.specs.Station.{StationState, HasAnswered, with_slot}
+use Rattle.std.specs.Prelude.{◌≡◌, ◌<◌, ℕ, Bool, true, false, is_some, length, [], ◌∷◌, Some, None}
+use Rattle.lq_device.specs.Station.{StationState, HasAnswered}
 use Rattle.lq_model.specs.Account.{Back}
 use Rattle.lq_model.specs.Device.{is_hang}
 use Rattle.lq_model.specs.Plan.{queue_in}
@@ -10,7 +10,7 @@ use Rattle.lq_model.specs.declared.device.Tx.TheVariants.{Busy as NotSent}
 use Rattle.lq_model.specs.declared.fate.Fate.{Fate}
 use Rattle.lq_model.specs.declared.machine.Blocked.TheVariants.{InHand}
 use Rattle.lq_model.specs.declared.machine.Position.{Position}
-use Rattle.lq_model.specs.declared.machine.Position.TheVariants.{BlockedClear, StoreXoff, Unlock, Xmit}
+use Rattle.lq_model.specs.declared.machine.Position.TheVariants.{BlockedClear, Unlock, Xmit}
 use Rattle.lq_ring.specs.Seats.{KeepsSeatAndView}
 use Rattle.lq_table.specs.Made.{◌⊳◌}
 use Rattle.lq_table.specs.Views.{Known}
@@ -23,9 +23,9 @@ use Rattle.lq_table.specs.Moves.{IsPacketOf}
 use Rattle.lq_table.specs.declared.shared.Cpu.{Cpu}
 use Rattle.lq_table.specs.declared.shared.Shared.{Shared}
 use Rattle.lq_qdisc.specs.Calls.{ClearsMissedAlone, IsServing, IsKeptInRun, IsSettledSame}
-use Rattle.lq_qdisc.specs.Direct.{SeesOpen, StaysAt, hearing_hung, hearing_stops, hung_below, run_after, sent_leads, stopped_by}
+use Rattle.lq_qdisc.specs.Direct.{SeesOpen, StaysAt, hearing_stops, run_after, sent_leads, stopped_by}
 use Rattle.lq_qdisc.specs.Seats.{CarriesAccepted, GoesOnFrom, StoresSent}
-use Rattle.lq_qdisc.specs.Steps.{ClearsAndSetsBy, hung_stored, stops_stored}
+use Rattle.lq_qdisc.specs.Steps.{ClearsAndSetsBy, stops_stored}
 use Rattle.lq_qdisc.specs.declared.answers.Through.{Through}
 use Rattle.lq_qdisc.specs.declared.answers.Through.TheVariants.{Yes}
 

@@ -1,5 +1,5 @@
 //! The pointer ring on one thread (`struct ptr_ring` of include/linux/ptr_ring.h).
-ghost use Rattle.std.specs.Prelude.{◌≡◌, ℕ, ◌+◌, ◌-◌, ◌<◌, ◌≤◌, ◌↔◌, [], ◌∷◌, ◌++◌, length, take, drop, min, slice_get, Some, None, IfOk, IfErr, OnOk, OnErr, OnSome, IfSome, IfNone, IsErr, IsNone, IsTrue, All};
+ghost use Rattle.std.specs.Prelude.{◌≡◌, ◌+◌, ◌-◌, ◌<◌, ◌≤◌, ◌↔◌, [], ◌∷◌, ◌++◌, length, take, drop, min, slice_get, Some, IfOk, IfErr, OnOk, OnErr, OnSome, IfSome, IfNone, IsErr, IsNone, IsTrue, All};
 ghost use Rattle.std.specs.Bool.{OnTrue, OnFalse};
 ghost use Rattle.lq_model.specs.Band.{Band, IsOccupied, MayBeFull, empty_band, held_of, joined, taken_by, resized};
 ghost use Rattle.lq_ring_core.specs.Ring.{IsBounded, IsFull, new_ring, entries_of, after_produce, after_consume, after_consumes, after_clear, with_before, after_unconsume, after_resize, dropped_of};

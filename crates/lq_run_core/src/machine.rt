@@ -21,7 +21,6 @@ pub struct Machine {
 
 impl Model for Machine {
     ghost use Rattle.std.specs.Prelude.{◌≡◌, ◌≤◌, vec_len};
-    ghost use Rattle.lq_model.specs.Machine.{Machine as State};
     ghost use Rattle.lq_model.specs.Kept.{CallsInside};
     ghost use Rattle.lq_run_core.specs.Numbered.{NumberedMachine};
 
@@ -33,7 +32,7 @@ impl Model for Machine {
 }
 
 impl Machine {
-    ghost use Rattle.std.specs.Prelude.{◌≡◌, ◌≤◌, ◌<◌, ◌+◌, ◌&&◌, true, IfOk, is_some, unwrap_or, length, if◌then◌else◌, slice_index};
+    ghost use Rattle.std.specs.Prelude.{◌≡◌, ◌≤◌, ◌<◌, ◌+◌, ◌&&◌, true, IfOk, is_some, unwrap_or, length, if◌then◌else◌};
     ghost use Rattle.lq_model.specs.Machine.{first_machine, seat_at, state_word, bit};
     ghost use Rattle.lq_model.specs.Steps.{step_of};
     ghost use Rattle.lq_run_core.specs.Numbered.{IsInRange, KeepsInvariant, begun_by, is_send, packets_held};

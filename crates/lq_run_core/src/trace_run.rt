@@ -1,7 +1,5 @@
 //! A schedule worked on a machine.
 ghost use Rattle.std.specs.Prelude.{◌≡◌, ◌+◌, ◌<◌, ◌≤◌, ◌^◌, ◌∷◌, length, IfOk, None};
-ghost use Rattle.lq_model.specs.Machine.{Machine as State};
-ghost use Rattle.lq_run_core.specs.Numbered.{NumberedMachine};
 ghost use Rattle.lq_run_core.specs.Schedule.{IsActionInRange, lines, is_passed_over, words};
 ghost use Rattle.lq_run_core.specs.Trace.{steps_of, action_done, command_done, told_line_done, line_done, schedule_done, IsDoneWherePossible, Tells, sends_so_far, steps_so_far};
 ghost use Rattle.lq_run_core.specs.TraceText.{schedule_text};

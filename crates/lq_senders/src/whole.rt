@@ -1,5 +1,5 @@
 //! The run of all senders over the stations of a plan.
-ghost use Rattle.std.specs.Prelude.{◌≡◌, ◌≤◌, ◌+◌, ℕ, List, [], length, map, vec_capacity};
+ghost use Rattle.std.specs.Prelude.{◌≡◌, ◌≤◌, ◌+◌, List, [], length, map, vec_capacity};
 ghost use Rattle.lq_senders.specs.Ends.{HasSentAll, closed_state};
 ghost use Rattle.lq_senders.specs.Joins.{AreFirst};
 ghost use Rattle.lq_senders.specs.Lanes.{AreReadyLanes, LaneStands};

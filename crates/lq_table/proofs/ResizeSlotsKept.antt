@@ -27,12 +27,13 @@ use Rattle.lq_band_laws.proofs.HalfResizedKept.{clears, clears_other, fills}
 use Rattle.lq_table.specs.Views.{View, Setup, State, HolderPart, HalfResize, Work, Left}
 use Rattle.lq_table.specs.Rule.{words_of, slot_word, account, holders, owes, waiting_of, unstored, FatesStored, bands_now, Leaves, IsResizing, locks_at, Settled, Parts, Rule}
 use Rattle.lq_table.specs.Moves.{Sat}
-use Rattle.lq_table.specs.Resizes.{is_word, is_member, hand_with, out_of, into, with_work, with_resizing, clear_slot_told, fill_slot_told}
+use Rattle.lq_table.specs.Resizes.{is_word, is_member, hand_with, out_of, into, with_work, with_resizing, clear_slot_told, fill_slot_view}
 use Rattle.lq_table.proofs.ByName.{slots_long, set_slot, slot_of}
 use Rattle.lq_table.proofs.SettledKept.{settled_same}
 use Rattle.lq_table.proofs.Frames.{none_some, packets_same, locks_same, control_same, rule_after, stays, lends_held, holder_now}
 use Rattle.lq_table.proofs.SeatFrames.{seats_settled, sole_on}
 use Rattle.lq_table.proofs.StationFrames.{stands_same}
+use Rattle.lq_log.specs.Made.{becomes}
 
 -- WORDS OF PACKETS
 
@@ -186,7 +187,7 @@ module _ (k : Setup) where
         )
 
     -- a packet in hand is put into an empty slot
-    pub fills_slot : (n : ℕ) (hand : List ℕ) → (at b t.works).hand ≡ n ∷ hand → get_or (at b t.works).slots i 0 ≡ 0 → Allows (Rule k) slots id m word (λ _. n + 1) (λ _. fill_slot_told b i n hand t (step slots word (n + 1) 0 none) m (n + 1))
+    pub fills_slot : (n : ℕ) (hand : List ℕ) → (at b t.works).hand ≡ n ∷ hand → get_or (at b t.works).slots i 0 ≡ 0 → Allows (Rule k) slots id m word (λ _. n + 1) (λ _. becomes (λ _. fill_slot_view b i n hand t) (step slots word (n + 1) 0 none) m (n + 1))
     fills_slot n hand has_it empty_ s r1 deep here small =
         let v : View = m.0 in let r = resizing_rule k s r1 (Some t) (resizing_known k s r1 id v (Some t) here some_share holds under_way) in let p = r.parts in let g = r.state in let W = words_of k s.words in let a = account k g in
         let y : Work = at b t.works in

@@ -64,6 +64,3 @@ zero_slot_view b v = record v {
   holder = record v.holder { ends = put b (emptied_on v.holder.size (at b v.holder.ends)) v.holder.ends };
   whole = record v.whole { state = record v.whole.state { ends = put b (emptied_on v.holder.size (at b v.whole.state.ends)) v.whole.state.ends } };
 }
-
-abbrev pub zero_slot_told : ℕ → Step (Option StationState) → Sat → ℕ → Sat → Type 0
-zero_slot_told b _ m found m' = m' ≡ (zero_slot_view b m.0, m.1)

@@ -106,6 +106,3 @@ settle_alone st (fate.Full seen) v = v
 settle_alone st (fate.Shrunk event) v = v
 settle_alone st (fate.Purged cause) v = v
 settle_alone st (fate.Refused event) v = v
-
-abbrev pub settle_told : StationState → ℕ → ℕ → Fate → Step (Option StationState) → Sat → ℕ → Sat → Type 0
-settle_told st b n f _ m found m' = m' ≡ (settle_view st b n f m.0, m.1)

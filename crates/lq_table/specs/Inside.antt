@@ -2,7 +2,7 @@
 use Rattle.std.specs.Option.{option_map}
 use Rattle.std.specs.Prelude.{Option, Some, None, true, ◌≡◌, ◌⊎◌, is_some, false, Bool, if◌then◌else◌, ℕ}
 use Rattle.lq_device.specs.Station.{StationState}
-use Rattle.lq_log.specs.Made.{Made, rise, fall, load}
+use Rattle.lq_log.specs.Made.{Made, rise, fall, load, becomes}
 use Rattle.lq_model.specs.Control.{found_inside}
 use Rattle.lq_model.specs.Steps.{begun}
 use Rattle.lq_model.specs.declared.machine.Answer.TheVariants.{Plain}
@@ -42,12 +42,9 @@ lowered v = record v { raised = false }
 abbrev pub enter_alone : Bool → Solo → Solo
 enter_alone brings v = if brings then v else lowered v
 
-abbrev pub enter_told : Step (Option StationState) → Sat → ℕ → Sat → Type 0
-enter_told _ m found m' = m' ≡ (enter_view m.0, m.1)
-
 -- the packet that it brings is the one whose turn it has
-abbrev pub enter_told_all : Step (Option StationState) → Sat → ℕ → Sat → Type 0
-enter_told_all step m found m' = enter_told step m found m' × ((n : ℕ) → m.0.packets.fresh ≡ Some n → m.0.packets.busy ≡ Some n)
+abbrev pub enter_told : Step (Option StationState) → Sat → ℕ → Sat → Type 0
+enter_told step m found m' = becomes (λ _. enter_view) step m found m' × ((n : ℕ) → m.0.packets.fresh ≡ Some n → m.0.packets.busy ≡ Some n)
 
 -- leave: a call ends; its view is that of `pass`.
 
@@ -64,6 +61,3 @@ load_inside_view n v = record v {
   control = record v.control { phase = found_inside n v.control.phase };
   whole = record v.whole { qdisc = record v.whole.qdisc { phase = found_inside v.whole.qdisc.inside v.whole.qdisc.phase } };
 }
-
-abbrev pub load_inside_told : Step (Option StationState) → Sat → ℕ → Sat → Type 0
-load_inside_told _ m found m' = m' ≡ (load_inside_view found m.0, m.1)

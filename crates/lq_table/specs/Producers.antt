@@ -1,6 +1,6 @@
 -- The steps on the producer words, the size and the slots, of a seat that brings a packet.
 use Rattle.std.specs.Prelude.{ℕ, ◌%◌, length, ◌≡◌, ◌*◌, false, Option, Bool, ◌+◌, ◌==◌, ◌<◌, ◌≢◌, Some, ◌≤◌, true, None, ◌-◌, ◌↔◌}
-use Rattle.lq_band_laws.specs.Ring.{Lock, locked_at, index_given, unlocked, sized_if, is_emptying, with_room, having_stored}
+use Rattle.lq_band_laws.specs.Ring.{Lock, locked_at, index_given, sized_if, is_emptying, with_room, having_stored}
 use Rattle.lq_band_laws.specs.Three.{put, at}
 use Rattle.lq_device.specs.Station.{StationState}
 use Rattle.lq_log.specs.Made.{Made, load, exchange, store}
@@ -70,9 +70,6 @@ give_producer_log band index = store (producer_place band) (2 * index)
 abbrev pub IsIndexGiven : ℕ → Lock → Type 0
 IsIndexGiven index l = (size : ℕ) × (l.size ≡ Some size) × (index ≡ index_given size l)
 
-abbrev pub give_producer_told : ℕ → Step (Option StationState) → Sat → ℕ → Sat → Type 0
-give_producer_told b _ m found m' = m' ≡ (with_lock_at b unlocked m.0, m.1)
-
 -- load_size: the size is loaded. It serves under each producer lock that the seat has.
 
 abbrev pub load_size_log : ℕ → Made
@@ -130,6 +127,3 @@ store_slot_log k band i v = store (slot_word k band i) v
 -- the packet joined the band
 abbrev pub store_slot_view : ℕ → ℕ → View → View
 store_slot_view b n v = record (moved Plain (seen_by v) (λ h. h) (past_with (Join n b)) v) { packets = record v.packets { fresh = None }; locks = put b (having_stored (at b v.locks)) v.locks; trail = on_trail (Join n b) v }
-
-abbrev pub store_slot_told : ℕ → ℕ → Step (Option StationState) → Sat → ℕ → Sat → Type 0
-store_slot_told b n _ m found m' = m' ≡ (store_slot_view b n m.0, m.1)

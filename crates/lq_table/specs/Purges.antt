@@ -151,12 +151,6 @@ no_missed q = record q { missed = false }
 abbrev pub no_draining : Qdisc → Qdisc
 no_draining q = record q { draining = false }
 
-abbrev pub purge_ending_told : (Qdisc → Qdisc) → Step (Option StationState) → Sat → ℕ → Sat → Type 0
-purge_ending_told bit _ m found m' = m' ≡ (purge_ending bit m.0, m.1)
-
-abbrev pub purge_going_told : (Qdisc → Qdisc) → Purge → Step (Option StationState) → Sat → ℕ → Sat → Type 0
-purge_going_told bit u _ m found m' = m' ≡ (purge_going bit u m.0, m.1)
-
 -- control clears MISSED after the last packet of a purge
 abbrev pub reset_missed_view_in : Option Purge → View → View
 reset_missed_view_in (Some u) v = if u.draining then purge_ending no_missed v else purge_going no_missed (record u { missed = true }) v
@@ -165,9 +159,6 @@ reset_missed_view_in None v = v
 abbrev pub reset_missed_view : View → View
 reset_missed_view v = reset_missed_view_in v.control.purge v
 
-abbrev pub reset_missed_told : Step (Option StationState) → Sat → ℕ → Sat → Type 0
-reset_missed_told _ m found m' = m' ≡ (reset_missed_view m.0, m.1)
-
 -- and DRAINING
 abbrev pub reset_draining_view_in : Option Purge → View → View
 reset_draining_view_in (Some u) v = if u.missed then purge_ending no_draining v else purge_going no_draining (record u { draining = true }) v
@@ -175,6 +166,3 @@ reset_draining_view_in None v = v
 
 abbrev pub reset_draining_view : View → View
 reset_draining_view v = reset_draining_view_in v.control.purge v
-
-abbrev pub reset_draining_told : Step (Option StationState) → Sat → ℕ → Sat → Type 0
-reset_draining_told _ m found m' = m' ≡ (reset_draining_view m.0, m.1)

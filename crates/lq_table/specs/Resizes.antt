@@ -15,7 +15,6 @@ use Rattle.lq_ring_core.specs.Slots.{round}
 use Rattle.atomic_table.specs.Table.{Step}
 use Rattle.lq_table.specs.Moves.{Sat}
 use Rattle.lq_table.specs.Places.{slot_word, producer_place, size_place}
-use Rattle.lq_table.specs.Producers.{with_lock_at}
 use Rattle.lq_table.specs.Rule.{IsResting}
 use Rattle.lq_table.specs.Sees.{view, lock_at, IsSole, account_of}
 use Rattle.lq_table.specs.Views.{Work, HalfResize, View, Setup}
@@ -142,16 +141,10 @@ module _ {D : Type 0} where
   abbrev pub FillsSlot : ℕ → ℕ → ℕ → Cpu D → Cpu D → Type 0
   FillsSlot band i n b a = (t : HalfResize) (hand : List ℕ) → (view b).holder.resizing ≡ Some t → (at band t.works).hand ≡ n ∷ hand → view a ≡ fill_slot_view band i n hand t (view b)
 
-abbrev pub fill_slot_told : ℕ → ℕ → ℕ → List ℕ → HalfResize → Step (Option StationState) → Sat → ℕ → Sat → Type 0
-fill_slot_told b i n hand t _ m found m' = m' ≡ (fill_slot_view b i n hand t m.0, m.1)
-
 -- set_producer: a producer word is stored as locked, with the index behind what the band keeps.
 
 abbrev pub set_producer_log : ℕ → ℕ → Made
 set_producer_log band index = store (producer_place band) (2 * index + 1)
-
-abbrev pub set_producer_told : ℕ → ℕ → Step (Option StationState) → Sat → ℕ → Sat → Type 0
-set_producer_told b i _ m found m' = m' ≡ (with_lock_at b (locked_at i) m.0, m.1)
 
 -- store_size: the new length is stored, and the rings start again.
 
@@ -169,6 +162,3 @@ store_size_view t v = record v {
   holder = record v.holder { size = t.len; ends = all_three at_start; resizing = None };
   whole = record v.whole { state = record v.whole.state { ends = all_three at_start; resizing = None } };
 }
-
-abbrev pub store_size_told : HalfResize → Step (Option StationState) → Sat → ℕ → Sat → Type 0
-store_size_told t _ m found m' = m' ≡ (store_size_view t m.0, m.1)

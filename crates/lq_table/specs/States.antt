@@ -4,7 +4,7 @@ use Rattle.std.specs.Option.{option_map}
 use Rattle.std.specs.Prelude.{Bool, ◌||◌, ℕ, ◌≡◌, ◌<◌, ◌*◌, ◌+◌, Some, is_some, true, false, Option, None, ◌-◌, ◌/◌, if◌then◌else◌, not, ◌∷◌}
 use Rattle.lq_account_laws.specs.Trail.{down_of}
 use Rattle.lq_device.specs.Station.{StationState, with_slot, HasAnswered}
-use Rattle.lq_log.specs.Made.{Made, load, set, clear}
+use Rattle.lq_log.specs.Made.{Made, load, set, clear, becomes}
 use Rattle.lq_model.specs.Account.{Refuse, Direct, Back}
 use Rattle.lq_model.specs.Machine.{Qdisc}
 use Rattle.lq_model.specs.Positions.{in_hand}
@@ -78,10 +78,7 @@ abbrev pub load_state_view : ℕ → View → View
 load_state_view n v = stepped Plain (seen_state (seen_by v) v.share.about.bypass n) v
 
 abbrev pub load_state_told : Step (Option StationState) → Sat → ℕ → Sat → Type 0
-load_state_told _ m found m' = m' ≡ (load_state_view found m.0, m.1)
-
-abbrev pub load_state_told_all : Step (Option StationState) → Sat → ℕ → Sat → Type 0
-load_state_told_all s m found m' = load_state_told s m found m' × (IsSole m.0 → SeesState m.0 found)
+load_state_told s m found m' = becomes load_state_view s m found m' × (IsSole m.0 → SeesState m.0 found)
 
 -- check: the first load of the state in a transmit. A packet of a deactivated station is refused.
 
@@ -137,10 +134,7 @@ abbrev pub miss_view : Bool → View → View
 miss_view was v = stepped Plain (record (seen_by v) { missed = was }) v
 
 abbrev pub miss_told : Step (Option StationState) → Sat → ℕ → Sat → Type 0
-miss_told _ m found m' = m' ≡ (miss_view (is_set 4 found) m.0, m.1)
-
-abbrev pub miss_told_all : Step (Option StationState) → Sat → ℕ → Sat → Type 0
-miss_told_all s m found m' = miss_told s m found m' × (IsSole m.0 → SeesState m.0 found)
+miss_told s m found m' = becomes (λ found. miss_view (is_set 4 found)) s m found m' × (IsSole m.0 → SeesState m.0 found)
 
 -- look_missed: the state is looked at before MISSED is set. In the log it is a load of the state.
 
@@ -174,10 +168,7 @@ abbrev pub set_sched_alone : Bool → Solo → Solo
 set_sched_alone was v = record v { raised = v.raised || not was; whole = record v.whole { scheduled = true } }
 
 abbrev pub set_sched_told : Step (Option StationState) → Sat → ℕ → Sat → Type 0
-set_sched_told _ m found m' = m' ≡ (set_sched_view (is_set 1 found) m.0, m.1)
-
-abbrev pub set_sched_told_all : Step (Option StationState) → Sat → ℕ → Sat → Type 0
-set_sched_told_all s m found m' = set_sched_told s m found m' × (IsSole m.0 → SeesState m.0 found)
+set_sched_told s m found m' = becomes (λ found. set_sched_view (is_set 1 found)) s m found m' × (IsSole m.0 → SeesState m.0 found)
 
 -- clear_sched: a soft interrupt clears SCHED; its view is that of `pass`.
 
@@ -238,9 +229,6 @@ set_bit_view v = if is_some (in_hand v.place.position) then backing v else pass_
 abbrev pub set_bit_alone : View → Solo → Solo
 set_bit_alone v w = if is_some (in_hand v.place.position) then heard Back w else w
 
-abbrev pub set_bit_told : Step (Option StationState) → Sat → ℕ → Sat → Type 0
-set_bit_told _ m found m' = m' ≡ (set_bit_view m.0, m.1)
-
 -- requeue: the device didn't accept the packet, which goes to the requeue slot, and MISSED is set.
 
 module _ {D : Type 0} where
@@ -262,6 +250,3 @@ requeue_view st v = record v {
     state = record v.whole.state { past = Back ∷ v.whole.state.past; station = st };
   };
 }
-
-abbrev pub requeue_told : StationState → Step (Option StationState) → Sat → ℕ → Sat → Type 0
-requeue_told st _ m found m' = m' ≡ (requeue_view st m.0, m.1)

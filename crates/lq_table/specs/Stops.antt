@@ -134,9 +134,6 @@ store_xoff_view_from position v = v
 abbrev pub store_xoff_view : View → View
 store_xoff_view v = store_xoff_view_from v.place.position v
 
-abbrev pub store_xoff_told : Step (Option StationState) → Sat → ℕ → Sat → Type 0
-store_xoff_told _ m found m' = m' ≡ (store_xoff_view m.0, m.1)
-
 -- look_stop: the stop word is looked at before it is exchanged, and nothing is done.
 
 module _ {D : Type 0} where

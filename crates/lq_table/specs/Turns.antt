@@ -47,9 +47,6 @@ give_turn_log owner rank = store (turn_place owner) (2 * rank + 2)
 abbrev pub give_turn_view : ℕ → ℕ → View → View
 give_turn_view owner rank v = record v { packets = record v.packets { busy = None }; turns = slice_set v.turns owner (2 * rank + 2) }
 
-abbrev pub give_turn_told : ℕ → ℕ → Step (Option StationState) → Sat → ℕ → Sat → Type 0
-give_turn_told owner rank _ m found m' = m' ≡ (give_turn_view owner rank m.0, m.1)
-
 -- load_turn: a turn word is loaded.
 
 abbrev pub load_turn_log : ℕ → ℕ → Made

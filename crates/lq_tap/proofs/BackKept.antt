@@ -14,13 +14,14 @@ use Rattle.lq_band_laws.proofs.HoldsKept.{finds_room_before, finds_full_before, 
 use Rattle.lq_tap.specs.Views.{View, Setup}
 use Rattle.lq_tap.specs.Made.{Sat, slot_word}
 use Rattle.lq_tap.specs.Told.{without_last}
-use Rattle.lq_tap.specs.Tells.{with_lock, destroying, slot_before_seen, putting_back, slot_before_stored}
+use Rattle.lq_tap.specs.Tells.{with_lock, destroying, slot_before_seen, putting_back}
 use Rattle.lq_tap.specs.Rule.{words_of, locks_of, band_of, Ordered, Rule}
 use Rattle.lq_tap.specs.declared.view.Consumer.{Consumer}
 use Rattle.lq_tap.proofs.ByName.{set_slot, slot_of}
 use Rattle.lq_tap.proofs.Orders.{ordered_without}
 use Rattle.lq_tap.proofs.Frames.{lock_here, locks_after, ring_same, ring_step, lends_same, lends_held, rule_after, rule_load}
 use Rattle.lq_tap.proofs.ConsumerKept.{own_parts, about_is}
+use Rattle.lq_log.specs.Made.{becomes}
 
 -- LISTS
 
@@ -105,7 +106,7 @@ module _ (k : Setup) where
 
   -- the last packet of the batch is stored there
   pub stores_before : (slots id : ℕ) (m : Sat) (i n : ℕ) (rest : List ℕ) → m.0.reader.reads ≡ true → m.0.reader.holds ≡ true → m.0.lock.holds ≡ true → m.0.lock.stored ≡ false → m.0.lock.room ≡ true → m.0.reader.ends.tail ≡ m.0.reader.ends.head → m.0.reader.ends.edge ≡ m.0.reader.ends.head
-      → i ≡ place_before m.0.about.len m.0.reader.ends.head 1 → m.0.reader.batch ≡ rest ++ n ∷ [] → Allows (Rule k) slots id m (slot_word i) (λ _. n + 1) (λ _. slot_before_stored (step slots (slot_word i) (n + 1) 0 none) m (n + 1))
+      → i ≡ place_before m.0.about.len m.0.reader.ends.head 1 → m.0.reader.batch ≡ rest ++ n ∷ [] → Allows (Rule k) slots id m (slot_word i) (λ _. n + 1) (λ _. becomes (λ _. putting_back) (step slots (slot_word i) (n + 1) 0 none) m (n + 1))
   stores_before slots id m i n rest reads has locked new room clear edge place batch_is s r deep here small =
       let v : View = m.0 in let p = r.parts in let g = r.state in let W = words_of s.words in let h = p.reads id v here reads in let about = about_is k s r id v here reads in let w : View = putting_back v in
       let clear' : g.ends.tail ≡ g.ends.head = subst (λ (c : Ends). c.tail ≡ c.head) h.ends_are clear in let edge' : g.ends.edge ≡ g.ends.head = subst (λ (c : Ends). c.edge ≡ c.head) h.ends_are edge in

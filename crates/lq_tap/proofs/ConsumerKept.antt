@@ -21,12 +21,13 @@ use Rattle.lq_band_laws.proofs.Times.{times_append, times_drop}
 use Rattle.lq_band_laws.proofs.HoldsKept.{finds_none_held, takes_held, empties_held}
 use Rattle.lq_tap.specs.Views.{View, Setup, ReaderPart}
 use Rattle.lq_tap.specs.Made.{Sat, slot_word}
-use Rattle.lq_tap.specs.Tells.{with_consumer, beginning, consumer_taken, consumer_given, return_ended, taking, finding_none, head_slot_seen, emptying, slot_emptied}
+use Rattle.lq_tap.specs.Tells.{with_consumer, beginning, consumer_taken, consumer_given, return_ended, taking, finding_none, head_slot_seen, emptying}
 use Rattle.lq_tap.specs.Rule.{Words, words_of, one_if, reading, IsSeat, ArePuts, KnowsReads, locks_of, band_of, consumer_of, holding, Ordered, Lends, Parts, Rule}
 use Rattle.lq_tap.specs.declared.view.Consumer.{Consumer}
 use Rattle.lq_tap.proofs.ByName.{set_consumer, set_slot, slot_of}
 use Rattle.lq_tap.proofs.Orders.{times_self, no_more}
 use Rattle.lq_tap.proofs.Frames.{seats_same, puts_same, reads_step, locks_same, ring_same, lends_held, rule_after, rule_load, rule_same}
+use Rattle.lq_log.specs.Made.{becomes}
 
 -- LISTS
 
@@ -259,7 +260,7 @@ module _ (k : Setup) where
   -- THE SLOT BELOW THE EDGE IS EMPTIED
 
   pub empties_slot : (slots id : ℕ) (m : Sat) (i : ℕ) → m.0.reader.reads ≡ true → m.0.reader.holds ≡ true → m.0.reader.ends.tail < m.0.reader.ends.edge → i + 1 ≡ m.0.reader.ends.edge
-      → Allows (Rule k) slots id m (slot_word i) (λ _. 0) (λ _. slot_emptied (step slots (slot_word i) 0 0 none) m 0)
+      → Allows (Rule k) slots id m (slot_word i) (λ _. 0) (λ _. becomes (λ _. emptying) (step slots (slot_word i) 0 0 none) m 0)
   empties_slot slots id m i reads has below place s r deep here small =
       let v : View = m.0 in let p = r.parts in let g = r.state in let W = words_of s.words in let h = p.reads id v here reads in let about = about_is k s r id v here reads in let w : View = emptying v in
       let inside : g.ends.tail < g.ends.edge = subst (λ (c : Ends). c.tail < c.edge) h.ends_are below in

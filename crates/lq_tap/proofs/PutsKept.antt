@@ -24,12 +24,13 @@ use Rattle.lq_tap.specs.Views.{View, Setup, ReaderPart}
 use Rattle.lq_tap.specs.Made.{Sat, slot_word}
 use Rattle.lq_tap.specs.Told.{having_put, having_found_full, having_ended, having_seen_ended}
 use Rattle.lq_tap.specs.Settled.{ComesBefore}
-use Rattle.lq_tap.specs.Tells.{with_lock, producer_seen, producer_taken, producer_given, producer_slot_seen, producer_slot_stored, end_noted, ended_seen}
+use Rattle.lq_tap.specs.Tells.{with_lock, producer_seen, producer_taken, producer_slot_seen, producer_slot_stored}
 use Rattle.lq_tap.specs.Rule.{words_of, TapState, reading, sending, open_in, IsSeat, Seats, came, KnowsPuts, ArePuts, KnowsReads, locks_of, band_of, Ordered, Rule}
 use Rattle.lq_tap.specs.declared.view.Consumer.{Consumer}
 use Rattle.lq_tap.proofs.ByName.{set_producer, set_ended, set_slot, slot_of}
 use Rattle.lq_tap.proofs.Orders.{times_self, times_later, ordered_snoc}
 use Rattle.lq_tap.proofs.Frames.{seats_same, puts_same, reads_same, reads_beside, reads_step, lock_here, ring_same, ring_step, lends_same, rule_after, rule_load, rule_same}
+use Rattle.lq_log.specs.Made.{becomes}
 
 -- LISTS
 
@@ -191,7 +192,7 @@ module _ (k : Setup) where
       ))
 
   pub gives_producer : (slots id : ℕ) (m : Sat) (i : ℕ) → m.0.lock.holds ≡ true → i ≡ index_given k.len m.0.lock
-      → Allows (Rule k) slots id m 8 (λ _. 2 * i) (λ _. producer_given (step slots 8 (2 * i) 0 none) m (2 * i))
+      → Allows (Rule k) slots id m 8 (λ _. 2 * i) (λ _. becomes (λ _. with_lock unlocked) (step slots 8 (2 * i) 0 none) m (2 * i))
   gives_producer slots id m i has is s r deep here small =
       let v : View = m.0 in let p = r.parts in let W = words_of s.words in let w : View = with_lock unlocked v in
       let ring = gives_held k.len W.slots W.producer (locks_of s.views) (band_of r.state) r.state.ends id v.lock p.ring (lock_here k s.views id v w here) has in (
@@ -306,7 +307,7 @@ module _ (k : Setup) where
 -- ENDS
 
 module _ (k : Setup) where
-  pub ends_sender : (slots id : ℕ) (m : Sat) (t : Step Consumer) → m.0.sender.going ≡ true → Allows (Rule k) slots id m 24 (λ n. (n + 1) % 2 ^ 64) (end_noted t m)
+  pub ends_sender : (slots id : ℕ) (m : Sat) (t : Step Consumer) → m.0.sender.going ≡ true → Allows (Rule k) slots id m 24 (λ n. (n + 1) % 2 ^ 64) (becomes (λ _. having_ended) t m)
   ends_sender slots id m t going s r deep here small =
       let v : View = m.0 in let p = r.parts in let g = r.state in let W = words_of s.words in let w : View = having_ended v in
       let open_here = opens k W.ended s.views id v here p.seats going in let number = p.seats.ended_is in let few = r.limits.senders in
@@ -353,7 +354,7 @@ module _ (k : Setup) where
         refl,
       )
 
-  pub sees_ended : (slots id : ℕ) (m : Sat) (t : Step Consumer) → m.0.about ≡ k → m.0.reader.reads ≡ true → Allows (Rule k) slots id m 24 (λ n. n) (ended_seen t m)
+  pub sees_ended : (slots id : ℕ) (m : Sat) (t : Step Consumer) → m.0.about ≡ k → m.0.reader.reads ≡ true → Allows (Rule k) slots id m 24 (λ n. n) (becomes having_seen_ended t m)
   sees_ended slots id m t about reads s r deep here small =
       let v : View = m.0 in let p = r.parts in let g = r.state in let W = words_of s.words in let w : View = having_seen_ended W.ended v in let h = p.reads id v here reads in (
         w,

@@ -1,11 +1,11 @@
 -- What each step on a word tells its caller.
 use Rattle.std.specs.Prelude.{◌≡◌, ◌≢◌, ℕ, ◌-◌, ◌/◌, ◌<◌, ◌≤◌, Bool, true, false, ◌==◌, ◌&&◌, [], ◌∷◌, ◌++◌, length, drop}
 use Rattle.atomic_table.specs.Table.{Step}
-use Rattle.lq_band_laws.specs.Ring.{Ends, Lock, unlocked, locked_at, with_room, without_room, having_stored, cleared_at, taken_on, after_take, emptied_on, IsAtRest}
+use Rattle.lq_band_laws.specs.Ring.{Ends, Lock, locked_at, with_room, without_room, having_stored, cleared_at, taken_on, after_take, emptied_on, IsAtRest}
 use Rattle.lq_ring_core.specs.Ring.{place_before}
 use Rattle.lq_tap.specs.Views.{View, AreFew}
 use Rattle.lq_tap.specs.Made.{Sat}
-use Rattle.lq_tap.specs.Told.{having_put, having_found_full, having_ended, having_seen_ended, without_last}
+use Rattle.lq_tap.specs.Told.{having_put, having_found_full, without_last}
 use Rattle.lq_tap.specs.Settled.{IsSettled}
 use Rattle.lq_tap.specs.Rule.{consumer_of}
 use Rattle.lq_tap.specs.declared.view.Consumer.{Consumer}
@@ -21,9 +21,6 @@ producer_seen _ m found m' = m' ≡ m
 abbrev pub producer_taken : Step Consumer → Sat → ℕ → Sat → Type 0
 producer_taken s m found m' = (found ≡ s.first → (m' ≡ (with_lock (locked_at (s.first / 2)) m.0, m.1)) × (s.first / 2 < m.0.about.len)) × (found ≢ s.first → m' ≡ m)
 
-abbrev pub producer_given : Step Consumer → Sat → ℕ → Sat → Type 0
-producer_given _ m found m' = m' ≡ (with_lock unlocked m.0, m.1)
-
 -- PUTS
 
 -- the slot at the index is loaded: there is room, or the next packet is full
@@ -33,14 +30,6 @@ producer_slot_seen _ m found m' = (found ≡ 0 → m' ≡ (with_lock (with_room 
 
 abbrev pub producer_slot_stored : Step Consumer → Sat → ℕ → Sat → Type 0
 producer_slot_stored _ m found m' = m' ≡ (with_lock (having_stored m.0.lock) (having_put m.0.sender.next m.0), m.1)
-
--- ENDS
-
-abbrev pub end_noted : Step Consumer → Sat → ℕ → Sat → Type 0
-end_noted _ m found m' = m' ≡ (having_ended m.0, m.1)
-
-abbrev pub ended_seen : Step Consumer → Sat → ℕ → Sat → Type 0
-ended_seen _ m found m' = m' ≡ (having_seen_ended found m.0, m.1)
 
 -- THE CONSUMER LOCK
 
@@ -84,9 +73,6 @@ with_ends ends v = record v { reader = record v.reader { ends = ends } }
 abbrev pub emptying : View → View
 emptying v = record v { reader = record v.reader { ends = emptied_on v.about.len v.reader.ends } }
 
-abbrev pub slot_emptied : Step Consumer → Sat → ℕ → Sat → Type 0
-slot_emptied _ m found m' = m' ≡ (emptying m.0, m.1)
-
 -- the ends between two calls, as the reader reads them
 abbrev pub rest_at : Consumer → Ends
 rest_at c = record { head = c.head; tail = c.tail; edge = c.head }
@@ -120,9 +106,6 @@ putting_back v = record v {
     batch = without_last 1 v.reader.batch;
   };
 }
-
-abbrev pub slot_before_stored : Step Consumer → Sat → ℕ → Sat → Type 0
-slot_before_stored _ m found m' = m' ≡ (putting_back m.0, m.1)
 
 -- it has the producer lock, and has found nothing under it
 abbrev pub IsFresh : Lock → Type 0

@@ -1,5 +1,5 @@
 //! Batches of stale slots, unconsume and resize, slot by slot.
-ghost use Rattle.std.specs.Prelude.{◌≡◌, ◌+◌, ◌<◌, ◌≤◌};
+ghost use Rattle.std.specs.Prelude.{◌≡◌, ◌+◌, ◌<◌};
 
 use lq_model::batch;
 use lq_ring_core::{Dropped, Full, Ring, RingRefusal, resize_three};

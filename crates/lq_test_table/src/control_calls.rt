@@ -5,7 +5,7 @@ ghost use Rattle.lq_table.specs.Sees.{view};
 ghost use Rattle.lq_control.specs.Control.{IsIn};
 ghost use Rattle.lq_test_table.specs.Plain.{IsControls};
 
-use crate::plain::{PARAMS, PLAIN, STOPPING, check_packets, info, sent};
+use crate::plain::{PARAMS, SHORT, STOPPING, check_packets, info, sent};
 use lq_control::{down, drain, resize, tx_queue_len, up};
 use lq_device::{BenchDevice, Station, StationPlan, TxDevice};
 use lq_model::{Cause, Fate, Info, Params};
@@ -37,7 +37,7 @@ fn table<'a, A: Abort>(
     let mut device = BenchDevice::new(alloc);
     device.configure(&params, infos.len()).expect(rt, "memory");
     let station = Station::new(alloc, 0, device).ok().expect(rt, "memory");
-    let plan = StationPlan { params, ..PLAIN };
+    let plan = StationPlan { params, ..SHORT };
     Shared::make(alloc, infos, 0, plan, 1, 2, station)
         .ok()
         .expect(rt, "memory")

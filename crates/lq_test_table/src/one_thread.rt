@@ -7,7 +7,7 @@ ghost use Rattle.lq_table.specs.Sees.{view, setup, IsSole};
 ghost use Rattle.lq_test_table.specs.Recorder.{IsFreshWithRoom};
 ghost use Rattle.lq_test_table.specs.Seats.{IsDone, IsOnly};
 
-use crate::plain::{PARAMS, PLAIN, check_packets, info};
+use crate::plain::{PARAMS, SHORT, check_packets, info};
 use crate::tables::{device, send};
 use lq_control::{finish, swap};
 use lq_device::{BenchDevice, Station, TxDevice};
@@ -38,7 +38,7 @@ fn table<'a, A: Abort, D: TxDevice>(
     assert!(rt; infos.len() <= 100);
     check_packets(rt, infos, 1);
     let station = Station::new(alloc, 0, device).ok().expect(rt, "memory");
-    Shared::make(alloc, infos, 0, PLAIN, 1, 2, station)
+    Shared::make(alloc, infos, 0, SHORT, 1, 2, station)
         .ok()
         .expect(rt, "memory")
 }

@@ -2,11 +2,11 @@
 ghost use Rattle.std.specs.Prelude.{◌≡◌, ℕ, ◌<◌, length, Ok};
 ghost use Rattle.lq_test_table.specs.Plain.{IsPlainPacket};
 
-use lq_device::StationPlan;
+use lq_device::{PLAIN, StationPlan};
 use lq_model::{Fate, Info, Params};
 use std::process::Abort;
 
-/// It accepts every packet.
+/// The device accepts every packet.
 pub const PARAMS: Params = Params {
     burst: 0,
     busy_every: 0,
@@ -14,16 +14,14 @@ pub const PARAMS: Params = Params {
     hang_after: 0,
 };
 
-/// A station with one queue and short rings, whose device accepts every packet.
-pub const PLAIN: StationPlan = StationPlan {
+/// A station with short rings.
+pub const SHORT: StationPlan = StationPlan {
     len: 8,
     max_len: 8,
-    bypass: true,
-    params: PARAMS,
-    queues: 1,
+    ..PLAIN
 };
 
-/// Each packet that it accepts stops its queue.
+/// Each packet that the device accepts stops its queue.
 pub const STOPPING: Params = Params { burst: 1, ..PARAMS };
 
 /// Packet `rank` of the sender, of this band and queue.

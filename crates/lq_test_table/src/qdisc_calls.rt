@@ -2,8 +2,8 @@
 ghost use Rattle.std.specs.Prelude.{◌≤◌, length};
 ghost use Rattle.lq_test_table.specs.Plain.{IsFirstOwnerAtRest};
 
-use crate::plain::{PARAMS, PLAIN, STOPPING, check_packets, info_at, sent};
-use lq_device::{BenchDevice, Station, StationPlan, TxDevice};
+use crate::plain::{PARAMS, STOPPING, check_packets, info_at, sent};
+use lq_device::{BenchDevice, PLAIN, Station, StationPlan, TxDevice};
 use lq_model::{Fate, Info, Params};
 use lq_qdisc::{Sending, irq, softirq, transmit};
 use lq_table::{Closed, Cpu, Shared};

@@ -8,8 +8,8 @@ ghost use Rattle.lq_table.specs.Sees.{view, position, slot, IsSeatOf};
 ghost use Rattle.lq_ring.specs.Put.{no_locks};
 ghost use Rattle.lq_ring.specs.Take.{CarriesStation};
 
-use crate::plain::{PARAMS, PLAIN, with_memory};
-use lq_device::{BenchDevice, Station, StationPlan, TxDevice};
+use crate::plain::{PARAMS, with_memory};
+use lq_device::{BenchDevice, PLAIN, Station, StationPlan, TxDevice};
 use lq_model::Info;
 use lq_ring::{consume, produce};
 use lq_table::{Cpu, Shared};

@@ -1,6 +1,5 @@
 //! A table that is made and closed: with memory there is no refusal, and nothing was sent.
-use crate::plain::PLAIN;
-use lq_device::{BenchDevice, Station, StationPlan};
+use lq_device::{BenchDevice, PLAIN, Station, StationPlan};
 use lq_table::Shared;
 
 const PLAN: StationPlan = StationPlan {

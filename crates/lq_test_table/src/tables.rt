@@ -1,15 +1,13 @@
 //! Packets, a table of them and the calls on its first seat, for the tests.
-ghost use Rattle.std.specs.Prelude.{◌≡◌, ℕ, ◌+◌, ◌<◌, ◌≤◌, [], false, length};
+ghost use Rattle.std.specs.Prelude.{ℕ, ◌+◌, ◌<◌, [], length};
 ghost use Rattle.lq_model.specs.declared.machine.Phase.TheVariants.{Active};
-ghost use Rattle.lq_table.specs.Sees.{view};
-ghost use Rattle.lq_table.specs.Rule.{units_of};
 ghost use Rattle.lq_test_table.specs.Recorder.{IsFreshWithRoom, recorder_state};
 ghost use Rattle.lq_test_table.specs.Seats.{HasAllShares, IsBetweenCalls, IsFirst, IsKeptFirst, IsSender, IsTheirs};
 
-use crate::plain::{PARAMS, PLAIN};
+use crate::plain::PARAMS;
 use crate::recorder::Recorder;
 use lq_control::drain;
-use lq_device::{Station, StationPlan, TxDevice};
+use lq_device::{PLAIN, Station, StationPlan, TxDevice};
 use lq_model::{Fate, Info, Params};
 use lq_qdisc::{Sending, irq, transmit};
 use lq_table::{Cpu, Shared};

@@ -4,14 +4,14 @@ ghost use Rattle.lq_host.specs.Host.{Rose};
 ghost use Rattle.lq_model.specs.Plan.{unit_count};
 ghost use Rattle.lq_files.specs.Command.{AreOperandsWithin, OfRun, command_of_words, command_words, run_words, bytes_of_words};
 ghost use Rattle.lq_files.specs.Accepted.{IsRunnable, max_units};
-ghost use Rattle.lq_top.specs.Decision.{Refuses, Runs, most_units_changed_by, units_changed_by, verdict_of, verdict_of_command};
+ghost use Rattle.lq_top.specs.Decision.{Runs, most_units_changed_by, units_changed_by, verdict_of, verdict_of_command};
 ghost use Rattle.lq_senders.specs.Fates.{identities_of};
 ghost use Rattle.lq_table.specs.Ended.{ended_state};
 ghost use Rattle.lq_top.specs.Headline.{HasRun};
 ghost use Rattle.lq_files.specs.Reports.{run_of_inputs};
 ghost use Rattle.lq_top.specs.Names.{MayDo};
 ghost use Rattle.lq_files.specs.RunFiles.{MayWrite};
-ghost use Rattle.lq_top.specs.Outcome.{Completes, CompletesOrStops, CompletesOrStopsOfSome, OutcomeOfSome, IsAnswerOf, IsCommandStatus, LeavesNone, Outcome, Stops, TellsUsageFor, refuses};
+ghost use Rattle.lq_top.specs.Outcome.{CompletesOrStops, CompletesOrStopsOfSome, OutcomeOfSome, IsAnswerOf, IsCommandStatus, LeavesNone, Outcome, Stops, TellsUsageFor, refuses};
 ghost use Rattle.lq_files.specs.Stop.{StopsFor};
 
 use crate::generate::gen_command;

@@ -1,5 +1,4 @@
 //! The run lock, the calls inside, SCHED and MISSED.
-ghost use Rattle.std.specs.Prelude.{◌≡◌, ℕ};
 ghost use Rattle.lq_model.specs.Machine.{Machine};
 ghost use Rattle.lq_model.specs.Kept.{IsInductive, OneHolder, CallsInside, OneScheduled, LockFreeMissed};
 ghost use Rattle.lq_model.specs.Quiet.{Moves};

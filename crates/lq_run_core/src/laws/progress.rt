@@ -1,5 +1,5 @@
 //! No order of steps keeps a packet: what waits is sent, in whatever order the seats move, while the queues are open.
-ghost use Rattle.std.specs.Prelude.{◌≡◌, ◌<◌, ◌≤◌, ◌+◌, ◌*◌, ◌⊎◌, ℕ, List, true, false, length, Contains};
+ghost use Rattle.std.specs.Prelude.{◌≡◌, ◌<◌, ◌≤◌, ◌+◌, ◌*◌, ◌⊎◌, List, true, false, length, Contains};
 ghost use Rattle.lq_model.specs.declared.machine.Answer.{Answer};
 ghost use Rattle.lq_model.specs.declared.machine.Beginning.{Beginning};
 ghost use Rattle.lq_model.specs.declared.machine.ControlStep.{ControlStep};

@@ -7,9 +7,9 @@ use Rattle.lq_table.proofs.ByName.{slot_within}
 use Rattle.std.specs.Option.{unwrap_or}
 use Rattle.lq_band_laws.specs.Three.{at}
 use Rattle.lq_table.specs.Views.{HalfResize, no_resizing}
-use Rattle.lq_table.specs.Resizes.{fill_slot_told}
+use Rattle.lq_table.specs.Resizes.{fill_slot_view}
 use Rattle.lq_table.proofs.ResizeSlotsKept.{fills_slot}
-use Rattle.lq_log.specs.Made.{seen}
+use Rattle.lq_log.specs.Made.{seen, becomes}
 use Rattle.lq_table.proofs.shared.Shared.fill_slot.Goals as goal
 
 pub store_word-requires : goal.store_word-requires
@@ -24,7 +24,7 @@ store_word-requires g c = (
       let word : c.slot_word-word.result < t.table.kit.shared.table_id.words = let wide = t.sized.0 in let h = slot_within k b i c.requires.place.0 inside in let x = t.same.1 in let y = t.same.2 in let p = place in omega arith in (
         c.requires.seat.0,
         word,
-        subst (λ (z : ℕ × List ℕ × HalfResize). Allows (Rule k) slots seat.id (seen seat.me) z.0 (λ _. n + 1) (λ _. fill_slot_told b i n z.1 z.2 (step slots z.0 (n + 1) 0 none) (seen seat.me) (n + 1))) (λ j. (place j, rest j, half j))
+        subst (λ (z : ℕ × List ℕ × HalfResize). Allows (Rule k) slots seat.id (seen seat.me) z.0 (λ _. n + 1) (λ _. becomes (λ _. fill_slot_view b i n z.1 z.2) (step slots z.0 (n + 1) 0 none) (seen seat.me) (n + 1))) (λ j. (place j, rest j, half j))
             (fills_slot k slots seat.id (seen seat.me) b i m.0 c.requires.place.0 inside h m.2 c.requires.seat.1 n m.1 m.3 m.4),
       )),
 )

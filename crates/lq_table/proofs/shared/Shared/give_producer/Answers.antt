@@ -5,9 +5,10 @@ use Rattle.atomic_table.specs.Table.{step, Allows}
 use Rattle.lq_table.specs.Places.{producer_place}
 use Rattle.lq_table.specs.Rule.{Rule}
 use Rattle.lq_table.specs.Keyed.{keyed_setup}
-use Rattle.lq_table.specs.Producers.{give_producer_told}
+use Rattle.lq_table.specs.Producers.{with_lock_at}
 use Rattle.lq_table.proofs.shared.Shared.give_producer.Answers.Kept.{gives_producer}
-use Rattle.lq_log.specs.Made.{seen}
+use Rattle.lq_log.specs.Made.{seen, becomes}
+use Rattle.lq_band_laws.specs.Ring.{unlocked}
 use Rattle.lq_table.proofs.shared.Shared.give_producer.Goals as goal
 
 pub store_word-requires : goal.store_word-requires
@@ -19,7 +20,7 @@ store_word-requires g c = (
       let word : c.producer_word-word.result < t.table.kit.shared.table_id.words = let wide = t.sized.0 in let b = c.requires.band in let p = place in omega arith in (
         c.requires.seat.0,
         word,
-        subst (λ (z : ℕ). Allows (Rule k) slots seat.id (seen seat.me) z (λ _. 2 * c.args.index) (λ _. give_producer_told c.args.band (step slots z (2 * c.args.index) 0 none) (seen seat.me) (2 * c.args.index))) place
+        subst (λ (z : ℕ). Allows (Rule k) slots seat.id (seen seat.me) z (λ _. 2 * c.args.index) (λ _. becomes (λ _. with_lock_at c.args.band unlocked) (step slots z (2 * c.args.index) 0 none) (seen seat.me) (2 * c.args.index))) place
             (gives_producer k slots seat.id (seen seat.me) c.args.band i.0 c.args.index c.requires.band c.requires.lock.0 i.1 i.2 c.requires.seat.1 c.requires.lock.1),
       )),
 )

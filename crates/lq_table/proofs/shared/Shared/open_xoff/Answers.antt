@@ -1,13 +1,13 @@
 mod Kept
-use Rattle.std.proofs.Common.{◌≡◌, ℕ, ◌<◌, arith, sym, ap, subst}
+use Rattle.std.proofs.Common.{ℕ, ◌<◌, arith, sym, ap, subst}
 use mathlib.Core.Option.{none}
 use Rattle.atomic_table.specs.Table.{step, Allows}
 use Rattle.lq_table.specs.Rule.{Rule}
 use Rattle.lq_table.specs.Keyed.{keyed_setup}
-use Rattle.lq_table.specs.Controls.{open_xoff_told}
+use Rattle.lq_table.specs.Controls.{open_xoff_view}
 use Rattle.lq_table.proofs.ByName.{xoff_in}
 use Rattle.lq_table.proofs.shared.Shared.open_xoff.Answers.Kept.{opens_next}
-use Rattle.lq_log.specs.Made.{seen}
+use Rattle.lq_log.specs.Made.{seen, becomes}
 use Rattle.lq_table.proofs.shared.Shared.open_xoff.Goals as goal
 
 pub store_word-requires : goal.store_word-requires
@@ -18,7 +18,7 @@ store_word-requires g c = (
       let e = t.same.5 in let below : c.args.queue < k.queues = (let b = c.requires.queue in omega arith) in (
         c.requires.seat.0,
         (let wide = t.sized.0 in let b = xoff_in k c.args.queue below in let w = c.stop_word-word.ensures.keyed in let s = t.same.1 in let m = t.same.2 in let l = ap Rattle.std.proofs.Common.length t.same.0 in omega arith),
-        subst (λ (z : ℕ). Allows (Rule k) slots seat.id (seen seat.me) z (λ _. 0) (open_xoff_told c.args.queue (step slots z 0 0 none) (seen seat.me))) (sym c.stop_word-word.ensures.keyed)
+        subst (λ (z : ℕ). Allows (Rule k) slots seat.id (seen seat.me) z (λ _. 0) (becomes (λ _. open_xoff_view c.args.queue) (step slots z 0 0 none) (seen seat.me))) (sym c.stop_word-word.ensures.keyed)
             (opens_next k slots seat.id c.args.queue (seen seat.me) below at.1 at.0 p.0 p.1 c.requires.seat.1),
       )),
 )

@@ -1,5 +1,6 @@
-use Rattle.lq_table.specs.Purges.{reset_draining_told}
+use Rattle.lq_table.specs.Purges.{reset_draining_view}
+use Rattle.lq_log.specs.Made.{becomes}
 use Rattle.lq_table.proofs.shared.Shared.reset_draining.Given as goal
 
 abbrev pub ghosts-fetch_and_word : goal.ghosts-fetch_and_word
-ghosts-fetch_and_word g a = record { told = reset_draining_told }
+ghosts-fetch_and_word g a = record { told = becomes (λ _. reset_draining_view) }

@@ -5,9 +5,10 @@ use Rattle.atomic_table.specs.Table.{step, Allows}
 use Rattle.lq_table.specs.Places.{producer_place}
 use Rattle.lq_table.specs.Rule.{Rule}
 use Rattle.lq_table.specs.Keyed.{keyed_setup}
-use Rattle.lq_table.specs.Resizes.{set_producer_told}
 use Rattle.lq_table.proofs.shared.Shared.set_producer.Answers.Kept.{sets_producer}
-use Rattle.lq_log.specs.Made.{seen}
+use Rattle.lq_log.specs.Made.{seen, becomes}
+use Rattle.lq_band_laws.specs.Ring.{locked_at}
+use Rattle.lq_table.specs.Producers.{with_lock_at}
 use Rattle.lq_table.proofs.shared.Shared.set_producer.Goals as goal
 
 pub store_word-requires : goal.store_word-requires
@@ -19,7 +20,7 @@ store_word-requires g c = (
       let word : c.producer_word-word.result < t.table.kit.shared.table_id.words = let wide = t.sized.0 in let x = c.requires.band in let p = place in omega arith in (
         c.requires.seat.0,
         word,
-        subst (λ (z : ℕ). Allows (Rule k) slots seat.id (seen seat.me) z (λ _. 2 * i + 1) (λ _. set_producer_told b i (step slots z (2 * i + 1) 0 none) (seen seat.me) (2 * i + 1))) place
+        subst (λ (z : ℕ). Allows (Rule k) slots seat.id (seen seat.me) z (λ _. 2 * i + 1) (λ _. becomes (λ _. with_lock_at b (locked_at i)) (step slots z (2 * i + 1) 0 none) (seen seat.me) (2 * i + 1))) place
             (sets_producer k slots seat.id (seen seat.me) b i h.1.0 c.requires.band h.0 h.1.1 h.2 c.requires.seat.1),
       )),
 )

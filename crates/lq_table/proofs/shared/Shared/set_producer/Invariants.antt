@@ -1,5 +1,7 @@
-use Rattle.lq_table.specs.Resizes.{set_producer_told}
+use Rattle.lq_log.specs.Made.{becomes}
+use Rattle.lq_table.specs.Producers.{with_lock_at}
+use Rattle.lq_band_laws.specs.Ring.{locked_at}
 use Rattle.lq_table.proofs.shared.Shared.set_producer.Given as goal
 
 abbrev pub ghosts-store_word : goal.ghosts-store_word
-ghosts-store_word g a = record { told = set_producer_told a.about.now.0 a.about.now.1 }
+ghosts-store_word g a = record { told = becomes (λ _. with_lock_at a.about.now.0 (locked_at a.about.now.1)) }

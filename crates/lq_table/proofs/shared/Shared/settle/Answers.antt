@@ -10,11 +10,11 @@ use Rattle.atomic_table.specs.Table.{step, Allows}
 use Rattle.lq_table.specs.Rule.{Rule, fates_offset}
 use Rattle.lq_table.specs.Keyed.{keyed_setup}
 use Rattle.lq_table.specs.Moves.{Sat}
-use Rattle.lq_table.specs.Fates.{MaySettle, settle_view, settle_told}
+use Rattle.lq_table.specs.Fates.{MaySettle, settle_view}
 use Rattle.lq_table.specs.Sees.{view, carried, solo}
 use Rattle.lq_table.proofs.shared.Shared.settle.Answers.Alone.{fates_solo}
 use Rattle.lq_table.proofs.shared.Shared.settle.Answers.Kept.{settles_fate}
-use Rattle.lq_log.specs.Made.{seen}
+use Rattle.lq_log.specs.Made.{seen, becomes}
 use Rattle.lq_table.proofs.shared.Shared.settle.Goals as goal
 
 pub store_word-requires : goal.store_word-requires
@@ -29,7 +29,7 @@ store_word-requires g c = λ _. (
       let may = subst (λ (xs : List Info). MaySettle (band_in xs n) n f st seat.me.0.view) (sym t.same.0) c.requires.may in (
         c.requires.seat.0,
         word,
-        subst (λ (z : ℕ × ℕ). Allows (Rule k) slots seat.id (seen seat.me) z.0 (λ _. z.1) (λ _. settle_told st b n f (step slots z.0 z.1 0 none) (seen seat.me) z.1)) (λ j. (place j, sym c.fate_word.ensures.word j))
+        subst (λ (z : ℕ × ℕ). Allows (Rule k) slots seat.id (seen seat.me) z.0 (λ _. z.1) (λ _. becomes (λ _. settle_view st b n f) (step slots z.0 z.1 0 none) (seen seat.me) z.1)) (λ j. (place j, sym c.fate_word.ensures.word j))
             (settles_fate k slots seat.id st (seen seat.me) b n f inside c.requires.packet.1 c.requires.seat.1 may),
       )),
 )

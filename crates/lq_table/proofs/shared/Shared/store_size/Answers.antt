@@ -7,9 +7,9 @@ use Rattle.lq_table.specs.Rule.{Rule}
 use Rattle.lq_table.specs.Keyed.{keyed_setup}
 use Rattle.std.specs.Option.{unwrap_or}
 use Rattle.lq_table.specs.Views.{HalfResize, no_resizing}
-use Rattle.lq_table.specs.Resizes.{store_size_told}
+use Rattle.lq_table.specs.Resizes.{store_size_view}
 use Rattle.lq_table.proofs.shared.Shared.store_size.Answers.Kept.{stores_size}
-use Rattle.lq_log.specs.Made.{seen}
+use Rattle.lq_log.specs.Made.{seen, becomes}
 use Rattle.lq_table.proofs.shared.Shared.store_size.Goals as goal
 
 pub store_word-requires : goal.store_word-requires
@@ -20,7 +20,7 @@ store_word-requires g c = (
       let word : size_place < t.table.kit.shared.table_id.words = let wide = t.sized.0 in omega arith in (
         c.requires.seat.0,
         word,
-        subst (λ (z : ℕ × HalfResize). Allows (Rule k) slots seat.id (seen seat.me) size_place (λ _. z.0) (λ _. store_size_told z.1 (step slots size_place z.0 0 none) (seen seat.me) z.0)) (λ j. (sym r.2 j, half j))
+        subst (λ (z : ℕ × HalfResize). Allows (Rule k) slots seat.id (seen seat.me) size_place (λ _. z.0) (λ _. becomes (λ _. store_size_view z.1) (step slots size_place z.0 0 none) (seen seat.me) z.0)) (λ j. (sym r.2 j, half j))
             (stores_size k slots seat.id (seen seat.me) r.0 h r.1 c.requires.seat.1 r.3),
       )),
 )

@@ -10,9 +10,9 @@ use Rattle.lq_table.specs.Views.{machine_packet}
 use Rattle.lq_table.specs.Rule.{Rule, slot_word}
 use Rattle.lq_table.specs.Keyed.{keyed_setup}
 use Rattle.lq_table.proofs.ByName.{slot_within}
-use Rattle.lq_table.specs.Producers.{store_slot_told}
+use Rattle.lq_table.specs.Producers.{store_slot_view}
 use Rattle.lq_table.proofs.shared.Shared.store_slot.Answers.Kept.{stores_slot}
-use Rattle.lq_log.specs.Made.{seen}
+use Rattle.lq_log.specs.Made.{seen, becomes}
 use Rattle.lq_table.proofs.shared.Shared.store_slot.Goals as goal
 
 pub store_word-requires : goal.store_word-requires
@@ -29,7 +29,7 @@ store_word-requires g c = (
       let of_band : band_in k.infos n ≡ b = subst (λ (xs : List Info). band_in xs n ≡ b) (sym t.same.0) c.requires.packet.1 in (
         c.requires.seat.0,
         word,
-        subst (λ (z : ℕ). Allows (Rule k) slots seat.id (seen seat.me) z (λ _. n + 1) (λ _. store_slot_told b n (step slots z (n + 1) 0 none) (seen seat.me) (n + 1))) place
+        subst (λ (z : ℕ). Allows (Rule k) slots seat.id (seen seat.me) z (λ _. n + 1) (λ _. becomes (λ _. store_slot_view b n) (step slots z (n + 1) 0 none) (seen seat.me) (n + 1))) place
             (stores_slot k slots seat.id (seen seat.me) b i n where_.0 c.requires.band inside position lock.0.0 lock.1 lock.2 is c.requires.packet.0 of_band c.requires.seat.1 lock.0.3),
       )),
 )

@@ -1,17 +1,17 @@
 mod Alone
 mod Kept
-use Rattle.std.proofs.Common.{◌≡◌, ℕ, ◌<◌, arith, sym, ap, ◌∙◌, subst}
+use Rattle.std.proofs.Common.{ℕ, ◌<◌, arith, sym, ap, ◌∙◌, subst}
 use mathlib.Core.Option.{none}
 use Rattle.atomic_table.specs.Table.{step, Allows}
 use Rattle.lq_table.specs.Rule.{Rule}
 use Rattle.lq_table.specs.Keyed.{keyed_setup}
 use Rattle.lq_model.specs.Account.{Stop}
-use Rattle.lq_table.specs.Stops.{store_xoff_told}
+use Rattle.lq_table.specs.Stops.{store_xoff_view}
 use Rattle.lq_table.specs.Sees.{solo, heard}
 use Rattle.lq_table.proofs.shared.Shared.store_xoff.Answers.Alone.{stores_solo}
 use Rattle.lq_table.proofs.ByName.{xoff_in}
 use Rattle.lq_table.proofs.shared.Shared.store_xoff.Answers.Kept.{stores_xoff}
-use Rattle.lq_log.specs.Made.{seen}
+use Rattle.lq_log.specs.Made.{seen, becomes}
 use Rattle.lq_table.proofs.shared.Shared.store_xoff.Goals as goal
 
 pub store_word-requires : goal.store_word-requires
@@ -22,7 +22,7 @@ store_word-requires g c = (
       let e = t.same.5 in let below : c.args.queue < k.queues = (let b = c.requires.queue in omega arith) in (
         c.requires.seat.0,
         (let wide = t.sized.0 in let b = xoff_in k c.args.queue below in let w = c.stop_word-word.ensures.keyed in let s = t.same.1 in let m = t.same.2 in let l = ap Rattle.std.proofs.Common.length t.same.0 in omega arith),
-        subst (λ (z : ℕ × ℕ). Allows (Rule k) slots seat.id (seen seat.me) z.0 (λ _. z.1) (store_xoff_told (step slots z.0 z.1 0 none) (seen seat.me))) (λ j. (sym c.stop_word-word.ensures.keyed j, sym at.3 j))
+        subst (λ (z : ℕ × ℕ). Allows (Rule k) slots seat.id (seen seat.me) z.0 (λ _. z.1) (becomes (λ _. store_xoff_view) (step slots z.0 z.1 0 none) (seen seat.me))) (λ j. (sym c.stop_word-word.ensures.keyed j, sym at.3 j))
             (stores_xoff k slots seat.id c.args.queue (seen seat.me) at.0 at.1 below at.2 at.4 c.requires.seat.1),
       )),
 )

@@ -1,5 +1,6 @@
-use Rattle.lq_table.specs.Stops.{store_xoff_told}
+use Rattle.lq_table.specs.Stops.{store_xoff_view}
+use Rattle.lq_log.specs.Made.{becomes}
 use Rattle.lq_table.proofs.shared.Shared.store_xoff.Given as goal
 
 abbrev pub ghosts-store_word : goal.ghosts-store_word
-ghosts-store_word g a = record { told = store_xoff_told }
+ghosts-store_word g a = record { told = becomes (λ _. store_xoff_view) }

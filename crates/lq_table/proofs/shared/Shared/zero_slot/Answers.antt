@@ -5,9 +5,9 @@ use Rattle.atomic_table.specs.Table.{step, Allows}
 use Rattle.lq_table.specs.Rule.{Rule, slot_word}
 use Rattle.lq_table.specs.Keyed.{keyed_setup}
 use Rattle.lq_table.proofs.ByName.{slot_within}
-use Rattle.lq_table.specs.Consumers.{zero_slot_told}
+use Rattle.lq_table.specs.Consumers.{zero_slot_view}
 use Rattle.lq_table.proofs.shared.Shared.zero_slot.Answers.Kept.{empties_slot}
-use Rattle.lq_log.specs.Made.{seen}
+use Rattle.lq_log.specs.Made.{seen, becomes}
 use Rattle.lq_table.proofs.shared.Shared.zero_slot.Goals as goal
 
 pub store_word-requires : goal.store_word-requires
@@ -21,7 +21,7 @@ store_word-requires g c = (
       let word : c.slot_word-word.result < t.table.kit.shared.table_id.words = let wide = t.sized.0 in let h = slot_within k b i c.requires.band.0 inside in let x = t.same.1 in let y = t.same.2 in let p = place in omega arith in (
         c.requires.seat.0,
         word,
-        subst (λ (z : ℕ). Allows (Rule k) slots seat.id (seen seat.me) z (λ _. 0) (λ _. zero_slot_told b (step slots z 0 0 none) (seen seat.me) 0)) place
+        subst (λ (z : ℕ). Allows (Rule k) slots seat.id (seen seat.me) z (λ _. 0) (λ _. becomes (λ _. zero_slot_view b) (step slots z 0 0 none) (seen seat.me) 0)) place
             (empties_slot k slots seat.id (seen seat.me) b i c.requires.band.0 inside h.0 h.1 e.0 e.1 c.requires.seat.1),
       )),
 )

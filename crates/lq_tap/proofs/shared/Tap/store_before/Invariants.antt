@@ -1,5 +1,6 @@
-use Rattle.lq_tap.specs.Tells.{slot_before_stored}
+use Rattle.lq_tap.specs.Tells.{putting_back}
+use Rattle.lq_log.specs.Made.{becomes}
 use Rattle.lq_tap.proofs.shared.Tap.store_before.Given as goal
 
 abbrev pub ghosts-store : goal.ghosts-store
-ghosts-store a = record { told = slot_before_stored }
+ghosts-store a = record { told = becomes (λ _. putting_back) }

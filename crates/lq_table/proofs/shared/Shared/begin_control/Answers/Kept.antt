@@ -10,14 +10,15 @@ use Rattle.lq_model.specs.Positions.{holds_lock}
 use Rattle.lq_table.specs.Views.{View, Setup}
 use Rattle.lq_table.specs.Rule.{Rule}
 use Rattle.lq_table.specs.Moves.{Sat}
-use Rattle.lq_table.specs.Controls.{begin_control_view, begin_control_told}
+use Rattle.lq_table.specs.Controls.{begin_control_view}
 use Rattle.lq_model.specs.Steps.{is_idle}
 use Rattle.lq_table.proofs.Middle.{middle, begins_in}
 use Rattle.lq_table.proofs.Frames.{opened}
 use Rattle.lq_table.proofs.ControlCalls.{places}
+use Rattle.lq_log.specs.Made.{becomes}
 
 module _ (k : Setup) where
-  pub begins_control : (slots id : ℕ) (m : Sat) → m.0.place.position ≡ Idle → m.0.control.first ≡ true → 0 < m.0.share.shares → Allows (Rule k) slots id m 0 (λ x. x) (begin_control_told (step slots 0 0 0 none) m)
+  pub begins_control : (slots id : ℕ) (m : Sat) → m.0.place.position ≡ Idle → m.0.control.first ≡ true → 0 < m.0.share.shares → Allows (Rule k) slots id m 0 (λ x. x) (becomes (λ _. begin_control_view) (step slots 0 0 0 none) m)
   begins_control slots id m position first some_share s r deep here small =
       let v : View = m.0 in let live = lt-ltb 0 v.share.shares some_share in let t : Seat = record v.place { position = Control false } in (
         begin_control_view v,

@@ -24,7 +24,7 @@ use Rattle.lq_table.specs.Views.{View, Setup, State, HolderPart}
 use Rattle.lq_table.specs.Rule.{words_of, account, holders, is_live, holding, event_word, Rule}
 use Rattle.lq_table.proofs.UnitsKept.{gone_step}
 use Rattle.lq_table.specs.Moves.{Sat}
-use Rattle.lq_table.specs.Controls.{clear_deactivated_view, clear_deactivated_told}
+use Rattle.lq_table.specs.Controls.{clear_deactivated_view}
 use Rattle.lq_table.proofs.Bits.{and_event}
 use Rattle.lq_table.proofs.ByName.{set_state}
 use Rattle.lq_run_laws.proofs.Among.{among-at as here_in}
@@ -35,6 +35,7 @@ use Rattle.lq_table.proofs.ControlsKept.{firsts_now}
 use Rattle.lq_table.proofs.SeatFrames.{seats_by_control, packets_heard}
 use Rattle.lq_table.proofs.StationFrames.{station_kept, account_heard, stands_state}
 use Rattle.lq_table.proofs.ClearDeactivatedKept.{both_true, false_if, one_of, purged_idle}
+use Rattle.lq_log.specs.Made.{becomes}
 
 -- who holds the lock in a quiet station is control
 holds_quiet : (position : Position) → holds_lock position ≡ true → may_be_inside position ≡ true → is_control position ≡ true
@@ -58,7 +59,7 @@ module _ (k : Setup) where
 
   -- DEACTIVATED is cleared
   pub opens : (slots id : ℕ) (m : Sat) → m.0.place.position ≡ Control false → m.0.control.phase ≡ Purged → m.0.control.purge ≡ None → 0 < m.0.share.shares
-      → Allows (Rule k) slots id m state_place (λ n. bit_and n 13) (clear_deactivated_told (step slots state_place 13 0 none) m)
+      → Allows (Rule k) slots id m state_place (λ n. bit_and n 13) (becomes (λ _. clear_deactivated_view) (step slots state_place 13 0 none) m)
   opens slots id m position purged no_purge some_share s r deep here small =
       let v : View = m.0 in let q = r.qdisc in let p = r.parts in let g = r.state in let a = account k g in let W = words_of k s.words in let live = lt-ltb 0 v.share.shares some_share in let mid = middle s.views id v here live in
       let D : HolderPart = holders g a W.size in let w : View = clear_deactivated_view v in let e : Event = Up in let a' : Account = after e a in

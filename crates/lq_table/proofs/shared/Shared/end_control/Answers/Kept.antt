@@ -10,13 +10,14 @@ use Rattle.lq_model.specs.Positions.{holds_lock}
 use Rattle.lq_table.specs.Views.{View, Setup}
 use Rattle.lq_table.specs.Rule.{Rule}
 use Rattle.lq_table.specs.Moves.{Sat}
-use Rattle.lq_table.specs.Controls.{end_control_view, end_control_told}
+use Rattle.lq_table.specs.Controls.{end_control_view}
 use Rattle.lq_table.proofs.Middle.{middle, to_idle}
 use Rattle.lq_table.proofs.Frames.{opened}
 use Rattle.lq_table.proofs.ControlCalls.{places}
+use Rattle.lq_log.specs.Made.{becomes}
 
 module _ (k : Setup) where
-  pub returns_control : (slots id : ℕ) (m : Sat) → m.0.place.position ≡ Control false → 0 < m.0.share.shares → Allows (Rule k) slots id m 0 (λ x. x) (end_control_told (step slots 0 0 0 none) m)
+  pub returns_control : (slots id : ℕ) (m : Sat) → m.0.place.position ≡ Control false → 0 < m.0.share.shares → Allows (Rule k) slots id m 0 (λ x. x) (becomes (λ _. end_control_view) (step slots 0 0 0 none) m)
   returns_control slots id m position some_share s r deep here small =
       let v : View = m.0 in let live = lt-ltb 0 v.share.shares some_share in let t : Seat = record v.place { position = Idle } in (
         end_control_view v,

@@ -27,7 +27,7 @@ use Rattle.lq_table.specs.Places.{inside_place}
 use Rattle.lq_table.specs.Views.{View, Setup, HolderPart, machine_packet}
 use Rattle.lq_table.specs.Rule.{words_of, account, holders, times, is_live, seats_of, machine_of, Owns, Rule}
 use Rattle.lq_table.specs.Moves.{at_rest, Sat, seen_by}
-use Rattle.lq_table.specs.Inside.{call_of, bringing_packet, enter_view, enter_told, enter_told_all}
+use Rattle.lq_table.specs.Inside.{call_of, bringing_packet, enter_view, enter_told}
 use Rattle.lq_table.proofs.ByName.{set_inside}
 use Rattle.lq_table.proofs.Middle.{middle, to_idle, elsewhere, found, begins_in, steps_in, few_seats}
 use Rattle.lq_table.proofs.Facts.{map_some}
@@ -35,6 +35,7 @@ use Rattle.lq_table.proofs.Frames.{same_xoff, firsts_same, rule_after, opened, c
 use Rattle.lq_table.proofs.SeatFrames.{seats_same}
 use Rattle.lq_table.proofs.StationFrames.{station_kept, ties_same}
 use Rattle.lq_table.proofs.Loads.{also}
+use Rattle.lq_log.specs.Made.{becomes}
 
 one_bit : (b : Bool) → bit b ≤ 1
 one_bit true = omega arith
@@ -111,7 +112,7 @@ module _ (k : Setup) where
   enter_alone s r id v at live (Some p) owns = λ j t apart own. let m = middle s.views id v at live in alone s r id v at live p owns j t apart (ap (λ (u : Seat). own_packet u.position) (elsewhere m.before m.after v.place (record v.place { position = Idle }) j apart) ∙ own)
 
   pub enters : (slots id : ℕ) (m : Sat) → at_rest m.0.place.position ≡ true → (is_some (bringing_packet m.0) ≡ true) ⊎ (m.0.place.raised ≡ true) → 0 < m.0.share.shares
-      → Allows (Rule k) slots id m inside_place (λ n. (n + 1) % 2 ^ 64) (enter_told (step slots inside_place 1 0 none) m)
+      → Allows (Rule k) slots id m inside_place (λ n. (n + 1) % 2 ^ 64) (becomes (λ _. enter_view) (step slots inside_place 1 0 none) m)
   enters slots id m idle call some_share s r deep at small =
       let v : View = m.0 in let q = r.qdisc in let p = r.parts in let g = r.state in let a = account k g in let W = words_of k s.words in let live = lt-ltb 0 v.share.shares some_share in let w = enter_view v in
       let hand : Option Packet = bringing_packet v in let t : Seat = begun (call_of hand) v.place in let q' : Qdisc = record q { inside = q.inside + 1 } in let n : ℕ = get_or s.words inside_place 0 in
@@ -148,8 +149,8 @@ module _ (k : Setup) where
       )
 
 pub enters_all : (k : Setup) (slots id : ℕ) (m : Sat) → at_rest m.0.place.position ≡ true → (is_some (bringing_packet m.0) ≡ true) ⊎ ((m.0.place.raised ≡ true) × (m.0.packets.busy ≡ None)) → 0 < m.0.share.shares
-    → Allows (Rule k) slots id m inside_place (λ n. (n + 1) % 2 ^ 64) (enter_told_all (step slots inside_place 1 0 none) m)
+    → Allows (Rule k) slots id m inside_place (λ n. (n + 1) % 2 ^ 64) (enter_told (step slots inside_place 1 0 none) m)
 enters_all k slots id m rests call h =
-    also k slots id m inside_place (λ n. (n + 1) % 2 ^ 64) (λ x m'. enter_told (step slots inside_place 1 0 none) m x m') (λ _. (n : ℕ) → m.0.packets.fresh ≡ Some n → m.0.packets.busy ≡ Some n)
+    also k slots id m inside_place (λ n. (n + 1) % 2 ^ 64) (λ x m'. becomes (λ _. enter_view) (step slots inside_place 1 0 none) m x m') (λ _. (n : ℕ) → m.0.packets.fresh ≡ Some n → m.0.packets.busy ≡ Some n)
     (λ s r here n fresh. (r.parts.seats.turns.knows id m.0 here).fresh n fresh)
     (enters k slots id m rests (⊎_elim (λ (brings : _). inl brings) (λ (soft : _). inr soft.0) call) h)

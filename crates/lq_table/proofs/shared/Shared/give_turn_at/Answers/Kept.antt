@@ -13,15 +13,16 @@ use Rattle.lq_table.specs.Places.{turn_place}
 use Rattle.lq_table.specs.Views.{View, Setup}
 use Rattle.lq_table.specs.Rule.{words_of, account, KnowsTurn, has_turn, Rule}
 use Rattle.lq_table.specs.Moves.{Sat, at_rest}
-use Rattle.lq_table.specs.Turns.{give_turn_view, give_turn_told}
+use Rattle.lq_table.specs.Turns.{give_turn_view}
 use Rattle.lq_table.proofs.Facts.{rest_owns}
 use Rattle.lq_table.proofs.Frames.{none_some}
 use Rattle.lq_table.proofs.TurnsKept.{has_mine, has_other, other_word, others_turns, same_word, turn_stored, words_after}
+use Rattle.lq_log.specs.Made.{becomes}
 
 module _ (k : Setup) where
   pub gives_turn : (slots id : ℕ) (m : Sat) (n : ℕ) → at_rest m.0.place.position ≡ true → m.0.packets.busy ≡ Some n → m.0.packets.fresh ≡ None → 0 < m.0.share.shares
       → Allows (Rule k) slots id m (turn_place (owner_in k.infos n)) (λ _. 2 * rank_in k.infos n + 2)
-      (give_turn_told (owner_in k.infos n) (rank_in k.infos n) (step slots (turn_place (owner_in k.infos n)) (2 * rank_in k.infos n + 2) 0 none) m)
+      (becomes (λ _. give_turn_view (owner_in k.infos n) (rank_in k.infos n)) (step slots (turn_place (owner_in k.infos n)) (2 * rank_in k.infos n + 2) 0 none) m)
   gives_turn slots id m n rests busy none_fresh some_share s r deep here small =
       let v : View = m.0 in let live = lt-ltb 0 v.share.shares some_share in let p = r.parts in let g = r.state in let a = account k g in let W = words_of k s.words in let o : ℕ = owner_in k.infos n in let rank : ℕ = rank_in k.infos n in let t = p.seats.turns in
       let q = p.seats.packets id v here in let know = (t.knows id v here).busy n busy in let mine = know.0 in let o_in = q.own o mine in let w : View = give_turn_view o rank v in let x : ℕ = 2 * rank + 2 in let gv = p.seats.given in

@@ -14,7 +14,7 @@ use Rattle.lq_table.specs.Places.{inside_place}
 use Rattle.lq_table.specs.Views.{View, Setup, HolderPart}
 use Rattle.lq_table.specs.Rule.{words_of, account, holders, Rule}
 use Rattle.lq_table.specs.Moves.{Sat}
-use Rattle.lq_table.specs.Inside.{load_inside_view, load_inside_told}
+use Rattle.lq_table.specs.Inside.{load_inside_view}
 use Rattle.lq_table.proofs.ByName.{set_back}
 use Rattle.lq_table.proofs.Middle.{middle, controls_in}
 use Rattle.lq_table.proofs.StopsKept.{stops_moved}
@@ -22,10 +22,11 @@ use Rattle.lq_table.proofs.Frames.{same_xoff, rule_after, opened, closed, same_p
 use Rattle.lq_table.proofs.SeatFrames.{seats_same}
 use Rattle.lq_table.proofs.StationFrames.{station_kept, stands_same, ties_same}
 use Rattle.lq_table.proofs.ControlsKept.{firsts_now}
+use Rattle.lq_log.specs.Made.{becomes}
 
 module _ (k : Setup) where
   -- control loads the calls inside
-  pub finds : (slots id : ℕ) (m : Sat) (holds : Bool) → m.0.place.position ≡ Control holds → 0 < m.0.share.shares → Allows (Rule k) slots id m inside_place (λ n. n) (load_inside_told (step slots inside_place 0 0 none) m)
+  pub finds : (slots id : ℕ) (m : Sat) (holds : Bool) → m.0.place.position ≡ Control holds → 0 < m.0.share.shares → Allows (Rule k) slots id m inside_place (λ n. n) (becomes load_inside_view (step slots inside_place 0 0 none) m)
   finds slots id m holds position some_share s r deep here small =
       let v : View = m.0 in let q = r.qdisc in let p = r.parts in let g = r.state in let a = account k g in let W = words_of k s.words in let live = lt-ltb 0 v.share.shares some_share in let mid = middle s.views id v here live in
       let D : HolderPart = holders g a W.size in let n : ℕ = get_or s.words inside_place 0 in let w : View = load_inside_view n v in

@@ -15,7 +15,7 @@ use Rattle.lq_table.specs.Places.{state_place}
 use Rattle.lq_table.specs.Views.{View, Setup}
 use Rattle.lq_table.specs.Rule.{words_of, Rule}
 use Rattle.lq_table.specs.Moves.{Sat, seen_by, unchanged}
-use Rattle.lq_table.specs.States.{seen_state, load_state_at, load_state_view, load_state_told, load_state_told_all}
+use Rattle.lq_table.specs.States.{seen_state, load_state_at, load_state_view, load_state_told}
 use Rattle.lq_table.proofs.ByName.{set_back}
 use Rattle.lq_table.proofs.Shows.{Shows, begins_alike, holder_shows}
 use Rattle.lq_table.proofs.RecheckKept.{bits_only, seen}
@@ -26,6 +26,7 @@ use Rattle.lq_table.proofs.StatesKept.{either_seat, plain_still}
 use Rattle.lq_band_laws.specs.Three.{at}
 use Rattle.lq_table.proofs.SoleFacts.{sees_state}
 use Rattle.lq_table.proofs.SoleKept.{sees}
+use Rattle.lq_log.specs.Made.{becomes}
 
 either_words : (b : Bool) (x y : After) (q : Qdisc) → x.qdisc ≡ q → y.qdisc ≡ q → (if b then x else y).qdisc ≡ q
 either_words true x y q e e' = e
@@ -72,7 +73,7 @@ look_still base q _ s h holds = absurd (false≢true h)
 
 module _ (k : Setup) where
   looks : (slots id : ℕ) (m : Sat) → looks_in_call m.0.place.position ≡ true → 0 < m.0.share.shares
-      → Allows (Rule k) slots id m state_place (λ n. n) (load_state_told (step slots state_place 0 0 none) m)
+      → Allows (Rule k) slots id m state_place (λ n. n) (becomes load_state_view (step slots state_place 0 0 none) m)
   looks slots id m at some_share s r deep here small =
       let v : View = m.0 in let q = r.qdisc in let p = r.parts in let W = words_of k s.words in let live = lt-ltb 0 v.share.shares some_share in
       let same : seen_state (seen_by v) v.share.about.bypass (get_or s.words state_place 0) ≡ bits_only (seen_by v) q = seen k s r (seen_by v) v.share.about.bypass (ap (λ (z : Setup). z.bypass) (p.seats.shares.about id v here live)) in
@@ -87,16 +88,16 @@ module _ (k : Setup) where
 
   -- in a call, or by control
   pub looks_all : (slots id : ℕ) (m : Sat) → load_state_at m.0.place.position ≡ true → 0 < m.0.share.shares
-      → Allows (Rule k) slots id m state_place (λ n. n) (load_state_told (step slots state_place 0 0 none) m)
+      → Allows (Rule k) slots id m state_place (λ n. n) (becomes load_state_view (step slots state_place 0 0 none) m)
   looks_all slots id m at some_share = by m.0.place.position refl at
     where
-      by : (y : Position) → m.0.place.position ≡ y → load_state_at y ≡ true → Allows (Rule k) slots id m state_place (λ n. n) (load_state_told (step slots state_place 0 0 none) m)
+      by : (y : Position) → m.0.place.position ≡ y → load_state_at y ≡ true → Allows (Rule k) slots id m state_place (λ n. n) (becomes load_state_view (step slots state_place 0 0 none) m)
       by Post is h = looks slots id m (ap looks_in_call is) some_share
       by Test is h = looks slots id m (ap looks_in_call is) some_share
       by (Tail inside) is h = looks slots id m (ap looks_in_call is) some_share
       by Soft is h = looks slots id m (ap looks_in_call is) some_share
       by Late is h = looks slots id m (ap looks_in_call is) some_share
-      by (Control holds) is h = told_as k slots id m state_place (λ n. n) (unchanged (step slots state_place 0 0 none) m) (load_state_told (step slots state_place 0 0 none) m)
+      by (Control holds) is h = told_as k slots id m state_place (λ n. n) (unchanged (step slots state_place 0 0 none) m) (becomes load_state_view (step slots state_place 0 0 none) m)
           (λ x m' z. z ∙ (λ j. (record m.0 { place = record m.0.place { position = is j } }, m.1)) ∙ (λ j. (
             record m.0 {
               place = (step_at (sym is j) Plain (seen_state (seen_by m.0) m.0.share.about.bypass x) m.0.place).seat;
@@ -108,5 +109,5 @@ module _ (k : Setup) where
       by _ is h = absurd (false≢true h)
 
 module _ (k : Setup) (slots id : ℕ) (m : Sat) where
-  pub looks_sole : load_state_at m.0.place.position ≡ true → 0 < m.0.share.shares → Allows (Rule k) slots id m state_place (λ n. n) (load_state_told_all (step slots state_place 0 0 none) m)
-  looks_sole at some_share = also k slots id m state_place (λ n. n) (load_state_told (step slots state_place 0 0 none) m) (sees k slots id m) (λ s r here sole. sees_state k s r id m.0 here some_share sole) (looks_all k slots id m at some_share)
+  pub looks_sole : load_state_at m.0.place.position ≡ true → 0 < m.0.share.shares → Allows (Rule k) slots id m state_place (λ n. n) (load_state_told (step slots state_place 0 0 none) m)
+  looks_sole at some_share = also k slots id m state_place (λ n. n) (becomes load_state_view (step slots state_place 0 0 none) m) (sees k slots id m) (λ s r here sole. sees_state k s r id m.0 here some_share sole) (looks_all k slots id m at some_share)

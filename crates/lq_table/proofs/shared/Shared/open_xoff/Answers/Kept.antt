@@ -18,18 +18,19 @@ use Rattle.lq_model.specs.Kept.{IsInductive}
 use Rattle.lq_table.specs.Views.{View, Setup, State, HolderPart}
 use Rattle.lq_table.specs.Rule.{Opening, AreStops, xoff_word, words_of, account, holders, Holder, Rule}
 use Rattle.lq_table.specs.Moves.{Sat}
-use Rattle.lq_table.specs.Controls.{shut_after, open_xoff_view, open_xoff_told}
+use Rattle.lq_table.specs.Controls.{shut_after, open_xoff_view}
 use Rattle.lq_table.proofs.StopsKept.{after_open}
 use Rattle.lq_table.proofs.Frames.{moves, firsts_same, rule_after, opened, closed, lends_held}
 use Rattle.lq_table.proofs.ByName.{set_xoff, xoff_long, xoff_within}
 use Rattle.lq_table.proofs.Middle.{middle, controls_in}
 use Rattle.lq_table.proofs.SeatFrames.{seats_same}
 use Rattle.lq_table.proofs.StationFrames.{station_kept, ties_same}
+use Rattle.lq_log.specs.Made.{becomes}
 
 module _ (k : Setup) where
   -- it stores the next queue's
   pub opens_next : (slots id queue : ℕ) (m : Sat) → queue < k.queues → m.0.holder.shut ≡ Some queue → m.0.place.position ≡ Control true → m.0.control.phase ≡ Purged → m.0.control.purge ≡ None → 0 < m.0.share.shares
-      → Allows (Rule k) slots id m (xoff_word k queue) (λ _. 0) (open_xoff_told queue (step slots (xoff_word k queue) 0 0 none) m)
+      → Allows (Rule k) slots id m (xoff_word k queue) (λ _. 0) (becomes (λ _. open_xoff_view queue) (step slots (xoff_word k queue) 0 0 none) m)
   opens_next slots id queue m below is_shut position purged no_purge some_share s r deep here small =
       let v : View = m.0 in
       let q = r.qdisc in let p = r.parts in let g = r.state in let a = account k g in let W = words_of k s.words in let live = lt-ltb 0 v.share.shares some_share in let mid = middle s.views id v here live in let holds : holds_lock v.place.position ≡ true = ap holds_lock position in

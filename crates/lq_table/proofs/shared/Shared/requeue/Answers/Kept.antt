@@ -21,7 +21,7 @@ use Rattle.lq_table.specs.Places.{state_place}
 use Rattle.lq_table.specs.Views.{View, Setup, HolderPart, machine_packet}
 use Rattle.lq_table.specs.Rule.{words_of, account, holders, event_word, shown, Holder, IsDevice, Rule}
 use Rattle.lq_table.specs.Moves.{Sat}
-use Rattle.lq_table.specs.States.{requeue_view, requeue_told}
+use Rattle.lq_table.specs.States.{requeue_view}
 use Rattle.std.proofs.lemmas.Option.{same_Some}
 use Rattle.lq_table.proofs.Bits.{or_missed}
 use Rattle.lq_table.proofs.ByName.{set_state}
@@ -31,11 +31,12 @@ use Rattle.lq_table.proofs.Serves.{serves}
 use Rattle.lq_table.proofs.DeviceKept.{answers_kept, alive_at_xmit}
 use Rattle.lq_table.proofs.Frames.{firsts_same, opened, closed, moves}
 use Rattle.lq_table.proofs.StationFrames.{stands_state}
+use Rattle.lq_log.specs.Made.{becomes}
 
 module _ (k : Setup) where
   -- the device didn't accept the packet
   pub requeues : (slots id n : ℕ) (st : StationState) (m : Sat) (y : Packet) (direct : Bool) → m.0.place.position ≡ Xmit y direct → m.0.holder.hand ≡ Some n → HasAnswered Busy y.queue n (shown m.0.holder) st → 0 < m.0.share.shares
-      → Allows (Rule k) slots id m state_place (λ n. bit_or n 4) (requeue_told st (step slots state_place 4 0 none) m)
+      → Allows (Rule k) slots id m state_place (λ n. bit_or n 4) (becomes (λ _. requeue_view st) (step slots state_place 4 0 none) m)
   requeues slots id n st m y direct position0 hand sends some_share s r deep here small =
       let v : View = m.0 in let p = r.parts in let g = r.state in let a = account k g in let q = r.qdisc in let W = words_of k s.words in let live = lt-ltb 0 v.share.shares some_share in let mid = middle s.views id v here live in
       let D : HolderPart = holders g a W.size in let holds : holds_lock v.place.position ≡ true = ap holds_lock position0 in let x : Packet = machine_packet k.infos n in

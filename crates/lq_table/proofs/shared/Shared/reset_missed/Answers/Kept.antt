@@ -14,7 +14,7 @@ use Rattle.lq_table.specs.Places.{state_place}
 use Rattle.lq_table.specs.Views.{View, Setup, Left}
 use Rattle.lq_table.specs.Rule.{words_of, account, machine_of, event_word, Rule}
 use Rattle.lq_table.specs.Moves.{Sat}
-use Rattle.lq_table.specs.Purges.{purge_ending, purge_going, no_missed, purge_ending_told, purge_going_told, reset_missed_view, reset_missed_view_in, reset_missed_told}
+use Rattle.lq_table.specs.Purges.{purge_ending, purge_going, no_missed, reset_missed_view, reset_missed_view_in}
 use Rattle.lq_table.proofs.Bits.{and_missed, event_small}
 use Rattle.lq_table.proofs.ByName.{set_state}
 use Rattle.lq_table.proofs.Middle.{middle, controls_in}
@@ -22,11 +22,12 @@ use Rattle.lq_table.proofs.Frames.{opened, closed}
 use Rattle.lq_table.proofs.StationFrames.{stands_state}
 use Rattle.lq_table.proofs.ResetKept.{purge_continues, purge_ends}
 use Rattle.lq_table.proofs.RecheckKept.{two_ways}
+use Rattle.lq_log.specs.Made.{becomes}
 
 module _ (k : Setup) where
   -- MISSED is cleared last
   pub ends_missed : (slots id : ℕ) (m : Sat) (u : Purge) (l : Left) → m.0.place.position ≡ Control true → m.0.control.purge ≡ Some u → not (nat_lt u.band 3) ≡ true → u.draining ≡ true → m.0.holder.left ≡ Some l → m.0.holder.resizing ≡ None → 0 < m.0.share.shares
-      → Allows (Rule k) slots id m state_place (λ n. bit_and n 18446744073709551611) (purge_ending_told no_missed (step slots state_place 18446744073709551611 0 none) m)
+      → Allows (Rule k) slots id m state_place (λ n. bit_and n 18446744073709551611) (becomes (λ _. purge_ending no_missed) (step slots state_place 18446744073709551611 0 none) m)
   ends_missed slots id m u l position purge over other left no_resizing some_share s r deep here small =
       let v : View = m.0 in let q = r.qdisc in let p = r.parts in let a = account k r.state in let W = words_of k s.words in let live = lt-ltb 0 v.share.shares some_share in let mid = middle s.views id v here live in let w : View = purge_ending no_missed v in
       let first : v.control.first ≡ true = p.machine.firsts.control id v here live (ap is_control position) in let now : q.purge ≡ Some u = sym (p.machine.firsts.knows id v here first).1 ∙ purge in
@@ -48,7 +49,7 @@ module _ (k : Setup) where
 
   -- MISSED is cleared first
   pub goes_on_missed : (slots id : ℕ) (m : Sat) (u : Purge) → m.0.place.position ≡ Control true → m.0.control.purge ≡ Some u → not (nat_lt u.band 3) ≡ true → u.draining ≡ false → 0 < m.0.share.shares
-      → Allows (Rule k) slots id m state_place (λ n. bit_and n 18446744073709551611) (purge_going_told no_missed (record u { missed = true }) (step slots state_place 18446744073709551611 0 none) m)
+      → Allows (Rule k) slots id m state_place (λ n. bit_and n 18446744073709551611) (becomes (λ _. purge_going no_missed (record u { missed = true })) (step slots state_place 18446744073709551611 0 none) m)
   goes_on_missed slots id m u position purge over other some_share s r deep here small =
       let v : View = m.0 in let q = r.qdisc in let p = r.parts in let a = account k r.state in let W = words_of k s.words in let live = lt-ltb 0 v.share.shares some_share in let mid = middle s.views id v here live in let u' : Purge = record u { missed = true } in let w : View = purge_going no_missed u' v in
       let first : v.control.first ≡ true = p.machine.firsts.control id v here live (ap is_control position) in let now : q.purge ≡ Some u = sym (p.machine.firsts.knows id v here first).1 ∙ purge in
@@ -71,7 +72,7 @@ module _ (k : Setup) where
 module _ (k : Setup) where
   -- the two bits after the last packet of a purge
   pub resets_missed : (slots id : ℕ) (m : Sat) (u : Purge) (l : Left) → m.0.place.position ≡ Control true → m.0.control.purge ≡ Some u → not (nat_lt u.band 3) ≡ true → m.0.holder.left ≡ Some l → m.0.holder.resizing ≡ None → 0 < m.0.share.shares
-      → Allows (Rule k) slots id m state_place (λ n. bit_and n 18446744073709551611) (reset_missed_told (step slots state_place 18446744073709551611 0 none) m)
+      → Allows (Rule k) slots id m state_place (λ n. bit_and n 18446744073709551611) (becomes (λ _. reset_missed_view) (step slots state_place 18446744073709551611 0 none) m)
   resets_missed slots id m u l position purge over left no_resizing some_share =
       ⊎_elim
       (λ (e : u.draining ≡ true). subst Goal (ap (λ (b : Bool). if b then ended else gone_on) (sym e) ∙ told) (ends_missed k slots id m u l position purge over e left no_resizing some_share))

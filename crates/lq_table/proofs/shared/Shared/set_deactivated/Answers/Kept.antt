@@ -20,7 +20,7 @@ use Rattle.lq_table.specs.Views.{View, Setup, State, HolderPart}
 use Rattle.lq_table.specs.Rule.{words_of, account, holders, event_word, Rule}
 use Rattle.lq_table.proofs.UnitsKept.{gone_step}
 use Rattle.lq_table.specs.Moves.{Sat, at_rest}
-use Rattle.lq_table.specs.Controls.{set_deactivated_view, set_deactivated_told}
+use Rattle.lq_table.specs.Controls.{set_deactivated_view}
 use Rattle.lq_table.proofs.Bits.{or_event}
 use Rattle.lq_table.proofs.ByName.{set_state}
 use Rattle.lq_table.proofs.Middle.{middle, begins_in, controls_in}
@@ -29,6 +29,7 @@ use Rattle.lq_table.proofs.Frames.{same_xoff, leaves_same, rule_after, opened, c
 use Rattle.lq_table.proofs.SeatFrames.{seats_by_control, packets_heard}
 use Rattle.lq_table.proofs.StationFrames.{station_kept, account_heard, stands_state}
 use Rattle.lq_table.proofs.ControlsKept.{firsts_now}
+use Rattle.lq_log.specs.Made.{becomes}
 
 -- the seat is at control, as it was or by a start
 to_control : (q : Qdisc) (xs ys : List Seat) (s : Seat) (position : Position) → s.position ≡ position → at_rest position ≡ true → IsInductive (record { qdisc = q; seats = xs ++ s ∷ ys })
@@ -51,7 +52,7 @@ none_down (Some e) h = absurd (true≢false h)
 module _ (k : Setup) where
   -- the first seat deactivates the station for the event e
   pub closes : (slots id e : ℕ) (m : Sat) → at_rest m.0.place.position ≡ true → m.0.control.first ≡ true → m.0.control.phase ≡ Active → m.0.control.purge ≡ None → e < 4294967296 → 0 < m.0.share.shares
-      → Allows (Rule k) slots id m state_place (λ n. bit_or n (2 + 256 * (e + 1))) (set_deactivated_told e (step slots state_place (2 + 256 * (e + 1)) 0 none) m)
+      → Allows (Rule k) slots id m state_place (λ n. bit_or n (2 + 256 * (e + 1))) (becomes (λ _. set_deactivated_view e) (step slots state_place (2 + 256 * (e + 1)) 0 none) m)
   closes slots id n m rests first active no_purge small_event some_share s r deep here small =
       let v : View = m.0 in let q = r.qdisc in let p = r.parts in let g = r.state in let a = account k g in let W = words_of k s.words in let live = lt-ltb 0 v.share.shares some_share in let mid = middle s.views id v here live in
       let D : HolderPart = holders g a W.size in let w : View = set_deactivated_view n v in let e : Event = Down n in let a' : Account = after e a in

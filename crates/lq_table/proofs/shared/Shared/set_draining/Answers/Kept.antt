@@ -16,13 +16,14 @@ use Rattle.lq_table.specs.Places.{state_place}
 use Rattle.lq_table.specs.Views.{View, Setup}
 use Rattle.lq_table.specs.Rule.{event_word, Rule}
 use Rattle.lq_table.specs.Moves.{Sat, pass_view, pass_told}
-use Rattle.lq_table.specs.States.{set_draining_at, backing, set_bit_view, set_bit_told}
+use Rattle.lq_table.specs.States.{set_draining_at, backing, set_bit_view}
 use Rattle.lq_table.proofs.Bits.{or_draining}
 use Rattle.lq_table.proofs.RecheckKept.{seen}
 use Rattle.lq_table.proofs.SetBitKept.{backs, by_drain}
 use Rattle.lq_table.proofs.Quiet.{Still}
 use Rattle.lq_table.proofs.Frames.{Fits}
 use Rattle.lq_table.proofs.StatesKept.{bits, draining_kept, plain_still}
+use Rattle.lq_log.specs.Made.{becomes}
 
 module _ (k : Setup) where
   abbrev sets_draining_bare : Position → Bool
@@ -41,7 +42,7 @@ module _ (k : Setup) where
       8 slots id m
 
   pub sets_draining_all : (slots id : ℕ) (m : Sat) → set_draining_at m.0.place.position ≡ true → 0 < m.0.share.shares
-      → Allows (Rule k) slots id m state_place (λ n. bit_or n 8) (set_bit_told (step slots state_place 8 0 none) m)
+      → Allows (Rule k) slots id m state_place (λ n. bit_or n 8) (becomes (λ _. set_bit_view) (step slots state_place 8 0 none) m)
   sets_draining_all slots id m at some_share = by m.0.place.position refl at
     where
       Goal : View → Type 0

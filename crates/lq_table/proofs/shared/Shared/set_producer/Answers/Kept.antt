@@ -16,16 +16,16 @@ use Rattle.lq_table.specs.Views.{View, Setup, HalfResize}
 use Rattle.lq_table.specs.Rule.{words_of, account, bands_now, IsLocker, IsResizing, locks_at, Rule}
 use Rattle.lq_table.specs.Moves.{Sat}
 use Rattle.lq_table.specs.Producers.{with_lock_at}
-use Rattle.lq_table.specs.Resizes.{set_producer_told}
 use Rattle.lq_table.proofs.ByName.{set_producer}
 use Rattle.lq_table.proofs.Quiet.{beside}
 use Rattle.lq_table.proofs.ResizeSlotsKept.{resizing_rule, resizing_known}
 use Rattle.lq_table.proofs.Frames.{none_some, locks_here, locks_same, locks_after}
+use Rattle.lq_log.specs.Made.{becomes}
 
 module _ (k : Setup) where
   -- control sets the producer of a band
   pub sets_producer : (slots id : ℕ) (m : Sat) (b i : ℕ) (t : HalfResize) → b < 3 → holds_lock m.0.place.position ≡ true → m.0.holder.resizing ≡ Some t → (at b m.0.locks).holds ≡ true → 0 < m.0.share.shares
-      → Allows (Rule k) slots id m (producer_place b) (λ _. 2 * i + 1) (λ _. set_producer_told b i (step slots (producer_place b) (2 * i + 1) 0 none) m (2 * i + 1))
+      → Allows (Rule k) slots id m (producer_place b) (λ _. 2 * i + 1) (λ _. becomes (λ _. with_lock_at b (locked_at i)) (step slots (producer_place b) (2 * i + 1) 0 none) m (2 * i + 1))
   sets_producer slots id m b i t below holds under_way locked some_share s r1 deep here small =
       let v : View = m.0 in let r = resizing_rule k s r1 (Some t) (resizing_known k s r1 id v (Some t) here some_share holds under_way) in
       let p = r.parts in let g = r.state in let a = account k g in let W = words_of k s.words in let w : View = with_lock_at b (locked_at i) v in let live = lt-ltb 0 v.share.shares some_share in

@@ -15,7 +15,7 @@ use Rattle.lq_table.specs.Places.{state_place}
 use Rattle.lq_table.specs.Views.{View, Setup}
 use Rattle.lq_table.specs.Rule.{words_of, account, event_word, Rule}
 use Rattle.lq_table.specs.Moves.{Sat, seen_by, is_set}
-use Rattle.lq_table.specs.States.{set_sched_at, set_sched_view, set_sched_told, set_sched_told_all}
+use Rattle.lq_table.specs.States.{set_sched_at, set_sched_view, set_sched_told}
 use Rattle.lq_table.proofs.Bits.{has_sched, or_sched}
 use Rattle.lq_table.proofs.ByName.{set_state}
 use Rattle.lq_table.proofs.RecheckKept.{seen}
@@ -26,6 +26,7 @@ use Rattle.lq_band_laws.specs.Three.{at}
 use Rattle.lq_table.proofs.Loads.{also}
 use Rattle.lq_table.proofs.SoleFacts.{sees_state}
 use Rattle.lq_table.proofs.SoleKept.{sees}
+use Rattle.lq_log.specs.Made.{becomes}
 
 module _ (k : Setup) where
   schedule_fits : (seen q : Qdisc) → seen.sched ≡ q.sched → (position : Position) (s : Seat) → set_sched_at position ≡ true → Fits q seen Plain position s (record q { sched = true })
@@ -44,7 +45,7 @@ module _ (k : Setup) where
   schedule_free _ h = absurd (false≢true h)
 
   pub schedules_kept : (slots id : ℕ) (m : Sat) → set_sched_at m.0.place.position ≡ true → 0 < m.0.share.shares
-      → Allows (Rule k) slots id m state_place (λ n. bit_or n 1) (set_sched_told (step slots state_place 1 0 none) m)
+      → Allows (Rule k) slots id m state_place (λ n. bit_or n 1) (becomes (λ found. set_sched_view (is_set 1 found)) (step slots state_place 1 0 none) m)
   schedules_kept slots id m at some_share s r deep here small =
       let v : View = m.0 in let q = r.qdisc in let p = r.parts in let W = words_of k s.words in let live = lt-ltb 0 v.share.shares some_share in let t = p.station.stands in let e : ℕ = event_word (account k r.state).down in
       let was : is_set 1 W.state ≡ q.sched = ap (is_set 1) t.state ∙ has_sched q.sched q.deactivated q.missed q.draining e in
@@ -60,5 +61,5 @@ module _ (k : Setup) where
       )
 
 module _ (k : Setup) (slots id : ℕ) (m : Sat) where
-  pub schedules_sole : set_sched_at m.0.place.position ≡ true → 0 < m.0.share.shares → Allows (Rule k) slots id m state_place (λ n. bit_or n 1) (set_sched_told_all (step slots state_place 1 0 none) m)
-  schedules_sole at some_share = also k slots id m state_place (λ n. bit_or n 1) (set_sched_told (step slots state_place 1 0 none) m) (sees k slots id m) (λ s r here sole. sees_state k s r id m.0 here some_share sole) (schedules_kept k slots id m at some_share)
+  pub schedules_sole : set_sched_at m.0.place.position ≡ true → 0 < m.0.share.shares → Allows (Rule k) slots id m state_place (λ n. bit_or n 1) (set_sched_told (step slots state_place 1 0 none) m)
+  schedules_sole at some_share = also k slots id m state_place (λ n. bit_or n 1) (becomes (λ found. set_sched_view (is_set 1 found)) (step slots state_place 1 0 none) m) (sees k slots id m) (λ s r here sole. sees_state k s r id m.0 here some_share sole) (schedules_kept k slots id m at some_share)

@@ -25,12 +25,13 @@ use Rattle.lq_table.specs.Views.{View, Setup, HalfResize, Work, Left}
 use Rattle.lq_table.specs.Rule.{words_of, fates_offset, account, owes, waiting_of, waits, unstored, bands_now, locks_at, Rule}
 use Rattle.lq_table.specs.Moves.{Sat}
 use Rattle.lq_table.specs.Resizes.{settled_work, with_work, with_resizing}
-use Rattle.lq_table.specs.Fates.{MaySettle, MayShrink, settle_view_shrunk, settle_told}
+use Rattle.lq_table.specs.Fates.{MaySettle, MayShrink, settle_view_shrunk, settle_view}
 use Rattle.lq_table.proofs.ByName.{set_fate}
 use Rattle.lq_table.proofs.shared.Shared.settle.Answers.Owed.{pays}
 use Rattle.lq_table.proofs.shared.Shared.settle.Answers.Sent as sent
 use Rattle.lq_table.proofs.SettledKept.{settled_stored}
 use Rattle.lq_table.proofs.ResizeSlotsKept.{waiting_put, waiting_at, resizing_rule, resizing_known, works_on}
+use Rattle.lq_log.specs.Made.{becomes}
 
 -- how often a purge has still to take a packet of one band
 waits_at : (n b : ℕ) (l : Left) → times n (held_of (at b l.bands)) ≤ waits n (Some l)
@@ -45,7 +46,7 @@ held_there (Some l) a b n h none_taken c = let x = times_in n (held_of (at b l.b
 
 module _ (k : Setup) where
   pub settles_shrunk : (slots id : ℕ) (st : StationState) (m : Sat) (b n event : ℕ) → b < 3 → HasWord (fate.Shrunk event) → 0 < m.0.share.shares → MayShrink b n event m.0
-      → Allows (Rule k) slots id m (fates_offset k + n) (λ _. word_of (fate.Shrunk event)) (λ _. settle_told st b n (fate.Shrunk event) (step slots (fates_offset k + n) (word_of (fate.Shrunk event)) 0 none) m (word_of (fate.Shrunk event)))
+      → Allows (Rule k) slots id m (fates_offset k + n) (λ _. word_of (fate.Shrunk event)) (λ _. becomes (λ _. settle_view st b n (fate.Shrunk event)) (step slots (fates_offset k + n) (word_of (fate.Shrunk event)) 0 none) m (word_of (fate.Shrunk event)))
   settles_shrunk slots id st m b n event below has_word some_share may s r1 deep here small =
       let v : View = m.0 in let t : HalfResize = may.resizing in let r = resizing_rule k s r1 (Some t) (resizing_known k s r1 id v (Some t) here some_share may.holds may.under_way) in
       let p = r.parts in let g = r.state in let a = account k g in let W = words_of k s.words in let res = p.station.rings.half_resized t refl in
@@ -81,9 +82,9 @@ module _ (k : Setup) where
       )
 
   pub settles_fate : (slots id : ℕ) (st : StationState) (m : Sat) (b n : ℕ) (f : Fate) → n < length k.infos → HasWord f → 0 < m.0.share.shares → MaySettle b n f st m.0
-      → Allows (Rule k) slots id m (fates_offset k + n) (λ _. word_of f) (λ _. settle_told st b n f (step slots (fates_offset k + n) (word_of f) 0 none) m (word_of f))
+      → Allows (Rule k) slots id m (fates_offset k + n) (λ _. word_of f) (λ _. becomes (λ _. settle_view st b n f) (step slots (fates_offset k + n) (word_of f) 0 none) m (word_of f))
   settles_fate slots id st m b n (fate.Sent unit serial) within has_word some_share may =
-      subst (λ (f : Fate). Allows (Rule k) slots id m (fates_offset k + n) (λ _. word_of f) (λ _. settle_told st b n (fate.Sent unit serial) (step slots (fates_offset k + n) (word_of f) 0 none) m (word_of f))) (sym may.fate_is)
+      subst (λ (f : Fate). Allows (Rule k) slots id m (fates_offset k + n) (λ _. word_of f) (λ _. becomes (λ _. settle_view st b n (fate.Sent unit serial)) (step slots (fates_offset k + n) (word_of f) 0 none) m (word_of f))) (sym may.fate_is)
       (sent.settles k slots id n st m may.packet may.direct may.answer may.position may.in_hand may.called may.accepted (subst HasWord may.fate_is has_word) some_share within)
   settles_fate slots id st m b n (fate.Full seen) within has_word some_share may = pays k slots id n (fate.Full seen) m may within has_word some_share
   settles_fate slots id st m b n (fate.Refused event) within has_word some_share may = pays k slots id n (fate.Refused event) m may within has_word some_share

@@ -17,18 +17,19 @@ use Rattle.lq_table.specs.Places.{size_place}
 use Rattle.lq_table.specs.Views.{View, Setup, State, HolderPart, HalfResize}
 use Rattle.lq_table.specs.Rule.{words_of, account, holders, owes, unstored, bands_now, Rule}
 use Rattle.lq_table.specs.Moves.{Sat}
-use Rattle.lq_table.specs.Resizes.{store_size_view, store_size_told}
+use Rattle.lq_table.specs.Resizes.{store_size_view}
 use Rattle.lq_table.proofs.ByName.{set_size}
 use Rattle.lq_table.proofs.ResizeSlotsKept.{resizing_rule, resizing_known}
 use Rattle.lq_table.proofs.Frames.{none_some, locks_here, locks_same, rule_after, stays, lends_held, holder_now}
 use Rattle.lq_table.proofs.SeatFrames.{seats_same}
 use Rattle.lq_table.proofs.StationFrames.{stands_same}
+use Rattle.lq_log.specs.Made.{becomes}
 
 module _ (k : Setup) where
   -- the size is stored, once the slots have what each band keeps, the producers are set and no fate is owed
   pub stores_size : (slots id : ℕ) (m : Sat) (t : HalfResize) → holds_lock m.0.place.position ≡ true → m.0.holder.resizing ≡ Some t → 0 < m.0.share.shares
       → ((b : ℕ) → b < 3 → IsRefilled (at b t.works).slots (at b t.works).kept t.len × (at b m.0.locks ≡ locked_at (round t.len (length (at b t.works).kept))) × ((at b t.works).waiting ≡ []))
-      → Allows (Rule k) slots id m size_place (λ _. t.len) (λ _. store_size_told t (step slots size_place t.len 0 none) m t.len)
+      → Allows (Rule k) slots id m size_place (λ _. t.len) (λ _. becomes (λ _. store_size_view t) (step slots size_place t.len 0 none) m t.len)
   stores_size slots id m t holds under_way some_share ready s r1 deep here small =
       let v : View = m.0 in let r = resizing_rule k s r1 (Some t) (resizing_known k s r1 id v (Some t) here some_share holds under_way) in let live = lt-ltb 0 v.share.shares some_share in
       let p = r.parts in let g = r.state in let a = account k g in let q = r.qdisc in let W = words_of k s.words in let w : View = store_size_view t v in

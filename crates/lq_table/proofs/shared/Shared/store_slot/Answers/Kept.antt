@@ -25,7 +25,7 @@ use Rattle.lq_band_laws.proofs.Kept.{stores}
 use Rattle.lq_table.specs.Views.{View, Setup, State, HolderPart, machine_packet, machine_packets}
 use Rattle.lq_table.specs.Rule.{words_of, slot_word, account, holders, Holder, locks_at, Rule}
 use Rattle.lq_table.specs.Moves.{Sat, seen_by}
-use Rattle.lq_table.specs.Producers.{store_slot_view, store_slot_told}
+use Rattle.lq_table.specs.Producers.{store_slot_view}
 use Rattle.lq_table.proofs.ByName.{set_slot}
 use Rattle.lq_table.proofs.Shows.{Shows, begins_alike, begins_plain, holder_shows}
 use Rattle.lq_table.proofs.Ties.{band_tied, band_set, band_joined}
@@ -34,6 +34,7 @@ use Rattle.lq_table.proofs.Accounts.{fresh_is_new, with_at_same, with_at_other}
 use Rattle.lq_table.proofs.Frames.{same_xoff, fates_same, locks_here, calm_here, rings_step, none_left, rule_after, Fits, plays, held_before, Later, holder_later, lends_step}
 use Rattle.lq_table.proofs.SeatFrames.{seats_brought}
 use Rattle.lq_table.proofs.StationFrames.{stands_same, account_heard}
+use Rattle.lq_log.specs.Made.{becomes}
 
 pub put_fits : (q seen : Qdisc) (p : Packet) (holds : Bool) (s : Seat) → (holds ≡ true → Shows q seen) → nat_lt (length (band_at q p.band)) q.len ≡ true → Fits q seen Plain (Put p holds) s (joined_band p q)
 put_fits q seen p true s e room = record { may = room; seat = λ j. record { position = begins_alike q seen (e refl) j; raised = s.raised; run = 0 }; words = refl }
@@ -49,7 +50,7 @@ module _ (k : Setup) where
   pub stores_slot : (slots id : ℕ) (m : Sat) (b i n : ℕ) (holds : Bool) → b < 3 → i < k.max_len → m.0.place.position ≡ Put (machine_packet k.infos n) holds
       → (at b m.0.locks).holds ≡ true → (at b m.0.locks).stored ≡ false → (at b m.0.locks).room ≡ true → i ≡ (at b m.0.locks).index
       → m.0.packets.fresh ≡ Some n → band_in k.infos n ≡ b → 0 < m.0.share.shares → m.0.holder.resizing ≡ None
-      → Allows (Rule k) slots id m (slot_word k b i) (λ _. n + 1) (λ _. store_slot_told b n (step slots (slot_word k b i) (n + 1) 0 none) m (n + 1))
+      → Allows (Rule k) slots id m (slot_word k b i) (λ _. n + 1) (λ _. becomes (λ _. store_slot_view b n) (step slots (slot_word k b i) (n + 1) 0 none) m (n + 1))
   stores_slot slots id m b i n holds below inside position has new room is_index is_fresh of_band some_share no_resizing s r0 deep here small =
       let v : View = m.0 in let r = calm_rule k s r0 id v here (lt-ltb 0 v.share.shares some_share) (ap may_be_inside position) (ap is_control position) in let p = r.parts in let g = r.state in let a = account k g in let q = r.qdisc in let W = words_of k s.words in let l : Lock = at b v.locks in let live = lt-ltb 0 v.share.shares some_share in
       let calm : g.resizing ≡ None = calm_here k.infos k.max_len W.size W.producers W.slots _ _ _ q.locked W.xoff r.home g.past (holders g a W.size) g.resizing s.views id v b p.station.rings p.station.lends refl here below has no_resizing in

@@ -22,7 +22,7 @@ use Rattle.lq_model.specs.Positions.{may_be_inside, holds_lock}
 use Rattle.lq_table.specs.Views.{View, Setup, HolderPart, machine_packet}
 use Rattle.lq_table.specs.Rule.{words_of, account, holders, AreHungTo, xoff_word, Holder, IsStopping, Rule}
 use Rattle.lq_table.specs.Moves.{Sat, seen_by}
-use Rattle.lq_table.specs.Stops.{stop_value, store_xoff_view_from, store_xoff_told}
+use Rattle.lq_table.specs.Stops.{stop_value, store_xoff_view_from, store_xoff_view}
 use Rattle.lq_table.proofs.ByName.{set_xoff, xoff_long, xoff_within}
 use Rattle.lq_table.proofs.Shows.{Shows, begins_alike, after_plain, after_holding, holder_shows}
 use Rattle.lq_table.proofs.Serves.{serves}
@@ -30,6 +30,7 @@ use Rattle.lq_table.proofs.StopsKept.{agree, none_agree, call_none}
 use Rattle.lq_table.proofs.DeviceKept.{stop_stored}
 use Rattle.lq_table.proofs.Frames.{Fits, plays}
 use Rattle.lq_table.proofs.StationFrames.{ties_same}
+use Rattle.lq_log.specs.Made.{becomes}
 
 store_fits : (q seen : Qdisc) → Shows q seen → (queue : ℕ) (hung direct : Bool) (s : Seat) → Fits q seen Plain (StoreXoff queue hung direct) s (record q { xoff = slice_set q.xoff queue (stop_value hung) })
 store_fits q seen e queue hung direct s = record {
@@ -79,7 +80,7 @@ module _ (infos : List Info) (xoff : List ℕ) (past : List Event) (d h : Holder
 
 module _ (k : Setup) where
   pub stores_xoff : (slots id queue : ℕ) (m : Sat) (hung direct : Bool) → queue < k.queues → m.0.place.position ≡ StoreXoff queue hung direct → m.0.holder.station.device.hung ≡ hung → 0 < m.0.share.shares
-      → Allows (Rule k) slots id m (xoff_word k queue) (λ _. stop_value hung) (store_xoff_told (step slots (xoff_word k queue) (stop_value hung) 0 none) m)
+      → Allows (Rule k) slots id m (xoff_word k queue) (λ _. stop_value hung) (becomes (λ _. store_xoff_view) (step slots (xoff_word k queue) (stop_value hung) 0 none) m)
   stores_xoff slots id queue m hung direct below position alive some_share s r deep here small =
       let v : View = m.0 in let p = r.parts in let g = r.state in let a = account k g in let q = r.qdisc in let W = words_of k s.words in let live = lt-ltb 0 v.share.shares some_share in
       let D : HolderPart = holders g a W.size in let holds : holds_lock v.place.position ≡ true = ap holds_lock position in let value : ℕ = stop_value hung in

@@ -12,15 +12,16 @@ use Rattle.lq_band_laws.proofs.Kept.{empties}
 use Rattle.lq_table.specs.Views.{View, Setup, State, HolderPart}
 use Rattle.lq_table.specs.Rule.{words_of, slot_word, account, holders, bands_now, locks_at, Rule}
 use Rattle.lq_table.specs.Moves.{Sat}
-use Rattle.lq_table.specs.Consumers.{zero_slot_view, zero_slot_told}
+use Rattle.lq_table.specs.Consumers.{zero_slot_view}
 use Rattle.lq_table.proofs.ByName.{set_slot}
 use Rattle.lq_table.proofs.Frames.{fates_same, locks_here, rings_step, rule_after, stays, lends_held, holder_now}
 use Rattle.lq_table.proofs.SeatFrames.{seats_same}
 use Rattle.lq_table.proofs.StationFrames.{stands_same}
+use Rattle.lq_log.specs.Made.{becomes}
 
 module _ (k : Setup) where
   pub empties_slot : (slots id : ℕ) (m : Sat) (b i : ℕ) → b < 3 → i < k.max_len → holds_lock m.0.place.position ≡ true → m.0.holder.resizing ≡ None → is_emptying m.0.holder.size (at b m.0.holder.ends) ≡ true → i + 1 ≡ (at b m.0.holder.ends).edge → 0 < m.0.share.shares
-      → Allows (Rule k) slots id m (slot_word k b i) (λ _. 0) (λ _. zero_slot_told b (step slots (slot_word k b i) 0 0 none) m 0)
+      → Allows (Rule k) slots id m (slot_word k b i) (λ _. 0) (λ _. becomes (λ _. zero_slot_view b) (step slots (slot_word k b i) 0 0 none) m 0)
   empties_slot slots id m b i below inside holds no_resizing busy is_edge some_share s r deep here small =
       let v : View = m.0 in let p = r.parts in let g = r.state in let a = account k g in let q = r.qdisc in let W = words_of k s.words in let live = lt-ltb 0 v.share.shares some_share in let D : HolderPart = holders g a W.size in
       let at_ = p.station.lends.knows id v here live holds in let calm : g.resizing ≡ None = sym (ap (λ (x : HolderPart). x.resizing) at_.is) ∙ no_resizing in let old = (p.station.rings.running calm).ring b below in
