@@ -21,9 +21,11 @@ use Rattle.lq_band_laws.proofs.Times.{times_append, times_drop}
 use Rattle.lq_band_laws.proofs.HoldsKept.{finds_none_held, takes_held, empties_held}
 use Rattle.lq_tap.specs.Views.{View, Setup, ReaderPart}
 use Rattle.lq_tap.specs.Made.{Sat, slot_word}
-use Rattle.lq_tap.specs.Tells.{with_consumer, beginning, consumer_taken, consumer_given, return_ended, taking, finding_none, head_slot_seen, emptying}
+use Rattle.lq_tap.specs.Tells.{batch_kept, with_consumer, consumer_taken, consumer_given, taking, finding_none, head_slot_seen, emptying}
 use Rattle.lq_tap.specs.Rule.{Words, words_of, one_if, reading, IsSeat, ArePuts, KnowsReads, locks_of, band_of, consumer_of, holding, Ordered, Lends, Parts, Rule}
 use Rattle.lq_tap.specs.declared.view.Consumer.{Consumer}
+use Rattle.lq_tap.specs.declared.view.Purpose.{Purpose}
+use Rattle.lq_tap.specs.declared.view.Purpose.TheVariants.{Batch, Return}
 use Rattle.lq_tap.proofs.ByName.{set_consumer, set_slot, slot_of}
 use Rattle.lq_tap.proofs.Orders.{times_self, no_more}
 use Rattle.lq_tap.proofs.Frames.{seats_same, puts_same, reads_step, locks_same, ring_same, lends_held, rule_after, rule_load, rule_same}
@@ -85,6 +87,12 @@ few_read k ended line full views passed ends q p h =
     (λ m. let a = times_append m q.taken q.destroyed in let b = h.counts m in let c = p.one m in omega arith) in
     let both = length-append q.taken q.destroyed in omega arith
 
+kept_or_none : (purpose : Purpose) (holds : Bool) (batch : List ℕ) → (batch_kept purpose holds batch ≡ batch) ⊎ (batch_kept purpose holds batch ≡ [])
+kept_or_none Batch true batch = inr refl
+kept_or_none Batch false batch = inl refl
+kept_or_none Return true batch = inl refl
+kept_or_none Return false batch = inr refl
+
 -- THE READER'S OWN STEPS
 
 -- what a step of the reader leaves alone
@@ -133,9 +141,10 @@ module _ (views : List View) (one : total reading views ≡ 1) where
 
 module _ (k : Setup) where
   -- a seat that gets the lock knows what it knew, but for the batch
-  takes_lock : (slots id : ℕ) (m : Sat) (batch : List ℕ) → m.0.about ≡ k → m.0.reader.reads ≡ true → ((batch ≡ m.0.reader.batch) ⊎ (batch ≡ []))
-      → Allows (Rule k) slots id m 16 (λ n. either (eqb n 0) 1 n) (consumer_taken (λ v. record v { reader = record v.reader { holds = true; batch = batch } }) (step slots 16 0 1 none) m)
-  takes_lock slots id m batch about reads which s r deep here small =
+  pub takes_consumer : (slots id : ℕ) (m : Sat) (purpose : Purpose) → m.0.about ≡ k → m.0.reader.reads ≡ true
+      → Allows (Rule k) slots id m 16 (λ n. either (eqb n 0) 1 n) (consumer_taken purpose (step slots 16 0 1 none) m)
+  takes_consumer slots id m purpose about reads s r deep here small =
+      let batch : List ℕ = batch_kept purpose true m.0.reader.batch in let which = kept_or_none purpose true m.0.reader.batch in
       let v : View = m.0 in let p = r.parts in let g = r.state in let W = words_of s.words in
       let q : ReaderPart = record v.reader { holds = true; batch = batch } in let w : View = record v { reader = q } in let h = p.reads id v here reads in
       dite (ℕ_discrete (get_or s.words 16 0) 0)
@@ -164,16 +173,11 @@ module _ (k : Setup) where
         ((λ free. absurd (busy free)), λ _. refl),
       ))
 
-  pub takes_for_batch : (slots id : ℕ) (m : Sat) → m.0.about ≡ k → m.0.reader.reads ≡ true → Allows (Rule k) slots id m 16 (λ n. either (eqb n 0) 1 n) (consumer_taken beginning (step slots 16 0 1 none) m)
-  takes_for_batch slots id m about reads = takes_lock slots id m [] about reads (inr refl)
-
-  pub takes_to_return : (slots id : ℕ) (m : Sat) → m.0.about ≡ k → m.0.reader.reads ≡ true → Allows (Rule k) slots id m 16 (λ n. either (eqb n 0) 1 n) (consumer_taken (with_consumer true) (step slots 16 0 1 none) m)
-  takes_to_return slots id m about reads = takes_lock slots id m m.0.reader.batch about reads (inl refl)
-
   -- the lock is given back, and the ends with it
-  gives_lock : (slots id : ℕ) (v : View) (y : Consumer) (batch : List ℕ) → v.about ≡ k → v.reader.reads ≡ true → v.reader.holds ≡ true → ((batch ≡ v.reader.batch) ⊎ (batch ≡ [])) → y ≡ consumer_of v.reader.ends → IsAtRest v.about.len v.reader.ends
-      → Allows (Rule k) slots id (v, (0, y) ∷ []) 16 (λ _. 0) (λ _ m'. m' ≡ (record v { reader = record v.reader { holds = false; batch = batch } }, []))
-  gives_lock slots id v y batch about reads has which is rest s r deep here small =
+  pub gives_consumer : (slots id : ℕ) (v : View) (y : Consumer) (purpose : Purpose) → v.about ≡ k → v.reader.reads ≡ true → v.reader.holds ≡ true → y ≡ consumer_of v.reader.ends → IsAtRest v.about.len v.reader.ends
+      → Allows (Rule k) slots id (v, (0, y) ∷ []) 16 (λ _. 0) (λ _. consumer_given purpose (step slots 16 0 0 none) (v, (0, y) ∷ []) 0)
+  gives_consumer slots id v y purpose about reads has is rest s r deep here small =
+      let batch : List ℕ = batch_kept purpose false v.reader.batch in let which = kept_or_none purpose false v.reader.batch in
       let p = r.parts in let g = r.state in let W = words_of s.words in let q : ReaderPart = record v.reader { holds = false; batch = batch } in let w : View = record v { reader = q } in let h = p.reads id v here reads in
       let few = few_hold s.views p.seats.one_reader p.lends.readers in let one = total_set holding s.views id v w here in let mine : holding v ≡ 1 = ap one_if has in (
         w,
@@ -190,14 +194,6 @@ module _ (k : Setup) where
             }),
         refl,
       )
-
-  pub gives_after_batch : (slots id : ℕ) (v : View) (y : Consumer) → v.about ≡ k → v.reader.reads ≡ true → v.reader.holds ≡ true → y ≡ consumer_of v.reader.ends → IsAtRest v.about.len v.reader.ends
-      → Allows (Rule k) slots id (v, (0, y) ∷ []) 16 (λ _. 0) (λ _. consumer_given (step slots 16 0 0 none) (v, (0, y) ∷ []) 0)
-  gives_after_batch slots id v y about reads has is rest = gives_lock slots id v y v.reader.batch about reads has (inl refl) is rest
-
-  pub gives_after_return : (slots id : ℕ) (v : View) (y : Consumer) → v.about ≡ k → v.reader.reads ≡ true → v.reader.holds ≡ true → y ≡ consumer_of v.reader.ends → IsAtRest v.about.len v.reader.ends
-      → Allows (Rule k) slots id (v, (0, y) ∷ []) 16 (λ _. 0) (λ _. return_ended (step slots 16 0 0 none) (v, (0, y) ∷ []) 0)
-  gives_after_return slots id v y about reads has is rest = gives_lock slots id v y [] about reads has (inr refl) is rest
 
   -- TAKES
 

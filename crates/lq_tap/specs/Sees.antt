@@ -5,9 +5,10 @@ use Rattle.lq_tap.specs.Views.{View, Setup}
 use Rattle.lq_tap.specs.Made.{Made, ◌⊳◌, did_load_slot, did_store_slot, did_load_ended}
 use Rattle.lq_tap.specs.Told.{having_found_full, having_seen_ended}
 use Rattle.lq_tap.specs.Rule.{consumer_of}
-use Rattle.lq_tap.specs.Tells.{with_lock, finding_none, having_taken_one, rest_at, destroying, having_put_back}
+use Rattle.lq_tap.specs.Tells.{with_lock, with_consumer, finding_none, having_taken_one, rest_at, destroying, having_put_back}
 use Rattle.lq_tap.specs.Steps.{took}
 use Rattle.lq_tap.specs.declared.view.Consumer.{Consumer}
+use Rattle.lq_tap.specs.declared.view.Purpose.{Purpose}
 use Rattle.lq_tap.specs.declared.shared.Tap.{Tap}
 use Rattle.lq_tap.specs.declared.shared.TapSeat.{TapSeat}
 
@@ -74,9 +75,10 @@ FindsNextFull t word b a = (view a ≡ having_found_full (view b).sender.next (w
 
 -- THE CONSUMER LOCK
 
--- the slot with the consumer's ends came to it, and they rest
-abbrev pub GetsEnds : Tap → TapSeat → TapSeat → Type 0
-GetsEnds t b a = (slot a ≡ (0, consumer_of (view b).reader.ends) ∷ slot b) × IsAtRest t.len (view b).reader.ends
+-- it got the consumer lock for this, and the slot with the consumer's ends, which rest
+abbrev pub GetsConsumer : Tap → Purpose → TapSeat → TapSeat → Type 0
+GetsConsumer t p b a =
+    (view a ≡ with_consumer p true (view b)) × (slot a ≡ (0, consumer_of (view b).reader.ends) ∷ slot b) × IsAtRest t.len (view b).reader.ends
 
 -- it has the slot with the consumer's ends, and they rest
 abbrev pub HasEnds : Tap → TapSeat → Type 0

@@ -1,5 +1,5 @@
 -- What each step on a word tells its caller.
-use Rattle.std.specs.Prelude.{◌≡◌, ◌≢◌, ℕ, ◌-◌, ◌/◌, ◌<◌, ◌≤◌, Bool, true, false, ◌==◌, ◌&&◌, [], ◌∷◌, ◌++◌, length, drop}
+use Rattle.std.specs.Prelude.{◌≡◌, ◌≢◌, ℕ, ◌-◌, ◌/◌, ◌<◌, ◌≤◌, Bool, true, false, ◌==◌, ◌&&◌, List, [], ◌∷◌, ◌++◌, length, drop}
 use Rattle.atomic_table.specs.Table.{Step}
 use Rattle.lq_band_laws.specs.Ring.{Ends, Lock, locked_at, with_room, without_room, having_stored, cleared_at, taken_on, after_take, emptied_on, IsAtRest}
 use Rattle.lq_ring_core.specs.Ring.{place_before}
@@ -9,6 +9,8 @@ use Rattle.lq_tap.specs.Told.{having_put, having_found_full, without_last}
 use Rattle.lq_tap.specs.Settled.{IsSettled}
 use Rattle.lq_tap.specs.Rule.{consumer_of}
 use Rattle.lq_tap.specs.declared.view.Consumer.{Consumer}
+use Rattle.lq_tap.specs.declared.view.Purpose.{Purpose}
+use Rattle.lq_tap.specs.declared.view.Purpose.TheVariants.{Batch, Return}
 
 -- THE PRODUCER LOCK
 
@@ -33,25 +35,24 @@ producer_slot_stored _ m found m' = m' ≡ (with_lock (having_stored m.0.lock) (
 
 -- THE CONSUMER LOCK
 
-abbrev pub with_consumer : Bool → View → View
-with_consumer holds v = record v { reader = record v.reader { holds = holds } }
+-- The batch once the lock is taken, or given back, for this. A new batch begins with no packet, and none is left of one that was
+-- given back.
+abbrev pub batch_kept : Purpose → Bool → List ℕ → List ℕ
+batch_kept Batch true batch = []
+batch_kept Batch false batch = batch
+batch_kept Return true batch = batch
+batch_kept Return false batch = []
 
--- a new batch begins
-abbrev pub beginning : View → View
-beginning v = record v { reader = record v.reader { holds = true; batch = [] } }
+abbrev pub with_consumer : Purpose → Bool → View → View
+with_consumer p holds v = record v { reader = record v.reader { holds = holds; batch = batch_kept p holds v.reader.batch } }
 
-abbrev pub consumer_taken : (View → View) → Step Consumer → Sat → ℕ → Sat → Type 0
-consumer_taken f s m found m' = (found ≡ 0 → (m' ≡ (f m.0, (0, consumer_of m.0.reader.ends) ∷ m.1)) × IsAtRest m.0.about.len m.0.reader.ends) × (found ≢ 0 → m' ≡ m)
+abbrev pub consumer_taken : Purpose → Step Consumer → Sat → ℕ → Sat → Type 0
+consumer_taken p _ m found m' =
+    (found ≡ 0 → (m' ≡ (with_consumer p true m.0, (0, consumer_of m.0.reader.ends) ∷ m.1)) × IsAtRest m.0.about.len m.0.reader.ends)
+    × (found ≢ 0 → m' ≡ m)
 
-abbrev pub consumer_given : Step Consumer → Sat → ℕ → Sat → Type 0
-consumer_given _ m found m' = m' ≡ (with_consumer false m.0, [])
-
--- after a batch was given back
-abbrev pub done_giving : View → View
-done_giving v = record v { reader = record v.reader { holds = false; batch = [] } }
-
-abbrev pub return_ended : Step Consumer → Sat → ℕ → Sat → Type 0
-return_ended _ m found m' = m' ≡ (done_giving m.0, [])
+abbrev pub consumer_given : Purpose → Step Consumer → Sat → ℕ → Sat → Type 0
+consumer_given p _ m found m' = m' ≡ (with_consumer p false m.0, [])
 
 -- TAKES
 

@@ -1,13 +1,13 @@
 //! The two locks of a `ptr_ring`: `producer_lock`, whose word has the producer index too, and `consumer_lock`.
-ghost use Rattle.std.specs.Prelude.{◌≡◌, ◌*◌, ◌/◌, ◌%◌, ◌<◌, true, false, [], ◌∷◌};
+ghost use Rattle.std.specs.Prelude.{◌≡◌, ◌/◌, ◌%◌, true, false, [], ◌∷◌};
 ghost use Rattle.lq_band_laws.specs.Ring.{unlocked, index_given};
 ghost use Rattle.lq_tap.specs.Made.{◌⊳◌, did_load_producer, did_take_producer, did_give_producer, did_take_consumer, did_give_consumer};
-ghost use Rattle.lq_tap.specs.Tells.{with_lock, with_consumer, beginning, done_giving};
+ghost use Rattle.lq_tap.specs.Tells.{with_lock, with_consumer};
 ghost use Rattle.lq_tap.specs.Steps.{LocksProducer, LocksConsumer};
-ghost use Rattle.lq_tap.specs.Sees.{view, steps, slot, IsSeatOf, IsSameSeat, IsElseSame, GetsProducerAt, GetsEnds, HasEnds};
+ghost use Rattle.lq_tap.specs.Sees.{view, steps, slot, IsSeatOf, IsSameSeat, IsElseSame, GetsProducerAt, GetsConsumer, HasEnds};
 
 use crate::shared::{Tap, TapSeat};
-use crate::view::Consumer;
+use crate::view::{Consumer, Purpose};
 use crossbeam_utils::Backoff;
 use std::marker::Brand;
 use std::sync::Wait;
@@ -76,43 +76,29 @@ impl Tap {
         unreachable!()
     }
 
-    /// Takes the consumer lock for a new batch, where it is free: an exchange of the consumer word. The slot with the ends comes
-    /// with it.
-    fn take_for_batch(&self, seat: &mut TapSeat) -> bool
+    /// Takes the consumer lock, where it is free: an exchange of the consumer word. The slot with the ends comes with it.
+    fn take_consumer(&self, seat: &mut TapSeat, purpose: Purpose) -> bool
         requires seat { IsSeatOf self.now seat.old × ((view seat.old).reader.reads ≡ true) }
         ensures same { IsSameSeat seat.old seat.new }
-        ensures got { result ≡ true → (view seat.new ≡ beginning (view seat.old)) × GetsEnds self.now seat.old seat.new }
+        ensures got { result ≡ true → GetsConsumer self.now purpose seat.old seat.new }
         ensures missed { result ≡ false → (view seat.new ≡ view seat.old) × (slot seat.new ≡ slot seat.old) }
         ensures steps { steps seat.new ≡ steps seat.old ⊳ did_take_consumer result }
     {
         self.table
-            .compare_exchange::<Brand, _>(&mut seat.seat, CONSUMER, 0, 1, &())
+            .compare_exchange::<Brand, _>(&mut seat.seat, CONSUMER, 0, 1, &purpose)
             == 0
     }
 
-    /// Takes it to give packets back.
-    fn take_to_return(&self, seat: &mut TapSeat) -> bool
+    /// Waits for the consumer lock.
+    pub(crate) fn lock_consumer<R: Wait>(&self, rt: &R, seat: &mut TapSeat, purpose: Purpose)
         requires seat { IsSeatOf self.now seat.old × ((view seat.old).reader.reads ≡ true) }
         ensures same { IsSameSeat seat.old seat.new }
-        ensures got { result ≡ true → (view seat.new ≡ with_consumer true (view seat.old)) × GetsEnds self.now seat.old seat.new }
-        ensures missed { result ≡ false → (view seat.new ≡ view seat.old) × (slot seat.new ≡ slot seat.old) }
-        ensures steps { steps seat.new ≡ steps seat.old ⊳ did_take_consumer result }
-    {
-        self.table
-            .compare_exchange::<Brand, _>(&mut seat.seat, CONSUMER, 0, 1, &())
-            == 0
-    }
-
-    /// Waits for the consumer lock for a new batch.
-    pub(crate) fn lock_for_batch<R: Wait>(&self, rt: &R, seat: &mut TapSeat)
-        requires seat { IsSeatOf self.now seat.old × ((view seat.old).reader.reads ≡ true) }
-        ensures same { IsSameSeat seat.old seat.new }
-        ensures locked { (view seat.new ≡ beginning (view seat.old)) × GetsEnds self.now seat.old seat.new }
+        ensures locked { GetsConsumer self.now purpose seat.old seat.new }
         ensures steps { LocksConsumer (steps seat.old) (steps seat.new) }
     {
         let backoff = Backoff::new();
         for _ in rt.forever() {
-            if self.take_for_batch(seat) {
+            if self.take_consumer(seat, purpose) {
                 return;
             }
             backoff.snooze();
@@ -120,47 +106,17 @@ impl Tap {
         unreachable!()
     }
 
-    /// Waits for the consumer lock to give packets back.
-    pub(crate) fn lock_to_return<R: Wait>(&self, rt: &R, seat: &mut TapSeat)
-        requires seat { IsSeatOf self.now seat.old × ((view seat.old).reader.reads ≡ true) }
-        ensures same { IsSameSeat seat.old seat.new }
-        ensures locked { (view seat.new ≡ with_consumer true (view seat.old)) × GetsEnds self.now seat.old seat.new }
-        ensures steps { LocksConsumer (steps seat.old) (steps seat.new) }
-    {
-        let backoff = Backoff::new();
-        for _ in rt.forever() {
-            if self.take_to_return(seat) {
-                return;
-            }
-            backoff.snooze();
-        }
-        unreachable!()
-    }
-
-    /// Gives the consumer lock back after a batch, and the ends with it: a store of 0 into the consumer word.
-    pub(crate) fn give_after_batch(&self, seat: &mut TapSeat)
+    /// Gives the consumer lock back, and the ends with it: a store of 0 into the consumer word.
+    pub(crate) fn give_consumer(&self, seat: &mut TapSeat, purpose: Purpose)
         requires seat { IsSeatOf self.now seat.old × ((view seat.old).reader.reads ≡ true) }
         requires lock { (view seat.old).reader.holds ≡ true }
         requires ends { HasEnds self.now seat.old }
         ensures same { IsSameSeat seat.old seat.new × (slot seat.new ≡ []) }
-        ensures given { view seat.new ≡ with_consumer false (view seat.old) }
+        ensures given { view seat.new ≡ with_consumer purpose false (view seat.old) }
         ensures steps { steps seat.new ≡ steps seat.old ⊳ did_give_consumer }
     {
         self.table
-            .store::<Brand, _>(&mut seat.seat, CONSUMER, 0, &());
-    }
-
-    /// The same after packets were given back.
-    pub(crate) fn give_after_return(&self, seat: &mut TapSeat)
-        requires seat { IsSeatOf self.now seat.old × ((view seat.old).reader.reads ≡ true) }
-        requires lock { (view seat.old).reader.holds ≡ true }
-        requires ends { HasEnds self.now seat.old }
-        ensures same { IsSameSeat seat.old seat.new × (slot seat.new ≡ []) }
-        ensures given { view seat.new ≡ done_giving (view seat.old) }
-        ensures steps { steps seat.new ≡ steps seat.old ⊳ did_give_consumer }
-    {
-        self.table
-            .store::<Brand, _>(&mut seat.seat, CONSUMER, 0, &());
+            .store::<Brand, _>(&mut seat.seat, CONSUMER, 0, &purpose);
     }
 
     /// Reads and writes the ends in the slot, which is out with the consumer lock.

@@ -8,7 +8,7 @@ ghost use Rattle.lq_tap.specs.Steps.{GivesBack, PutsBack};
 ghost use Rattle.lq_tap.specs.Sees.{view, steps, IsReaderOf, IsSeatOf, IsElseSame, HasEmptiedAll, HasHeadAt, PutsOneBack, DestroysRest};
 
 use crate::shared::{Tap, TapSeat};
-use crate::view::Consumer;
+use crate::view::{Consumer, Purpose};
 use lq_ring_core::place_before;
 use std::sync::Wait;
 
@@ -72,13 +72,13 @@ pub fn give_back<R: Wait>(rt: &R, tap: &Tap, seat: &mut TapSeat, batch: &[u32]) 
     ensures view { view seat.new ≡ having_given_back batch.now result (view seat.old) }
     ensures steps { GivesBack tap.now.len (view seat.old).reader.ends (drop result batch.now) result (steps seat.old) (steps seat.new) }
 {
-    tap.lock_to_return(rt, seat);
+    tap.lock_consumer(rt, seat, Purpose::Return);
     let index = tap.lock_producer(rt, seat);
     let ends = tap.exchange_ends(seat, Consumer { head: 0, tail: 0 });
     tap.zero_down(seat, ends.tail, ends.head);
     let (lost, head) = tap.put_all_back(seat, ends.head, batch);
     tap.exchange_ends(seat, Consumer { head, tail: head });
     tap.give_producer(seat, index);
-    tap.give_after_return(seat);
+    tap.give_consumer(seat, Purpose::Return);
     lost
 }

@@ -9,7 +9,7 @@ ghost use Rattle.lq_tap.specs.Steps.{GetsBatch, TakesAll, emptied_below, emptied
 ghost use Rattle.lq_tap.specs.Sees.{view, steps, IsReaderOf, IsSeatOf, IsElseSame, FindsNone, TakesOne};
 
 use crate::shared::{Tap, TapSeat};
-use crate::view::Consumer;
+use crate::view::{Consumer, Purpose};
 use lq_model::batch;
 use std::sync::Wait;
 
@@ -105,10 +105,10 @@ pub fn get_batch<R: Wait>(rt: &R, tap: &Tap, seat: &mut TapSeat, out: &mut [u32]
     ensures packets { All (λ n. n < tap.now.packets) (take result out.new) }
     ensures few { AreFew (view seat.new) }
 {
-    tap.lock_for_batch(rt, seat);
+    tap.lock_consumer(rt, seat, Purpose::Batch);
     let first = tap.exchange_ends(seat, Consumer { head: 0, tail: 0 });
     let (taken, ends) = tap.take_all(seat, first, out);
     tap.exchange_ends(seat, ends);
-    tap.give_after_batch(seat);
+    tap.give_consumer(seat, Purpose::Batch);
     taken
 }

@@ -28,6 +28,15 @@ pub struct Consumer {
     pub tail: u32,
 }
 
+/// What the reader takes the consumer lock for.
+#[derive(Clone, Copy)]
+pub enum Purpose {
+    /// To take a new batch.
+    Batch,
+    /// To give packets of the last batch back.
+    Return,
+}
+
 pub struct TapRule;
 
 impl TableRule<Consumer, Knowledge, About> for TapRule {

@@ -11,12 +11,12 @@ use Rattle.lq_tap.proofs.takes.get_batch.Goals as goal
 
 pub returns-clause-steps : goal.returns-clause-steps
 returns-clause-steps g c =
-    let len = c.args.tap.now.len in let e : Ends = (view c.args.seat.now).reader.ends in let first : Consumer = c.exchange_ends-first.result in let locked = c.lock_for_batch.ensures.locked in let taken = c.take_all-taken.ensures in
-    let in_slot : slot c.lock_for_batch.new.seat ≡ (0, consumer_of e) ∷ [] = locked.1.0 ∙ ap (λ (xs : List (ℕ × Consumer)). (0, consumer_of e) ∷ xs) c.requires.seat.4 in
-    let ends_are : rest_at first ≡ e = rest_of len e first locked.1.1 (slot_first (consumer_of e) first (sym in_slot ∙ c.exchange_ends-first.ensures.ends.0)) in (
-      steps c.lock_for_batch.new.seat,
+    let len = c.args.tap.now.len in let e : Ends = (view c.args.seat.now).reader.ends in let first : Consumer = c.exchange_ends-first.result in let locked = c.lock_consumer.ensures.locked in let taken = c.take_all-taken.ensures in
+    let in_slot : slot c.lock_consumer.new.seat ≡ (0, consumer_of e) ∷ [] = locked.1 ∙ ap (λ (xs : List (ℕ × Consumer)). (0, consumer_of e) ∷ xs) c.requires.seat.4 in
+    let ends_are : rest_at first ≡ e = rest_of len e first locked.2 (slot_first (consumer_of e) first (sym in_slot ∙ c.exchange_ends-first.ensures.ends.0)) in (
+      steps c.lock_consumer.new.seat,
       steps c.take_all-taken.new.seat,
-      c.lock_for_batch.ensures.steps,
+      c.lock_consumer.ensures.steps,
       subst (λ (z : Ends × List Made). TakesAll len z.0 (take c.take_all-taken.result.0 c.take_all-taken.new.out) (length c.args.out.now) z.1 (steps c.take_all-taken.new.seat)) (λ j. (ends_are j, c.exchange_ends-first.ensures.same.2 j)) taken.steps,
-      c.give_after_batch.ensures.steps ∙ ap (λ (xs : List Made). xs ⊳ did_give_consumer) c.exchange_ends.ensures.same.2,
+      c.give_consumer.ensures.steps ∙ ap (λ (xs : List Made). xs ⊳ did_give_consumer) c.exchange_ends.ensures.same.2,
     )

@@ -6,9 +6,9 @@ use Rattle.lq_tap.specs.Keyed.{keyed_setup}
 use Rattle.lq_tap.specs.Rule.{Rule, consumer_of}
 use Rattle.lq_band_laws.specs.Ring.{IsAtRest}
 use Rattle.lq_tap.specs.Tells.{consumer_given}
-use Rattle.lq_tap.proofs.ConsumerKept.{gives_after_batch}
+use Rattle.lq_tap.proofs.ConsumerKept.{gives_consumer}
 use Rattle.lq_tap.specs.declared.view.Consumer.{Consumer}
-use Rattle.lq_tap.proofs.shared.Tap.give_after_batch.Goals as goal
+use Rattle.lq_tap.proofs.shared.Tap.give_consumer.Goals as goal
 
 pub store-requires : goal.store-requires
 store-requires c =
@@ -17,5 +17,5 @@ store-requires c =
     let rest : IsAtRest v.about.len v.reader.ends = subst (λ (x : Setup). IsAtRest x.len v.reader.ends) (sym c.requires.seat.0.1) c.requires.ends.1 in (
       c.requires.seat.0.0,
       (let wide = t.sized.0 in omega arith),
-      subst (λ (xs : List (ℕ × Consumer)). Allows (Rule k) slots seat.id (v, xs) 16 (λ _. 0) (λ _. consumer_given (step slots 16 0 0 none) (v, xs) 0)) (sym c.requires.ends.0) (gives_after_batch k slots seat.id v y about c.requires.seat.1 c.requires.lock refl rest),
+      subst (λ (xs : List (ℕ × Consumer)). Allows (Rule k) slots seat.id (v, xs) 16 (λ _. 0) (λ _. consumer_given c.args.purpose (step slots 16 0 0 none) (v, xs) 0)) (sym c.requires.ends.0) (gives_consumer k slots seat.id v y c.args.purpose about c.requires.seat.1 c.requires.lock refl rest),
     )

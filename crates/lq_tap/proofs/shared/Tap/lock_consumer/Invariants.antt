@@ -1,7 +1,7 @@
 use Rattle.std.proofs.Common.{◌≡◌, ℕ}
 use Rattle.lq_tap.specs.Sees.{view, steps, slot, IsSeatOf, IsSameSeat}
 use Rattle.lq_tap.specs.Steps.{consumer_tries}
-use Rattle.lq_tap.proofs.shared.Tap.lock_for_batch.Given as goal
+use Rattle.lq_tap.proofs.shared.Tap.lock_consumer.Given as goal
 
 abbrev pub invariant-loop : goal.invariant-loop
 invariant-loop g l = record {

@@ -1,5 +1,0 @@
-use Rattle.lq_tap.specs.Tells.{consumer_given}
-use Rattle.lq_tap.proofs.shared.Tap.give_after_batch.Given as goal
-
-abbrev pub ghosts-store : goal.ghosts-store
-ghosts-store a = record { told = consumer_given }

@@ -1,5 +1,0 @@
-use Rattle.lq_tap.specs.Tells.{consumer_taken, beginning}
-use Rattle.lq_tap.proofs.shared.Tap.take_for_batch.Given as goal
-
-abbrev pub ghosts-compare_exchange : goal.ghosts-compare_exchange
-ghosts-compare_exchange a = record { told = consumer_taken beginning }
