@@ -1,12 +1,13 @@
 -- What the steps of giving back make of the view and of the list of steps.
-use Rattle.std.proofs.Common.{◌≡◌, ℕ, zero, suc, ◌+◌, ◌-◌, ◌<◌, ◌≤◌, List, [], ◌∷◌, ◌++◌, length, take, drop, refl, sym, ap, ◌∙◌, arith, get_or, length-drop, length-append}
+use Rattle.std.proofs.Common.{false, ◌≡◌, ℕ, zero, suc, ◌+◌, ◌-◌, ◌<◌, ◌≤◌, List, [], ◌∷◌, ◌++◌, length, take, drop, refl, sym, ap, ◌∙◌, arith, get_or, length-drop, length-append}
 use Rattle.std.proofs.lemmas.List.{append_assoc, take-append-drop, length-take-le}
 use Rattle.std.proofs.Math.Seq.{drop-append_seam}
-use Rattle.lq_band_laws.specs.Ring.{cleared_at}
+use Rattle.lq_ring_core.specs.Ring.{place_before}
+use Rattle.lq_band_laws.specs.Ring.{with_room, cleared_at}
 use Rattle.lq_tap.specs.Views.{View}
 use Rattle.lq_tap.specs.Made.{Made, ◌⊳◌, did_load_slot, did_store_slot}
 use Rattle.lq_tap.specs.Told.{place_back, without_last, having_given_back}
-use Rattle.lq_tap.specs.Tells.{destroying, having_put_back, without_batch}
+use Rattle.lq_tap.specs.Tells.{with_lock, destroying, putting_back, without_batch}
 use Rattle.lq_tap.specs.Steps.{put_back}
 use Rattle.lq_tap.proofs.BackKept.{without_last_is}
 
@@ -35,6 +36,19 @@ drop_first_one zero (x ∷ xs) h = refl
 drop_first_one (suc m) (x ∷ xs) h = drop_first_one m xs (omega arith)
 
 -- GIVING BACK
+
+-- the last packet of the batch was put back, and the look at its slot is over
+abbrev pub having_put_back : View → View
+having_put_back v = record v {
+  reader = record v.reader {
+    ends = cleared_at (place_before v.about.len v.reader.ends.head 1);
+    taken = without_last 1 v.reader.taken;
+    batch = without_last 1 v.reader.batch;
+  };
+}
+
+pub put_in_room : (v : View) → v.lock.room ≡ false → putting_back (with_lock (with_room v.lock) v) ≡ having_put_back v
+put_in_room v e = λ j. record (having_put_back v) { lock = record v.lock { room = sym e j } }
 
 -- the last so many were put back
 abbrev pub returning : ℕ → View → View

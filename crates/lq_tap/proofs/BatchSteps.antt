@@ -5,10 +5,20 @@ use Rattle.lq_band_laws.specs.Ring.{Ends, after_take, IsAtRest}
 use Rattle.lq_tap.specs.Views.{View}
 use Rattle.lq_tap.specs.Made.{Made}
 use Rattle.lq_tap.specs.Told.{after_takes}
-use Rattle.lq_tap.specs.Tells.{having_taken_one, rest_at}
+use Rattle.lq_tap.specs.Tells.{taking, with_ends, rest_at}
 use Rattle.lq_tap.specs.Rule.{consumer_of}
 use Rattle.lq_tap.specs.declared.view.Consumer.{Consumer}
 use Rattle.lq_tap.specs.Steps.{took, took_all}
+
+-- a packet was taken with all the emptying that this asks
+abbrev pub having_taken_one : ℕ → View → View
+having_taken_one n v = record v {
+  reader = record v.reader { ends = after_take v.about.len v.reader.ends; taken = v.reader.taken ++ n ∷ []; batch = v.reader.batch ++ n ∷ []; drained = false };
+}
+
+-- it is loaded first, and then the slots are emptied
+pub taken_and_emptied : (len n : ℕ) (ends : Ends) (v : View) → v.about.len ≡ len → v.reader.ends ≡ ends → with_ends (after_take len ends) (taking n v) ≡ having_taken_one n v
+taken_and_emptied len n ends v about is = λ j. with_ends (after_take (sym about j) (sym is j)) (taking n v)
 
 -- these were taken so far
 abbrev pub taken_so_far : Bool → List ℕ → View → View

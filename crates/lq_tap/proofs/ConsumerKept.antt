@@ -15,13 +15,13 @@ use Rattle.atomic_table.specs.Table.{Step, step, Allows, keeps, takes, gives, st
 use Rattle.lq_model.specs.Band.{batch}
 use Rattle.lq_band_laws.specs.Seats.{total, Each}
 use Rattle.lq_band_laws.specs.Times.{times}
-use Rattle.lq_band_laws.specs.Ring.{Ends, Lock, IsAtRest, is_emptying, taken_on, emptied_on, HoldsBand}
+use Rattle.lq_band_laws.specs.Ring.{Ends, Lock, IsAtRest, is_emptying, taken_on, all_empty, emptied_on, emptied_down, HoldsBand}
 use Rattle.lq_band_laws.proofs.Seats.{total_set, total_one, total_le, each_same}
 use Rattle.lq_band_laws.proofs.Times.{times_append, times_drop}
 use Rattle.lq_band_laws.proofs.HoldsKept.{finds_none_held, takes_held, empties_held}
 use Rattle.lq_tap.specs.Views.{View, Setup, ReaderPart}
 use Rattle.lq_tap.specs.Made.{Sat, slot_word}
-use Rattle.lq_tap.specs.Tells.{batch_kept, with_consumer, consumer_taken, consumer_given, taking, finding_none, head_slot_seen, emptying}
+use Rattle.lq_tap.specs.Tells.{batch_kept, consumer_taken, consumer_given, taking, finding_none, head_slot_seen, emptying}
 use Rattle.lq_tap.specs.Rule.{Words, words_of, one_if, reading, IsSeat, ArePuts, KnowsReads, locks_of, band_of, consumer_of, holding, Ordered, Lends, Parts, Rule}
 use Rattle.lq_tap.specs.declared.view.Consumer.{Consumer}
 use Rattle.lq_tap.specs.declared.view.Purpose.{Purpose}
@@ -61,6 +61,10 @@ both_true false b e = absurd (true≢false (sym e))
 
 pub resting_room : (size : ℕ) (c : Ends) → is_emptying size c ≡ false → c.head < c.tail + batch size
 resting_room size c e = grind (arith, nat_tests)
+
+-- the ends while some slots are still to be emptied
+pub still_below : (size : ℕ) (c : Ends) (n : ℕ) → n < c.head - c.tail → emptied_down size c n ≡ record { head = c.head; tail = c.tail; edge = c.head - n }
+still_below size c n inside = let more : (c.tail + n == c.head) ≡ false = grind (arith, nat_tests) in ap (λ b. if b then all_empty size c else record { head = c.head; tail = c.tail; edge = c.head - n }) more
 
 -- what a seat knows where it has the lock or not, and its batch goes on or is over
 rebatch : (k : Setup) (ended : ℕ) (line : List ℕ) (passed : ℕ) (ends : Ends) (q : ReaderPart) (holds : Bool) (batch : List ℕ) → ((batch ≡ q.batch) ⊎ (batch ≡ [])) → KnowsReads k ended line passed ends q → KnowsReads k ended line passed ends (record q { holds = holds; batch = batch })

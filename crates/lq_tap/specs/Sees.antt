@@ -1,12 +1,12 @@
 -- What a clause says of a tap and its seats.
-use Rattle.std.specs.Prelude.{◌≡◌, ◌≢◌, ℕ, ◌+◌, ◌-◌, ◌<◌, ◌≤◌, true, false, List, [], ◌∷◌}
-use Rattle.lq_band_laws.specs.Ring.{unlocked, locked_at, cleared_at, IsAtRest}
+use Rattle.std.specs.Prelude.{◌≡◌, ◌≢◌, ℕ, ◌-◌, ◌<◌, ◌≤◌, true, false, List, [], ◌∷◌}
+use Rattle.lq_ring_core.specs.Ring.{place_before}
+use Rattle.lq_band_laws.specs.Ring.{unlocked, locked_at, IsAtRest}
 use Rattle.lq_tap.specs.Views.{View, Setup}
-use Rattle.lq_tap.specs.Made.{Made, ◌⊳◌, did_load_slot, did_store_slot, did_load_ended}
+use Rattle.lq_tap.specs.Made.{Made, ◌⊳◌, did_load_ended}
 use Rattle.lq_tap.specs.Told.{having_found_full, having_seen_ended}
 use Rattle.lq_tap.specs.Rule.{consumer_of}
-use Rattle.lq_tap.specs.Tells.{with_lock, with_consumer, finding_none, having_taken_one, rest_at, destroying, having_put_back}
-use Rattle.lq_tap.specs.Steps.{took}
+use Rattle.lq_tap.specs.Tells.{with_lock, with_consumer}
 use Rattle.lq_tap.specs.declared.view.Consumer.{Consumer}
 use Rattle.lq_tap.specs.declared.view.Purpose.{Purpose}
 use Rattle.lq_tap.specs.declared.shared.Tap.{Tap}
@@ -61,10 +61,6 @@ IsSenderBefore t n c = IsSenderOf t c × ((view c).sender.going ≡ true) × ((v
 abbrev pub HasLockAtIndex : Tap → ℕ → TapSeat → Type 0
 HasLockAtIndex t index c = ((view c).lock.holds ≡ true) × ((view c).lock.stored ≡ false) × (index ≡ (view c).lock.index) × (index < t.len)
 
--- it has the producer lock, has stored nothing under it, and has found room
-abbrev pub HasLockWithRoom : TapSeat → Type 0
-HasLockWithRoom c = ((view c).lock.holds ≡ true) × ((view c).lock.stored ≡ false) × ((view c).lock.room ≡ true)
-
 -- it got the producer lock, with this index
 abbrev pub GetsProducerAt : Tap → ℕ → TapSeat → TapSeat → Type 0
 GetsProducerAt t index b a = (view a ≡ with_lock (locked_at index) (view b)) × (index < t.len)
@@ -86,25 +82,9 @@ HasEnds t c = (slot c ≡ (0, consumer_of (view c).reader.ends) ∷ []) × IsAtR
 
 -- TAKES
 
--- the slot at the head was loaded as 0, and nothing taken
-abbrev pub FindsNone : ℕ → TapSeat → TapSeat → Type 0
-FindsNone head b a = (view a ≡ finding_none (view b)) × (steps a ≡ steps b ⊳ did_load_slot head 0)
-
--- the packet n was taken from these ends on, with all the emptying that this asks
-abbrev pub TakesOne : Tap → Consumer → ℕ → TapSeat → TapSeat → Type 0
-TakesOne t ends n b a = (view a ≡ having_taken_one n (view b)) × (steps a ≡ took t.len (rest_at ends) n (steps b)) × (n < t.packets)
-
--- this is the place below the edge, whose slot is to be emptied next
-abbrev pub IsNextToEmpty : Tap → ℕ → TapSeat → Type 0
-IsNextToEmpty t place c = ((view c).reader.ends.tail < (view c).reader.ends.edge) × (place + 1 ≡ (view c).reader.ends.edge) × (place < t.len)
-
 -- the slots from this tail up to this head are to be emptied, and none of them is yet
 abbrev pub HasSlotsToEmpty : Tap → ℕ → ℕ → TapSeat → Type 0
 HasSlotsToEmpty t tail head c = ((view c).reader.ends ≡ record { head = head; tail = tail; edge = head }) × (tail ≤ head) × (tail < t.len) × (head ≤ t.len)
-
--- the slots of all packets that it took are empty
-abbrev pub HasEmptiedAll : TapSeat → Type 0
-HasEmptiedAll c = ((view c).reader.ends.tail ≡ (view c).reader.ends.head) × ((view c).reader.ends.edge ≡ (view c).reader.ends.head)
 
 -- so many senders were found to have ended
 abbrev pub SeesEnded : ℕ → TapSeat → TapSeat → Type 0
@@ -112,14 +92,10 @@ SeesEnded found b a = (view a ≡ having_seen_ended found (view b)) × (steps a 
 
 -- GIVING BACK
 
--- its head is at this place, and the slots of all packets that it took are empty
-abbrev pub HasHeadAt : Tap → ℕ → TapSeat → Type 0
-HasHeadAt t place c = (place < t.len) × ((view c).reader.ends ≡ cleared_at place)
-
--- the packet n, the last of the batch, was put back at this place, whose slot was loaded as 0
-abbrev pub PutsOneBack : ℕ → ℕ → TapSeat → TapSeat → Type 0
-PutsOneBack place n b a = (view a ≡ having_put_back (view b)) × (steps a ≡ steps b ⊳ did_load_slot place 0 ⊳ did_store_slot place (n + 1))
-
--- the slot at this place was loaded as another word, and so many packets that are left of the batch are destroyed
-abbrev pub DestroysRest : ℕ → ℕ → TapSeat → TapSeat → Type 0
-DestroysRest place left b a = (view a ≡ destroying left (view b)) × ((found : ℕ) × (found ≢ 0) × (steps a ≡ steps b ⊳ did_load_slot place found))
+-- It has both locks, has stored nothing under the producer lock, and the slots of all packets that it took are empty. This is the place
+-- before its head.
+pub record MayReturnAt (t : Tap) (place : ℕ) (c : TapSeat) : Type 0 where
+  pub seat : IsSeatOf t c × ((view c).reader.reads ≡ true) × ((view c).reader.holds ≡ true)
+  pub lock : ((view c).lock.holds ≡ true) × ((view c).lock.stored ≡ false)
+  pub clear : ((view c).reader.ends.tail ≡ (view c).reader.ends.head) × ((view c).reader.ends.edge ≡ (view c).reader.ends.head)
+  pub is : (place ≡ place_before t.len (view c).reader.ends.head 1) × (place < t.len)

@@ -1,7 +1,7 @@
 -- What each step on a word tells its caller.
 use Rattle.std.specs.Prelude.{◌≡◌, ◌≢◌, ℕ, ◌-◌, ◌/◌, ◌<◌, ◌≤◌, Bool, true, false, ◌==◌, ◌&&◌, List, [], ◌∷◌, ◌++◌, length, drop}
 use Rattle.atomic_table.specs.Table.{Step}
-use Rattle.lq_band_laws.specs.Ring.{Ends, Lock, locked_at, with_room, without_room, having_stored, cleared_at, taken_on, after_take, emptied_on, IsAtRest}
+use Rattle.lq_band_laws.specs.Ring.{Ends, Lock, locked_at, with_room, without_room, having_stored, cleared_at, taken_on, emptied_on, IsAtRest}
 use Rattle.lq_ring_core.specs.Ring.{place_before}
 use Rattle.lq_tap.specs.Views.{View, AreFew}
 use Rattle.lq_tap.specs.Made.{Sat}
@@ -78,10 +78,6 @@ emptying v = record v { reader = record v.reader { ends = emptied_on v.about.len
 abbrev pub rest_at : Consumer → Ends
 rest_at c = record { head = c.head; tail = c.tail; edge = c.head }
 
--- a packet was taken with all the emptying that this asks
-abbrev pub having_taken_one : ℕ → View → View
-having_taken_one n v = record v { reader = record v.reader { ends = after_take v.about.len v.reader.ends; taken = v.reader.taken ++ n ∷ []; batch = v.reader.batch ++ n ∷ []; drained = false } }
-
 -- GIVING BACK
 
 -- so many packets of the batch, its last ones, find no slot
@@ -101,20 +97,6 @@ slot_before_seen left _ m found m' = (found ≡ 0 → m' ≡ (with_lock (with_ro
 abbrev pub putting_back : View → View
 putting_back v = record v {
   lock = without_room v.lock;
-  reader = record v.reader {
-    ends = cleared_at (place_before v.about.len v.reader.ends.head 1);
-    taken = without_last 1 v.reader.taken;
-    batch = without_last 1 v.reader.batch;
-  };
-}
-
--- it has the producer lock, and has found nothing under it
-abbrev pub IsFresh : Lock → Type 0
-IsFresh l = (l.holds ≡ true) × (l.stored ≡ false) × (l.room ≡ false)
-
--- the last packet of the batch was put back, and the look at its slot is over
-abbrev pub having_put_back : View → View
-having_put_back v = record v {
   reader = record v.reader {
     ends = cleared_at (place_before v.about.len v.reader.ends.head 1);
     taken = without_last 1 v.reader.taken;

@@ -1,11 +1,10 @@
 //! Giving back: `ptr_ring_unconsume` of include/linux/ptr_ring.h, which `vhost_net_buf_unproduce` of drivers/vhost/net.c calls.
 ghost use Rattle.std.specs.Prelude.{◌≡◌, ◌+◌, ◌-◌, ◌<◌, ◌≤◌, ℕ, true, false, List, [], ◌∷◌, ◌++◌, length, drop};
-ghost use Rattle.lq_ring_core.specs.Ring.{place_before};
 ghost use Rattle.lq_band_laws.specs.Ring.{cleared_at};
 ghost use Rattle.lq_tap.specs.Told.{having_given_back, place_back};
-ghost use Rattle.lq_tap.specs.Tells.{without_batch, IsFresh};
+ghost use Rattle.lq_tap.specs.Tells.{without_batch};
 ghost use Rattle.lq_tap.specs.Steps.{GivesBack, PutsBack};
-ghost use Rattle.lq_tap.specs.Sees.{view, steps, IsReaderOf, IsSeatOf, IsElseSame, HasEmptiedAll, HasHeadAt, PutsOneBack, DestroysRest};
+ghost use Rattle.lq_tap.specs.Sees.{view, steps, IsReaderOf, IsSeatOf, IsElseSame};
 
 use crate::shared::{Tap, TapSeat};
 use crate::view::{Consumer, Purpose};
@@ -13,34 +12,17 @@ use lq_ring_core::place_before;
 use std::sync::Wait;
 
 impl Tap {
-    /// Puts a packet before the head, unless the slot there is not empty: then this packet and those before it are destroyed.
-    fn put_one_back(&self, seat: &mut TapSeat, place: u32, n: u32, left: usize) -> bool
-        requires seat { IsSeatOf self.now seat.old × ((view seat.old).reader.reads ≡ true) × ((view seat.old).reader.holds ≡ true) }
-        requires lock { IsFresh (view seat.old).lock }
-        requires clear { HasEmptiedAll seat.old }
-        requires place { (place ≡ place_before self.now.len (view seat.old).reader.ends.head 1) × (place < self.now.len) }
-        requires left { (0 < left) × (left ≤ length (view seat.old).reader.batch) }
-        requires last { (rest : List ℕ) × ((view seat.old).reader.batch ≡ rest ++ n ∷ []) }
-        ensures same { IsElseSame seat.old seat.new }
-        ensures put { result ≡ true → PutsOneBack place n seat.old seat.new }
-        ensures lost { result ≡ false → DestroysRest place left seat.old seat.new }
-    {
-        if self.slot_before(seat, place, left) != 0 {
-            return false;
-        }
-        self.store_before(seat, place, n);
-        true
-    }
-
-    /// Puts the packets back from the last one to the first, and answers how many are destroyed, and where the head is.
+    /// Puts the packets back from the last one to the first, each before the head, until the slot there is not empty: then the packet
+    /// and those before it are destroyed. It answers how many these are, and where the head is.
     fn put_all_back(&self, seat: &mut TapSeat, first: u32, batch: &[u32]) -> (usize, u32)
         requires seat { IsSeatOf self.now seat.old × ((view seat.old).reader.reads ≡ true) × ((view seat.old).reader.holds ≡ true) }
-        requires lock { IsFresh (view seat.old).lock }
+        requires lock { ((view seat.old).lock.holds ≡ true) × ((view seat.old).lock.stored ≡ false) × ((view seat.old).lock.room ≡ false) }
         requires clear { ((view seat.old).reader.ends ≡ cleared_at first) × (first < self.now.len) }
         requires batch { (read : List ℕ) × ((view seat.old).reader.batch ≡ read ++ batch.now) }
         ensures same { IsElseSame seat.old seat.new × ((view seat.new).lock ≡ (view seat.old).lock) }
         ensures count { result.0 ≤ length batch.now }
-        ensures head { (result.1 ≡ place_back self.now.len first (length batch.now - result.0)) × HasHeadAt self.now result.1 seat.new }
+        ensures head { result.1 ≡ place_back self.now.len first (length batch.now - result.0) }
+        ensures clear { ((view seat.new).reader.ends ≡ cleared_at result.1) × (result.1 < self.now.len) }
         ensures view { without_batch (view seat.new) ≡ having_given_back batch.now result.0 (view seat.old) }
         ensures steps { PutsBack self.now.len first (drop result.0 batch.now) result.0 (steps seat.old) (steps seat.new) }
     {
@@ -48,9 +30,10 @@ impl Tap {
         let mut left = batch.len();
         while left > 0 {
             let place = place_before(head, self.len);
-            if !self.put_one_back(seat, place, batch[left - 1], left) {
+            if self.slot_before(seat, place, left) != 0 {
                 return (left, head);
             }
+            self.store_before(seat, place, batch[left - 1]);
             head = place;
             left -= 1;
         }

@@ -1,13 +1,12 @@
 //! The steps on the slots of the ring.
 ghost use Rattle.std.specs.Prelude.{◌≡◌, ◌≢◌, ℕ, ◌+◌, ◌-◌, ◌<◌, ◌≤◌, true, false, List, [], ◌∷◌, ◌++◌, length};
 ghost use Rattle.lq_band_laws.specs.Ring.{with_room, having_stored, all_empty, IsAtRest};
-ghost use Rattle.lq_ring_core.specs.Ring.{place_before};
 ghost use Rattle.lq_tap.specs.Made.{◌⊳◌, did_load_slot, did_store_slot};
 ghost use Rattle.lq_tap.specs.Told.{having_put};
 ghost use Rattle.lq_tap.specs.Views.{AreFew};
-ghost use Rattle.lq_tap.specs.Tells.{with_lock, with_ends, finding_none, taking, emptying, destroying, putting_back};
+ghost use Rattle.lq_tap.specs.Tells.{with_lock, with_ends, finding_none, taking, destroying, putting_back};
 ghost use Rattle.lq_tap.specs.Steps.{emptied_below};
-ghost use Rattle.lq_tap.specs.Sees.{view, steps, IsSeatOf, IsElseSame, HasLockAtIndex, HasLockWithRoom, FindsNextFull, IsNextToEmpty, HasSlotsToEmpty, HasEmptiedAll};
+ghost use Rattle.lq_tap.specs.Sees.{view, steps, IsSeatOf, IsElseSame, HasLockAtIndex, FindsNextFull, HasSlotsToEmpty, MayReturnAt};
 
 use crate::shared::{Tap, TapSeat};
 use std::marker::Brand;
@@ -60,18 +59,6 @@ impl Tap {
             .load::<Brand, _>(&mut seat.seat, SLOTS + head as usize, &())
     }
 
-    /// Empties the slot below the edge.
-    fn zero_slot(&self, seat: &mut TapSeat, place: u32)
-        requires seat { IsSeatOf self.now seat.old × ((view seat.old).reader.reads ≡ true) × ((view seat.old).reader.holds ≡ true) }
-        requires edge { IsNextToEmpty self.now place seat.old }
-        ensures same { IsElseSame seat.old seat.new }
-        ensures emptied { view seat.new ≡ emptying (view seat.old) }
-        ensures steps { steps seat.new ≡ steps seat.old ⊳ did_store_slot place 0 }
-    {
-        self.table
-            .store::<Brand, _>(&mut seat.seat, SLOTS + place as usize, 0, &());
-    }
-
     /// Empties the slots below the head, down to the tail: the loop of `__ptr_ring_discard_one` after a batch was taken, and that of
     /// `ptr_ring_unconsume`.
     pub(crate) fn zero_down(&self, seat: &mut TapSeat, tail: u32, head: u32)
@@ -82,17 +69,15 @@ impl Tap {
         ensures steps { steps seat.new ≡ emptied_below head (head - tail) (steps seat.old) }
     {
         for n in 0..head - tail {
-            self.zero_slot(seat, head - 1 - n);
+            self.table
+                .store::<Brand, _>(&mut seat.seat, SLOTS + (head - 1 - n) as usize, 0, &());
         }
     }
 
     /// What stands in the slot before the head, once no slot of a packet that was taken has anything. Where it is not 0 the packets
     /// that are left to be put back are destroyed.
     pub(crate) fn slot_before(&self, seat: &mut TapSeat, place: u32, left: usize) -> u64
-        requires seat { IsSeatOf self.now seat.old × ((view seat.old).reader.reads ≡ true) × ((view seat.old).reader.holds ≡ true) }
-        requires lock { ((view seat.old).lock.holds ≡ true) × ((view seat.old).lock.stored ≡ false) }
-        requires clear { HasEmptiedAll seat.old }
-        requires place { (place ≡ place_before self.now.len (view seat.old).reader.ends.head 1) × (place < self.now.len) }
+        requires seat { MayReturnAt self.now place seat.old }
         requires left { (0 < left) × (left ≤ length (view seat.old).reader.batch) }
         ensures same { IsElseSame seat.old seat.new }
         ensures room { result ≡ 0 → view seat.new ≡ with_lock (with_room (view seat.old).lock) (view seat.old) }
@@ -105,10 +90,8 @@ impl Tap {
 
     /// Puts the last packet of the batch there, where it was loaded as 0 under both locks.
     pub(crate) fn store_before(&self, seat: &mut TapSeat, place: u32, n: u32)
-        requires seat { IsSeatOf self.now seat.old × ((view seat.old).reader.reads ≡ true) × ((view seat.old).reader.holds ≡ true) }
-        requires lock { HasLockWithRoom seat.old }
-        requires clear { HasEmptiedAll seat.old }
-        requires place { (place ≡ place_before self.now.len (view seat.old).reader.ends.head 1) × (place < self.now.len) }
+        requires seat { MayReturnAt self.now place seat.old }
+        requires room { (view seat.old).lock.room ≡ true }
         requires last { (rest : List ℕ) × ((view seat.old).reader.batch ≡ rest ++ n ∷ []) }
         ensures same { IsElseSame seat.old seat.new }
         ensures put { view seat.new ≡ putting_back (view seat.old) }

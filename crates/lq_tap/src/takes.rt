@@ -1,12 +1,12 @@
 //! Batches: `ptr_ring_consume_batched` of include/linux/ptr_ring.h, which `vhost_net_buf_produce` of drivers/vhost/net.c calls.
-ghost use Rattle.std.specs.Prelude.{◌≡◌, ◌+◌, ◌<◌, ◌≤◌, true, [], length, take, drop, All, IfSome, IfNone};
+ghost use Rattle.std.specs.Prelude.{◌≡◌, ◌+◌, ◌<◌, ◌≤◌, true, [], length, take, drop, All};
 ghost use Rattle.lq_band_laws.specs.Ring.{taken_on, after_take, IsAtRest};
 ghost use Rattle.lq_tap.specs.Told.{having_taken};
 ghost use Rattle.lq_tap.specs.Views.{AreFew};
 ghost use Rattle.lq_tap.specs.Tells.{with_ends, rest_at};
 ghost use Rattle.lq_tap.specs.Rule.{consumer_of};
 ghost use Rattle.lq_tap.specs.Steps.{GetsBatch, TakesAll, emptied_below, emptied_after};
-ghost use Rattle.lq_tap.specs.Sees.{view, steps, IsReaderOf, IsSeatOf, IsElseSame, FindsNone, TakesOne};
+ghost use Rattle.lq_tap.specs.Sees.{view, steps, IsReaderOf, IsSeatOf, IsElseSame};
 
 use crate::shared::{Tap, TapSeat};
 use crate::view::{Consumer, Purpose};
@@ -41,25 +41,6 @@ impl Tap {
         }
     }
 
-    /// Takes the packet at the head, or finds none.
-    fn take_one(&self, seat: &mut TapSeat, ends: Consumer) -> Option<(u32, Consumer)>
-        requires seat { IsSeatOf self.now seat.old × ((view seat.old).reader.reads ≡ true) × ((view seat.old).reader.holds ≡ true) }
-        requires ends { ((view seat.old).reader.ends ≡ rest_at ends) × IsAtRest self.now.len (rest_at ends) }
-        ensures same { IsElseSame seat.old seat.new }
-        ensures none { IfNone result (FindsNone ends.head seat.old seat.new) }
-        ensures taken { IfSome result (λ r. TakesOne self.now ends r.0 seat.old seat.new) }
-        ensures few { AreFew (view seat.new) }
-        ensures ends { IfSome result (λ r. (rest_at r.1 ≡ after_take self.now.len (rest_at ends))
-            × IsAtRest self.now.len (rest_at r.1)) }
-    {
-        let found = self.head_slot(seat, ends.head);
-        if found == 0 {
-            return None;
-        }
-        let next = self.discard_one(seat, ends);
-        Some(((found - 1) as u32, next))
-    }
-
     /// Takes packets to the front of `out`, until it is full or none is there. It answers how many, and the new ends.
     fn take_all(&self, seat: &mut TapSeat, first: Consumer, out: &mut [u32]) -> (usize, Consumer)
         requires seat { IsSeatOf self.now seat.old × ((view seat.old).reader.reads ≡ true) × ((view seat.old).reader.holds ≡ true) }
@@ -78,11 +59,12 @@ impl Tap {
         let mut ends = first;
         let mut taken = 0;
         while taken < out.len() {
-            let Some((n, next)) = self.take_one(seat, ends) else {
+            let found = self.head_slot(seat, ends.head);
+            if found == 0 {
                 return (taken, ends);
-            };
-            out[taken] = n;
-            ends = next;
+            }
+            ends = self.discard_one(seat, ends);
+            out[taken] = (found - 1) as u32;
             taken += 1;
         }
         (taken, ends)

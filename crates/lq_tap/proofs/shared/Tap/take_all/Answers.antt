@@ -1,13 +1,14 @@
-use Rattle.std.proofs.Common.{◌≡◌, ℕ, ◌+◌, ◌<◌, false, List, [], ◌∷◌, ◌++◌, length, take, set, All, refl, sym, ap, ◌∙◌, subst, arith, length-set}
+use Rattle.std.proofs.Common.{◌≡◌, ℕ, ◌+◌, ◌-◌, ◌<◌, false, List, [], ◌∷◌, ◌++◌, length, take, set, All, refl, sym, ap, ◌∙◌, subst, arith, length-set}
 use Rattle.std.proofs.lemmas.List.{take_more_set, drop-set-lt}
 use Rattle.std.proofs.lemmas.List.Elements.{All-nil, All-push}
-use Rattle.lq_band_laws.specs.Ring.{after_take}
-use Rattle.lq_tap.specs.Views.{View, Setup}
+use Rattle.lq_band_laws.specs.Ring.{after_take, IsAtRest}
+use Rattle.lq_tap.specs.Views.{View, Setup, AreFew}
 use Rattle.lq_tap.specs.Told.{after_takes}
-use Rattle.lq_tap.specs.Tells.{rest_at, having_taken_one}
-use Rattle.lq_tap.specs.Steps.{took, took_all}
+use Rattle.lq_tap.specs.Tells.{rest_at, taking, with_ends}
+use Rattle.lq_tap.specs.Made.{◌⊳◌, did_load_slot}
+use Rattle.lq_tap.specs.Steps.{took, took_all, emptied_below, emptied_after}
 use Rattle.lq_tap.specs.Sees.{view, steps}
-use Rattle.lq_tap.proofs.BatchSteps.{taken_so_far, none_taken_yet, one_more_taken, took_one_more, drop_further}
+use Rattle.lq_tap.proofs.BatchSteps.{having_taken_one, taken_and_emptied, taken_so_far, none_taken_yet, one_more_taken, took_one_more, drop_further, rest_of}
 use Rattle.lq_tap.proofs.shared.Tap.take_all.Goals as goal
 
 pub loop-taken-init : goal.loop-taken-init
@@ -28,21 +29,25 @@ loop-taken-init c =
 pub loop-taken-preserved : goal.loop-taken-preserved
 loop-taken-preserved c =
     let inv = c.loop-taken.invariant in let v : View = view c.args.seat.now in let w : View = view c.loop-taken.seat in let len = c.args.self.now.len in
-    let t = c.loop-taken.taken in let out = c.loop-taken.out in let n = c.in-Some.n in let batch : List ℕ = take t out in let same = c.take_one.ensures.same in let took_it = c.in-Some.ensures.taken in let more_ends = c.in-Some.ensures.ends in
+    let t = c.loop-taken.taken in let out = c.loop-taken.out in let ends = c.loop-taken.ends in let batch : List ℕ = take t out in let seen = c.head_slot-found.ensures in let emptied = c.discard_one-ends.ensures in
+    let found = c.head_slot-found.result in let some_ = c.if-found-eq0.false in let n : ℕ = found - 1 in let taken = seen.taken some_ in
     let inside : t < length out = c.loop-taken-test.true in let fits = inv.long in
-    let more : take (t + 1) (set out t n) ≡ batch ++ n ∷ [] = take_more_set out t n inside in
-    let now : view c.take_one.new.seat ≡ taken_so_far false (take (t + 1) (set out t n)) v = took_it.0 ∙ (ap (having_taken_one n) inv.view_is.1 ∙ (one_more_taken inv.view_is.0 batch n v ∙ ap (λ (xs : List ℕ). taken_so_far false xs v) (sym more))) in
-    let len_is : v.about.len ≡ len = ap (λ (x : Setup). x.len) c.requires.seat.0.1 in
     let old_len : w.about.len ≡ len = ap (λ (x : Setup). x.len) inv.seat.0.1 in
-    let ends_are : rest_at c.loop-taken.ends ≡ after_takes len (length batch) (rest_at c.args.first) = sym inv.ends.0 ∙ (ap (λ (x : View). x.reader.ends) inv.view_is.1 ∙ (λ j. after_takes (len_is j) (length batch) (c.requires.ends.0 j))) in record {
-      seat = ((same.0.0 ∙ inv.seat.0.0, ap (λ (x : View). x.about) now ∙ c.requires.seat.0.1), ap (λ (x : View). x.reader.reads) now ∙ c.requires.seat.1, ap (λ (x : View). x.reader.holds) now ∙ c.requires.seat.2);
-      same = ((same.0.0 ∙ inv.same.0.0, same.0.1 ∙ inv.same.0.1), same.1 ∙ inv.same.1);
+    let more : take (t + 1) (set out t n) ≡ batch ++ n ∷ [] = take_more_set out t n inside in
+    let here : view c.discard_one-ends.new.seat ≡ with_ends (after_take len (rest_at ends)) (taking n w) = emptied.view ∙ ap (with_ends (after_take len (rest_at ends))) taken.0 in
+    let took_it : view c.discard_one-ends.new.seat ≡ having_taken_one n w = here ∙ taken_and_emptied len n (rest_at ends) w old_len inv.ends.0 in
+    let now : view c.discard_one-ends.new.seat ≡ taken_so_far false (take (t + 1) (set out t n)) v = took_it ∙ (ap (having_taken_one n) inv.view_is.1 ∙ (one_more_taken inv.view_is.0 batch n v ∙ ap (λ (xs : List ℕ). taken_so_far false xs v) (sym more))) in
+    let word : found ≡ n + 1 = omega arith in let next : rest_at c.discard_one-ends.result ≡ after_take len (rest_at ends) = rest_of len (after_take len (rest_at ends)) c.discard_one-ends.result emptied.ends.1 (sym emptied.ends.0) in
+    let len_is : v.about.len ≡ len = ap (λ (x : Setup). x.len) c.requires.seat.0.1 in
+    let ends_are : rest_at ends ≡ after_takes len (length batch) (rest_at c.args.first) = sym inv.ends.0 ∙ (ap (λ (x : View). x.reader.ends) inv.view_is.1 ∙ (λ j. after_takes (len_is j) (length batch) (c.requires.ends.0 j))) in record {
+      seat = ((emptied.same.0.0 ∙ (seen.same.0.0 ∙ inv.seat.0.0), ap (λ (x : View). x.about) now ∙ c.requires.seat.0.1), ap (λ (x : View). x.reader.reads) now ∙ c.requires.seat.1, ap (λ (x : View). x.reader.holds) now ∙ c.requires.seat.2);
+      same = ((emptied.same.0.0 ∙ (seen.same.0.0 ∙ inv.same.0.0), emptied.same.0.1 ∙ (seen.same.0.1 ∙ inv.same.0.1)), emptied.same.1 ∙ (seen.same.1 ∙ inv.same.1));
       room = omega arith;
       long = length-set out t n ∙ inv.long;
       others = drop-set-lt (t + 1) out t n (omega arith) ∙ drop_further t out c.args.out.now inv.others;
       view_is = (false, now, λ _. refl);
-      made = took_it.1 ∙ ((λ j. took len (ends_are j) n (inv.made j)) ∙ (sym (took_one_more len (rest_at c.args.first) batch n (steps c.args.seat.now)) ∙ ap (λ (xs : List ℕ). took_all len (rest_at c.args.first) xs (steps c.args.seat.now)) (sym more)));
-      packets = subst (All (λ n. n < c.args.self.now.packets)) (sym more) (All-push (λ n. n < c.args.self.now.packets) batch n inv.packets took_it.2);
-      few = λ _. c.take_one.ensures.few;
-      ends = (ap (λ (x : View). x.reader.ends) took_it.0 ∙ ((λ j. after_take (old_len j) (inv.ends.0 j)) ∙ sym more_ends.0), more_ends.1);
+      made = emptied.steps ∙ ((λ j. emptied_below (ends.head + 1) (emptied_after len (rest_at ends)) ((seen.steps ∙ (λ i. steps c.loop-taken.seat ⊳ did_load_slot ends.head (word i))) j)) ∙ (λ j. took len (ends_are j) n (inv.made j)) ∙ (sym (took_one_more len (rest_at c.args.first) batch n (steps c.args.seat.now)) ∙ ap (λ (xs : List ℕ). took_all len (rest_at c.args.first) xs (steps c.args.seat.now)) (sym more)));
+      packets = subst (All (λ n. n < c.args.self.now.packets)) (sym more) (All-push (λ n. n < c.args.self.now.packets) batch n inv.packets (let b = taken.1 in omega arith));
+      few = λ _. subst AreFew (sym emptied.view) seen.few;
+      ends = (ap (λ (x : View). x.reader.ends) here ∙ sym next, subst (IsAtRest len) (sym next) emptied.ends.1);
     }
