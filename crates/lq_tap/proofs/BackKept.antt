@@ -12,9 +12,10 @@ use Rattle.lq_band_laws.specs.Ring.{Ends, Lock, with_room, cleared_at, given_bac
 use Rattle.lq_band_laws.proofs.Times.{times_append}
 use Rattle.lq_band_laws.proofs.HoldsKept.{finds_room_before, finds_full_before, puts_back}
 use Rattle.lq_tap.specs.Views.{View, Setup}
-use Rattle.lq_tap.specs.Made.{Sat, slot_word}
-use Rattle.lq_tap.specs.Told.{without_last}
-use Rattle.lq_tap.specs.Tells.{with_lock, destroying, slot_before_seen, putting_back}
+use Rattle.lq_tap.specs.Made.{slot_word}
+use Rattle.lq_tap.proofs.Tells.{Sat}
+use Rattle.lq_tap.specs.Told.{without_last, with_lock, destroying, putting_back}
+use Rattle.lq_tap.proofs.Tells.{slot_before_seen}
 use Rattle.lq_tap.specs.Rule.{words_of, locks_of, band_of, Ordered, Rule}
 use Rattle.lq_tap.specs.declared.view.Consumer.{Consumer}
 use Rattle.lq_tap.proofs.ByName.{set_slot, slot_of}

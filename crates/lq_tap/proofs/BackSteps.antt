@@ -6,8 +6,7 @@ use Rattle.lq_ring_core.specs.Ring.{place_before}
 use Rattle.lq_band_laws.specs.Ring.{with_room, cleared_at}
 use Rattle.lq_tap.specs.Views.{View}
 use Rattle.lq_tap.specs.Made.{Made, ◌⊳◌, did_load_slot, did_store_slot}
-use Rattle.lq_tap.specs.Told.{place_back, without_last, having_given_back}
-use Rattle.lq_tap.specs.Tells.{with_lock, destroying, putting_back, without_batch}
+use Rattle.lq_tap.specs.Told.{place_back, without_last, having_given_back, with_lock, destroying, putting_back, without_batch}
 use Rattle.lq_tap.specs.Steps.{put_back}
 use Rattle.lq_tap.proofs.BackKept.{without_last_is}
 

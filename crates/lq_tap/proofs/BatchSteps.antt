@@ -4,8 +4,7 @@ use Rattle.std.proofs.lemmas.List.{append-nil, append_assoc}
 use Rattle.lq_band_laws.specs.Ring.{Ends, after_take, IsAtRest}
 use Rattle.lq_tap.specs.Views.{View}
 use Rattle.lq_tap.specs.Made.{Made}
-use Rattle.lq_tap.specs.Told.{after_takes}
-use Rattle.lq_tap.specs.Tells.{taking, with_ends, rest_at}
+use Rattle.lq_tap.specs.Told.{after_takes, taking, with_ends, rest_at}
 use Rattle.lq_tap.specs.Rule.{consumer_of}
 use Rattle.lq_tap.specs.declared.view.Consumer.{Consumer}
 use Rattle.lq_tap.specs.Steps.{took, took_all}

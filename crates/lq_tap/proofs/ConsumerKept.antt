@@ -20,8 +20,10 @@ use Rattle.lq_band_laws.proofs.Seats.{total_set, total_one, total_le, each_same}
 use Rattle.lq_band_laws.proofs.Times.{times_append, times_drop}
 use Rattle.lq_band_laws.proofs.HoldsKept.{finds_none_held, takes_held, empties_held}
 use Rattle.lq_tap.specs.Views.{View, Setup, ReaderPart}
-use Rattle.lq_tap.specs.Made.{Sat, slot_word}
-use Rattle.lq_tap.specs.Tells.{batch_kept, consumer_taken, consumer_given, taking, finding_none, head_slot_seen, emptying}
+use Rattle.lq_tap.specs.Made.{slot_word}
+use Rattle.lq_tap.proofs.Tells.{Sat}
+use Rattle.lq_tap.specs.Told.{batch_kept, taking, finding_none}
+use Rattle.lq_tap.proofs.Tells.{consumer_taken, consumer_given, head_slot_seen, emptying}
 use Rattle.lq_tap.specs.Rule.{Words, words_of, one_if, reading, IsSeat, ArePuts, KnowsReads, locks_of, band_of, consumer_of, holding, Ordered, Lends, Parts, Rule}
 use Rattle.lq_tap.specs.declared.view.Consumer.{Consumer}
 use Rattle.lq_tap.specs.declared.view.Purpose.{Purpose}

@@ -1,5 +1,6 @@
 -- The lemmas on the rule of a tap.
 pub mod ByName
+pub mod Tells
 pub mod Orders
 pub mod Frames
 pub mod PutsKept

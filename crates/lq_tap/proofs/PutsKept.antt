@@ -21,10 +21,11 @@ use Rattle.lq_band_laws.proofs.Seats.{total_set, total_same, total_one, total_tw
 use Rattle.lq_band_laws.proofs.Times.{times_append, times_same, times_other}
 use Rattle.lq_band_laws.proofs.HoldsKept.{locks_held, gives_held, finds_room_held, finds_full_held, stores_held}
 use Rattle.lq_tap.specs.Views.{View, Setup, ReaderPart}
-use Rattle.lq_tap.specs.Made.{Sat, slot_word}
-use Rattle.lq_tap.specs.Told.{having_put, having_found_full, having_ended, having_seen_ended}
+use Rattle.lq_tap.specs.Made.{slot_word}
+use Rattle.lq_tap.proofs.Tells.{Sat}
+use Rattle.lq_tap.specs.Told.{having_put, having_found_full, having_ended, having_seen_ended, with_lock}
 use Rattle.lq_tap.specs.Settled.{ComesBefore}
-use Rattle.lq_tap.specs.Tells.{with_lock, producer_seen, producer_taken, producer_slot_seen, producer_slot_stored}
+use Rattle.lq_tap.proofs.Tells.{producer_seen, producer_taken, producer_slot_seen, producer_slot_stored}
 use Rattle.lq_tap.specs.Rule.{words_of, TapState, reading, sending, open_in, IsSeat, Seats, came, KnowsPuts, ArePuts, KnowsReads, locks_of, band_of, Ordered, Rule}
 use Rattle.lq_tap.specs.declared.view.Consumer.{Consumer}
 use Rattle.lq_tap.proofs.ByName.{set_producer, set_ended, set_slot, slot_of}

@@ -17,9 +17,9 @@ use Rattle.lq_band_laws.proofs.Seats.{total_set, total_same, total_one, total_sn
 use Rattle.lq_band_laws.proofs.Times.{times_append, times_same}
 use Rattle.lq_tap.specs.Views.{View, Setup, ReaderPart, no_reader, sender_view, spent_view}
 use Rattle.lq_tap.specs.Told.{omitting, having_split, having_joined}
-use Rattle.lq_tap.specs.Made.{Sat}
+use Rattle.lq_tap.proofs.Tells.{Sat}
 use Rattle.lq_tap.specs.Settled.{IsSettled, ComesBefore}
-use Rattle.lq_tap.specs.Tells.{learned}
+use Rattle.lq_tap.proofs.Tells.{learned}
 use Rattle.lq_tap.specs.Rule.{words_of, TapState, one_if, reading, sending, open_in, IsSeat, came, KnowsPuts, KnowsReads, locks_of, band_of, holding, Rule}
 use Rattle.lq_tap.specs.declared.view.Consumer.{Consumer}
 use Rattle.lq_tap.proofs.ByName.{set_back}

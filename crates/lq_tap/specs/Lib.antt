@@ -1,6 +1,6 @@
 -- what a seat knows
 pub mod Views
--- what each call makes of a seat's view
+-- what each call, and each step in it, makes of a seat's view
 pub mod Told
 -- the steps that a seat made
 pub mod Made
@@ -14,5 +14,3 @@ pub mod Sees
 pub mod Rule
 -- the rule's setup, from the key
 pub mod Keyed
--- what each step on a word tells
-pub mod Tells

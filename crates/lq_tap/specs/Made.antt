@@ -1,14 +1,7 @@
 -- The steps of a seat on the tap's words, by name.
 use Rattle.std.specs.Prelude.{ℕ, ◌+◌, ◌*◌, Bool}
-use Rattle.atomic_table.specs.Table.{Me}
 use Rattle.lq_log.specs.Made.{load, store, exchange, rise}
-use Rattle.lq_tap.specs.Views.{View}
-use Rattle.lq_tap.specs.declared.view.Consumer.{Consumer}
 pub use Rattle.lq_log.specs.Made.{Made, ◌⊳◌}
-
--- a seat without its steps: what it knows, and the slot that it has
-abbrev pub Sat : Type 0
-Sat = Me Consumer View
 
 -- THE WORDS, which stand so far apart that no two of these share a cache line of 64 bytes with each other or with a slot
 

@@ -4,9 +4,8 @@ use Rattle.lq_ring_core.specs.Ring.{place_before}
 use Rattle.lq_band_laws.specs.Ring.{unlocked, locked_at, IsAtRest}
 use Rattle.lq_tap.specs.Views.{View, Setup}
 use Rattle.lq_tap.specs.Made.{Made, ◌⊳◌, did_load_ended}
-use Rattle.lq_tap.specs.Told.{having_found_full, having_seen_ended}
+use Rattle.lq_tap.specs.Told.{having_found_full, having_seen_ended, with_lock, with_consumer}
 use Rattle.lq_tap.specs.Rule.{consumer_of}
-use Rattle.lq_tap.specs.Tells.{with_lock, with_consumer}
 use Rattle.lq_tap.specs.declared.view.Consumer.{Consumer}
 use Rattle.lq_tap.specs.declared.view.Purpose.{Purpose}
 use Rattle.lq_tap.specs.declared.shared.Tap.{Tap}

@@ -1,8 +1,12 @@
--- What each call makes of a seat's view.
-use Rattle.std.specs.Prelude.{ℕ, zero, suc, ◌+◌, ◌-◌, false, ◌==◌, ◌&&◌, ◌||◌, eqb, if◌then◌else◌, List, [], ◌∷◌, ◌++◌, length, take}
+-- What each call, and each step in it, makes of a seat's view.
+use Rattle.std.specs.Prelude.{ℕ, zero, suc, ◌+◌, ◌-◌, Bool, true, false, ◌==◌, ◌&&◌, ◌||◌, eqb, if◌then◌else◌}
+use Rattle.std.specs.Prelude.{List, [], ◌∷◌, ◌++◌, length, take, drop}
 use Rattle.lq_ring_core.specs.Ring.{place_before}
-use Rattle.lq_band_laws.specs.Ring.{Ends, after_take, cleared_at}
+use Rattle.lq_band_laws.specs.Ring.{Ends, Lock, without_room, after_take, cleared_at, taken_on}
 use Rattle.lq_tap.specs.Views.{View}
+use Rattle.lq_tap.specs.declared.view.Consumer.{Consumer}
+use Rattle.lq_tap.specs.declared.view.Purpose.{Purpose}
+use Rattle.lq_tap.specs.declared.view.Purpose.TheVariants.{Batch, Return}
 
 -- SENDERS
 
@@ -12,7 +16,9 @@ having_put n v = record v { sender = record v.sender { next = v.sender.next + v.
 
 -- it is found full, with this one in its slot
 abbrev pub having_found_full : ℕ → ℕ → View → View
-having_found_full n seen v = record v { sender = record v.sender { next = v.sender.next + v.about.senders; fulls = v.sender.fulls ++ (n, seen) ∷ [] } }
+having_found_full n seen v = record v {
+  sender = record v.sender { next = v.sender.next + v.about.senders; fulls = v.sender.fulls ++ (n, seen) ∷ [] };
+}
 
 abbrev pub having_ended : View → View
 having_ended v = record v { sender = record v.sender { going = false } }
@@ -77,3 +83,66 @@ having_given_back given lost v = record v {
 -- so many senders were found to have ended
 abbrev pub having_seen_ended : ℕ → View → View
 having_seen_ended found v = record v { reader = record v.reader { ended = v.reader.ended || (found == v.about.senders) } }
+
+-- STEP BY STEP
+
+-- this is what it knows of the producer lock
+abbrev pub with_lock : Lock → View → View
+with_lock l v = record v { lock = l }
+
+-- The batch once the lock is taken, or given back, for this. A new batch begins with no packet, and none is left of one that was
+-- given back.
+abbrev pub batch_kept : Purpose → Bool → List ℕ → List ℕ
+batch_kept Batch true batch = []
+batch_kept Batch false batch = batch
+batch_kept Return true batch = batch
+batch_kept Return false batch = []
+
+abbrev pub with_consumer : Purpose → Bool → View → View
+with_consumer p holds v = record v { reader = record v.reader { holds = holds; batch = batch_kept p holds v.reader.batch } }
+
+-- the packet at the head is taken
+abbrev pub taking : ℕ → View → View
+taking n v = record v {
+  reader = record v.reader {
+    ends = taken_on v.reader.ends;
+    taken = v.reader.taken ++ n ∷ [];
+    batch = v.reader.batch ++ n ∷ [];
+    drained = false;
+  };
+}
+
+-- none is there
+abbrev pub finding_none : View → View
+finding_none v = record v { reader = record v.reader { drained = v.reader.ended && (length v.reader.batch == 0) } }
+
+abbrev pub with_ends : Ends → View → View
+with_ends ends v = record v { reader = record v.reader { ends = ends } }
+
+-- the ends between two calls, as the reader reads them
+abbrev pub rest_at : Consumer → Ends
+rest_at c = record { head = c.head; tail = c.tail; edge = c.head }
+
+-- so many packets of the batch, its last ones, find no slot
+abbrev pub destroying : ℕ → View → View
+destroying left v = record v {
+  reader = record v.reader {
+    taken = without_last left v.reader.taken;
+    batch = [];
+    destroyed = v.reader.destroyed ++ drop (length v.reader.batch - left) v.reader.batch;
+  };
+}
+
+-- the last packet of the batch is put before the head
+abbrev pub putting_back : View → View
+putting_back v = record v {
+  lock = without_room v.lock;
+  reader = record v.reader {
+    ends = cleared_at (place_before v.about.len v.reader.ends.head 1);
+    taken = without_last 1 v.reader.taken;
+    batch = without_last 1 v.reader.batch;
+  };
+}
+
+abbrev pub without_batch : View → View
+without_batch v = record v { reader = record v.reader { batch = [] } }

@@ -2,7 +2,7 @@
 ghost use Rattle.std.specs.Prelude.{◌≡◌, ◌/◌, ◌%◌, true, false, [], ◌∷◌};
 ghost use Rattle.lq_band_laws.specs.Ring.{unlocked, index_given};
 ghost use Rattle.lq_tap.specs.Made.{◌⊳◌, did_load_producer, did_take_producer, did_give_producer, did_take_consumer, did_give_consumer};
-ghost use Rattle.lq_tap.specs.Tells.{with_lock, with_consumer};
+ghost use Rattle.lq_tap.specs.Told.{with_lock, with_consumer};
 ghost use Rattle.lq_tap.specs.Steps.{LocksProducer, LocksConsumer};
 ghost use Rattle.lq_tap.specs.Sees.{view, steps, slot, IsSeatOf, IsSameSeat, IsElseSame, GetsProducerAt, GetsConsumer, HasEnds};
 

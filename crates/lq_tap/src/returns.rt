@@ -1,8 +1,7 @@
 //! Giving back: `ptr_ring_unconsume` of include/linux/ptr_ring.h, which `vhost_net_buf_unproduce` of drivers/vhost/net.c calls.
 ghost use Rattle.std.specs.Prelude.{◌≡◌, ◌+◌, ◌-◌, ◌<◌, ◌≤◌, ℕ, true, false, List, [], ◌∷◌, ◌++◌, length, drop};
 ghost use Rattle.lq_band_laws.specs.Ring.{cleared_at};
-ghost use Rattle.lq_tap.specs.Told.{having_given_back, place_back};
-ghost use Rattle.lq_tap.specs.Tells.{without_batch};
+ghost use Rattle.lq_tap.specs.Told.{having_given_back, place_back, without_batch};
 ghost use Rattle.lq_tap.specs.Steps.{GivesBack, PutsBack};
 ghost use Rattle.lq_tap.specs.Sees.{view, steps, IsReaderOf, IsSeatOf, IsElseSame};
 

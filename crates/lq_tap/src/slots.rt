@@ -2,9 +2,8 @@
 ghost use Rattle.std.specs.Prelude.{◌≡◌, ◌≢◌, ℕ, ◌+◌, ◌-◌, ◌<◌, ◌≤◌, true, false, List, [], ◌∷◌, ◌++◌, length};
 ghost use Rattle.lq_band_laws.specs.Ring.{with_room, having_stored, all_empty, IsAtRest};
 ghost use Rattle.lq_tap.specs.Made.{◌⊳◌, did_load_slot, did_store_slot};
-ghost use Rattle.lq_tap.specs.Told.{having_put};
+ghost use Rattle.lq_tap.specs.Told.{having_put, with_lock, with_ends, finding_none, taking, destroying, putting_back};
 ghost use Rattle.lq_tap.specs.Views.{AreFew};
-ghost use Rattle.lq_tap.specs.Tells.{with_lock, with_ends, finding_none, taking, destroying, putting_back};
 ghost use Rattle.lq_tap.specs.Steps.{emptied_below};
 ghost use Rattle.lq_tap.specs.Sees.{view, steps, IsSeatOf, IsElseSame, HasLockAtIndex, FindsNextFull, HasSlotsToEmpty, MayReturnAt};
 

@@ -1,9 +1,8 @@
 //! Batches: `ptr_ring_consume_batched` of include/linux/ptr_ring.h, which `vhost_net_buf_produce` of drivers/vhost/net.c calls.
 ghost use Rattle.std.specs.Prelude.{◌≡◌, ◌+◌, ◌<◌, ◌≤◌, true, [], length, take, drop, All};
 ghost use Rattle.lq_band_laws.specs.Ring.{taken_on, after_take, IsAtRest};
-ghost use Rattle.lq_tap.specs.Told.{having_taken};
+ghost use Rattle.lq_tap.specs.Told.{having_taken, with_ends, rest_at};
 ghost use Rattle.lq_tap.specs.Views.{AreFew};
-ghost use Rattle.lq_tap.specs.Tells.{with_ends, rest_at};
 ghost use Rattle.lq_tap.specs.Rule.{consumer_of};
 ghost use Rattle.lq_tap.specs.Steps.{GetsBatch, TakesAll, emptied_below, emptied_after};
 ghost use Rattle.lq_tap.specs.Sees.{view, steps, IsReaderOf, IsSeatOf, IsElseSame};

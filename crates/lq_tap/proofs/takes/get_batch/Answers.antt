@@ -1,7 +1,7 @@
 use Rattle.std.proofs.Common.{◌≡◌, ℕ, List, [], ◌∷◌, length, take, sym, ap, ◌∙◌, subst}
 use Rattle.lq_band_laws.specs.Ring.{Ends}
 use Rattle.lq_tap.specs.Made.{Made, ◌⊳◌, did_give_consumer}
-use Rattle.lq_tap.specs.Tells.{rest_at}
+use Rattle.lq_tap.specs.Told.{rest_at}
 use Rattle.lq_tap.specs.Steps.{TakesAll}
 use Rattle.lq_tap.specs.Rule.{consumer_of}
 use Rattle.lq_tap.specs.Sees.{view, steps, slot}

@@ -5,7 +5,7 @@ use Rattle.lq_tap.specs.Views.{View, Setup}
 use Rattle.lq_tap.specs.Keyed.{keyed_setup}
 use Rattle.lq_tap.specs.Rule.{Rule, consumer_of}
 use Rattle.lq_band_laws.specs.Ring.{IsAtRest}
-use Rattle.lq_tap.specs.Tells.{consumer_given}
+use Rattle.lq_tap.proofs.Tells.{consumer_given}
 use Rattle.lq_tap.proofs.ConsumerKept.{gives_consumer}
 use Rattle.lq_tap.specs.declared.view.Consumer.{Consumer}
 use Rattle.lq_tap.proofs.shared.Tap.give_consumer.Goals as goal

@@ -1,4 +1,4 @@
-use Rattle.lq_tap.specs.Tells.{consumer_given}
+use Rattle.lq_tap.proofs.Tells.{consumer_given}
 use Rattle.lq_tap.proofs.shared.Tap.give_consumer.Given as goal
 
 abbrev pub ghosts-store : goal.ghosts-store

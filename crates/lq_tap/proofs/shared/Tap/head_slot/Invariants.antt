@@ -1,4 +1,4 @@
-use Rattle.lq_tap.specs.Tells.{head_slot_seen}
+use Rattle.lq_tap.proofs.Tells.{head_slot_seen}
 use Rattle.lq_tap.proofs.shared.Tap.head_slot.Given as goal
 
 abbrev pub ghosts-load : goal.ghosts-load

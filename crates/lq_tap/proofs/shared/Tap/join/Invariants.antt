@@ -1,4 +1,4 @@
-use Rattle.lq_tap.specs.Tells.{learned}
+use Rattle.lq_tap.proofs.Tells.{learned}
 use Rattle.lq_tap.proofs.shared.Tap.join.Given as goal
 
 abbrev pub ghosts-load : goal.ghosts-load

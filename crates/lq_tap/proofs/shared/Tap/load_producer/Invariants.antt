@@ -1,4 +1,4 @@
-use Rattle.lq_tap.specs.Tells.{producer_seen}
+use Rattle.lq_tap.proofs.Tells.{producer_seen}
 use Rattle.lq_tap.proofs.shared.Tap.load_producer.Given as goal
 
 abbrev pub ghosts-load : goal.ghosts-load

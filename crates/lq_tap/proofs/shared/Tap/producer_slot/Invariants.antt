@@ -1,4 +1,4 @@
-use Rattle.lq_tap.specs.Tells.{producer_slot_seen}
+use Rattle.lq_tap.proofs.Tells.{producer_slot_seen}
 use Rattle.lq_tap.proofs.shared.Tap.producer_slot.Given as goal
 
 abbrev pub ghosts-load : goal.ghosts-load

@@ -5,8 +5,7 @@ use Rattle.lq_ring_core.proofs.Places.{place_before-within}
 use Rattle.lq_band_laws.specs.Ring.{with_room}
 use Rattle.lq_tap.specs.Views.{View}
 use Rattle.lq_tap.specs.Made.{◌⊳◌, did_load_slot, did_store_slot}
-use Rattle.lq_tap.specs.Told.{place_back}
-use Rattle.lq_tap.specs.Tells.{with_lock, destroying, putting_back, without_batch}
+use Rattle.lq_tap.specs.Told.{place_back, with_lock, destroying, putting_back, without_batch}
 use Rattle.lq_tap.specs.Steps.{put_back}
 use Rattle.lq_tap.specs.Sees.{view, steps}
 use Rattle.lq_tap.proofs.BackSteps.{having_put_back, put_in_room, returning, one_returned, left_of, take_last, some_lost, put_one_more}

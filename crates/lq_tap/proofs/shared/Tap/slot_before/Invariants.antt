@@ -1,4 +1,4 @@
-use Rattle.lq_tap.specs.Tells.{slot_before_seen}
+use Rattle.lq_tap.proofs.Tells.{slot_before_seen}
 use Rattle.lq_tap.proofs.shared.Tap.slot_before.Given as goal
 
 abbrev pub ghosts-load : goal.ghosts-load

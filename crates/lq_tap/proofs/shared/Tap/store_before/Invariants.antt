@@ -1,4 +1,4 @@
-use Rattle.lq_tap.specs.Tells.{putting_back}
+use Rattle.lq_tap.specs.Told.{putting_back}
 use Rattle.lq_log.specs.Made.{becomes}
 use Rattle.lq_tap.proofs.shared.Tap.store_before.Given as goal
 

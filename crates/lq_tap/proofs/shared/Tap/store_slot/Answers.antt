@@ -7,8 +7,8 @@ use Rattle.lq_tap.specs.Rule.{Rule}
 use Rattle.lq_log.specs.Made.{seen}
 use Rattle.lq_tap.specs.Made.{slot_word}
 use Rattle.lq_band_laws.specs.Ring.{having_stored}
-use Rattle.lq_tap.specs.Told.{having_put}
-use Rattle.lq_tap.specs.Tells.{producer_slot_stored, with_lock}
+use Rattle.lq_tap.specs.Told.{having_put, with_lock}
+use Rattle.lq_tap.proofs.Tells.{producer_slot_stored}
 use Rattle.lq_tap.proofs.PutsKept.{stores_slot}
 use Rattle.lq_tap.proofs.shared.Tap.store_slot.Goals as goal
 

@@ -1,4 +1,4 @@
-use Rattle.lq_tap.specs.Tells.{producer_slot_stored}
+use Rattle.lq_tap.proofs.Tells.{producer_slot_stored}
 use Rattle.lq_tap.proofs.shared.Tap.store_slot.Given as goal
 
 abbrev pub ghosts-store : goal.ghosts-store

@@ -3,8 +3,7 @@ use Rattle.std.proofs.lemmas.List.{take_more_set, drop-set-lt}
 use Rattle.std.proofs.lemmas.List.Elements.{All-nil, All-push}
 use Rattle.lq_band_laws.specs.Ring.{after_take, IsAtRest}
 use Rattle.lq_tap.specs.Views.{View, Setup, AreFew}
-use Rattle.lq_tap.specs.Told.{after_takes}
-use Rattle.lq_tap.specs.Tells.{rest_at, taking, with_ends}
+use Rattle.lq_tap.specs.Told.{after_takes, rest_at, taking, with_ends}
 use Rattle.lq_tap.specs.Made.{◌⊳◌, did_load_slot}
 use Rattle.lq_tap.specs.Steps.{took, took_all, emptied_below, emptied_after}
 use Rattle.lq_tap.specs.Sees.{view, steps}

@@ -1,7 +1,7 @@
 use Rattle.std.proofs.Common.{length, ◌-◌, ◌≡◌, ◌<◌, ◌≤◌, Bool, true, false, take, drop, All}
 use Rattle.lq_band_laws.specs.Ring.{IsAtRest}
 use Rattle.lq_tap.specs.Views.{AreFew}
-use Rattle.lq_tap.specs.Tells.{rest_at}
+use Rattle.lq_tap.specs.Told.{rest_at}
 use Rattle.lq_tap.specs.Steps.{took_all}
 use Rattle.lq_tap.specs.Sees.{view, steps, IsSeatOf, IsElseSame}
 use Rattle.lq_tap.proofs.BatchSteps.{taken_so_far}

@@ -1,7 +1,8 @@
 use Rattle.std.proofs.Common.{◌≡◌}
 use Rattle.lq_log.specs.Made.{becomes}
 use Rattle.lq_band_laws.specs.Ring.{emptied_down}
-use Rattle.lq_tap.specs.Tells.{with_ends, emptying}
+use Rattle.lq_tap.specs.Told.{with_ends}
+use Rattle.lq_tap.proofs.Tells.{emptying}
 use Rattle.lq_tap.specs.Steps.{emptied_below}
 use Rattle.lq_tap.specs.Sees.{view, steps, IsSeatOf, IsElseSame}
 use Rattle.lq_tap.proofs.shared.Tap.zero_down.Given as goal
