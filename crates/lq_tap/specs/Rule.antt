@@ -1,5 +1,6 @@
 -- The rule of a tap's table, in parts.
-use Rattle.std.specs.Prelude.{◌≡◌, ◌≢◌, ℕ, ◌+◌, ◌%◌, ◌<◌, ◌≤◌, Bool, true, false, if◌then◌else◌, List, [], ◌∷◌, ◌++◌, map, length, take, drop, slice_index, Contains}
+use Rattle.std.specs.Prelude.{◌≡◌, ◌≢◌, ℕ, ◌+◌, ◌%◌, ◌<◌, ◌≤◌, Bool, true, false, if◌then◌else◌}
+use Rattle.std.specs.Prelude.{List, [], ◌∷◌, ◌++◌, map, length, take, drop, slice_index, Contains}
 use mathlib.Core.Option.{some, none}
 use mathlib.Core.Option as maybe
 use Rattle.atomic_table.specs.Table as table
@@ -21,7 +22,12 @@ pub record Words : Type 0 where
   pub slots : List ℕ
 
 abbrev pub words_of : List ℕ → Words
-words_of ws = record { producer = slice_index ws producer_word; consumer = slice_index ws consumer_word; ended = slice_index ws ended_word; slots = drop (slot_word 0) ws }
+words_of ws = record {
+  producer = slice_index ws producer_word;
+  consumer = slice_index ws consumer_word;
+  ended = slice_index ws ended_word;
+  slots = drop (slot_word 0) ws;
+}
 
 -- WHAT IS SO BETWEEN TWO STEPS, beside the words: all packets that were put, in order, those that were found full, how many of the
 -- line the reader has passed, and how far the consumer is.
@@ -53,11 +59,8 @@ abbrev pub sending : View → ℕ
 sending v = one_if v.sender.sends
 
 -- the senders of the seat that have not ended
-abbrev pub open_of : ℕ → SenderPart → List ℕ → List ℕ
-open_of senders s seatless = if s.going then (s.next % senders) ∷ seatless else seatless
-
 abbrev pub open_in : ℕ → View → List ℕ
-open_in senders v = open_of senders v.sender v.reader.seatless
+open_in senders v = if v.sender.going then (v.sender.next % senders) ∷ v.reader.seatless else v.reader.seatless
 
 pub record IsSeat (k : Setup) (about : Setup) (s : SenderPart) (r : ReaderPart) : Type 0 where
   pub reader_about : r.reads ≡ true → about ≡ k

@@ -1,10 +1,10 @@
 -- What a clause says of a tap and its seats.
-use Rattle.std.specs.Prelude.{◌≡◌, ◌≢◌, ℕ, ◌-◌, ◌<◌, ◌≤◌, true, false, List, [], ◌∷◌}
+use Rattle.std.specs.Prelude.{◌≡◌, ℕ, ◌<◌, true, false, List, [], ◌∷◌}
 use Rattle.lq_ring_core.specs.Ring.{place_before}
 use Rattle.lq_band_laws.specs.Ring.{unlocked, locked_at, IsAtRest}
 use Rattle.lq_tap.specs.Views.{View, Setup}
 use Rattle.lq_tap.specs.Made.{Made, ◌⊳◌, did_load_ended}
-use Rattle.lq_tap.specs.Told.{having_found_full, having_seen_ended, with_lock, with_consumer}
+use Rattle.lq_tap.specs.Told.{having_seen_ended, with_lock, with_consumer}
 use Rattle.lq_tap.specs.Rule.{consumer_of}
 use Rattle.lq_tap.specs.declared.view.Consumer.{Consumer}
 use Rattle.lq_tap.specs.declared.view.Purpose.{Purpose}
@@ -40,7 +40,8 @@ IsSeatOf t c = (c.seat.table_id ≡ t.table.kit.shared.table_id) × ((view c).ab
 
 -- it is the reader's, and between two calls
 abbrev pub IsReaderOf : Tap → TapSeat → Type 0
-IsReaderOf t c = IsSeatOf t c × ((view c).reader.reads ≡ true) × ((view c).reader.holds ≡ false) × ((view c).lock ≡ unlocked) × (slot c ≡ [])
+IsReaderOf t c =
+    IsSeatOf t c × ((view c).reader.reads ≡ true) × ((view c).reader.holds ≡ false) × ((view c).lock ≡ unlocked) × (slot c ≡ [])
 
 -- it is a sender's, and between two calls
 abbrev pub IsSenderOf : Tap → TapSeat → Type 0
@@ -64,26 +65,13 @@ HasLockAtIndex t index c = ((view c).lock.holds ≡ true) × ((view c).lock.stor
 abbrev pub GetsProducerAt : Tap → ℕ → TapSeat → TapSeat → Type 0
 GetsProducerAt t index b a = (view a ≡ with_lock (locked_at index) (view b)) × (index < t.len)
 
--- its next packet is full: the slot at the index had this word, of another packet
-abbrev pub FindsNextFull : Tap → ℕ → TapSeat → TapSeat → Type 0
-FindsNextFull t word b a = (view a ≡ having_found_full (view b).sender.next (word - 1) (view b)) × (word - 1 ≢ (view b).sender.next) × (word ≤ t.packets)
-
 -- THE CONSUMER LOCK
 
 -- it got the consumer lock for this, and the slot with the consumer's ends, which rest
 abbrev pub GetsConsumer : Tap → Purpose → TapSeat → TapSeat → Type 0
 GetsConsumer t p b a =
-    (view a ≡ with_consumer p true (view b)) × (slot a ≡ (0, consumer_of (view b).reader.ends) ∷ slot b) × IsAtRest t.len (view b).reader.ends
-
--- it has the slot with the consumer's ends, and they rest
-abbrev pub HasEnds : Tap → TapSeat → Type 0
-HasEnds t c = (slot c ≡ (0, consumer_of (view c).reader.ends) ∷ []) × IsAtRest t.len (view c).reader.ends
-
--- TAKES
-
--- the slots from this tail up to this head are to be emptied, and none of them is yet
-abbrev pub HasSlotsToEmpty : Tap → ℕ → ℕ → TapSeat → Type 0
-HasSlotsToEmpty t tail head c = ((view c).reader.ends ≡ record { head = head; tail = tail; edge = head }) × (tail ≤ head) × (tail < t.len) × (head ≤ t.len)
+    (view a ≡ with_consumer p true (view b)) × (slot a ≡ (0, consumer_of (view b).reader.ends) ∷ slot b)
+    × IsAtRest t.len (view b).reader.ends
 
 -- so many senders were found to have ended
 abbrev pub SeesEnded : ℕ → TapSeat → TapSeat → Type 0

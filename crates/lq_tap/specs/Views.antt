@@ -48,18 +48,26 @@ pub record View : Type 0 where
 abbrev pub AreFew : View → Type 0
 AreFew v = length v.reader.taken + length v.reader.destroyed ≤ v.about.packets
 
-abbrev pub no_setup : Setup
-no_setup = record { packets = 0; len = 0; senders = 0 }
-
 abbrev pub no_sender : SenderPart
 no_sender = record { sends = false; going = false; next = 0; puts = []; fulls = [] }
 
 abbrev pub no_reader : ReaderPart
-no_reader = record { reads = false; seatless = []; out = 0; holds = false; ends = at_start; taken = []; batch = []; destroyed = []; ended = false; drained = false }
+no_reader = record {
+  reads = false;
+  seatless = [];
+  out = 0;
+  holds = false;
+  ends = at_start;
+  taken = [];
+  batch = [];
+  destroyed = [];
+  ended = false;
+  drained = false;
+}
 
 -- a seat that was joined into another one
 abbrev pub spent_view : View
-spent_view = record { about = no_setup; sender = no_sender; reader = no_reader; lock = unlocked }
+spent_view = record { about = record { packets = 0; len = 0; senders = 0 }; sender = no_sender; reader = no_reader; lock = unlocked }
 
 -- so many numbers, from one on
 abbrev pub counting : ℕ → ℕ → List ℕ

@@ -1,10 +1,11 @@
 //! The two locks of a `ptr_ring`: `producer_lock`, whose word has the producer index too, and `consumer_lock`.
 ghost use Rattle.std.specs.Prelude.{◌≡◌, ◌/◌, ◌%◌, true, false, [], ◌∷◌};
-ghost use Rattle.lq_band_laws.specs.Ring.{unlocked, index_given};
+ghost use Rattle.lq_band_laws.specs.Ring.{unlocked, index_given, IsAtRest};
 ghost use Rattle.lq_tap.specs.Made.{◌⊳◌, did_load_producer, did_take_producer, did_give_producer, did_take_consumer, did_give_consumer};
 ghost use Rattle.lq_tap.specs.Told.{with_lock, with_consumer};
+ghost use Rattle.lq_tap.specs.Rule.{consumer_of};
 ghost use Rattle.lq_tap.specs.Steps.{LocksProducer, LocksConsumer};
-ghost use Rattle.lq_tap.specs.Sees.{view, steps, slot, IsSeatOf, IsSameSeat, IsElseSame, GetsProducerAt, GetsConsumer, HasEnds};
+ghost use Rattle.lq_tap.specs.Sees.{view, steps, slot, IsSeatOf, IsSameSeat, IsElseSame, GetsProducerAt, GetsConsumer};
 
 use crate::shared::{Tap, TapSeat};
 use crate::view::{Consumer, Purpose};
@@ -110,7 +111,8 @@ impl Tap {
     pub(crate) fn give_consumer(&self, seat: &mut TapSeat, purpose: Purpose)
         requires seat { IsSeatOf self.now seat.old × ((view seat.old).reader.reads ≡ true) }
         requires lock { (view seat.old).reader.holds ≡ true }
-        requires ends { HasEnds self.now seat.old }
+        requires ends { slot seat.old ≡ (0, consumer_of (view seat.old).reader.ends) ∷ [] }
+        requires rest { IsAtRest self.now.len (view seat.old).reader.ends }
         ensures same { IsSameSeat seat.old seat.new × (slot seat.new ≡ []) }
         ensures given { view seat.new ≡ with_consumer purpose false (view seat.old) }
         ensures steps { steps seat.new ≡ steps seat.old ⊳ did_give_consumer }

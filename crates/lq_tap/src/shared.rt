@@ -15,7 +15,8 @@ pub struct Tap {
     pub(crate) senders: u32,
     pub ghost sized: { (table.kit.shared.table_id.words ≡ 32 + len) × (table.kit.shared.table_id.slots ≡ 1) },
     pub ghost limits: { (packets ≤ 1000000) × (0 < len) × (len ≤ 4096) × (0 < senders) × (senders ≤ 8) },
-    pub ghost same: { (table.kit.shared.key.packets ≡ packets) × (table.kit.shared.key.len ≡ len) × (table.kit.shared.key.senders ≡ senders) },
+    pub ghost same: { (table.kit.shared.key.packets ≡ packets) × (table.kit.shared.key.len ≡ len)
+        × (table.kit.shared.key.senders ≡ senders) },
 }
 
 /// A seat of the reader or of one sender: what it knows of the tap, and which steps it made.

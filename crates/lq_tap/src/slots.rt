@@ -2,10 +2,10 @@
 ghost use Rattle.std.specs.Prelude.{◌≡◌, ◌≢◌, ℕ, ◌+◌, ◌-◌, ◌<◌, ◌≤◌, true, false, List, [], ◌∷◌, ◌++◌, length};
 ghost use Rattle.lq_band_laws.specs.Ring.{with_room, having_stored, all_empty, IsAtRest};
 ghost use Rattle.lq_tap.specs.Made.{◌⊳◌, did_load_slot, did_store_slot};
-ghost use Rattle.lq_tap.specs.Told.{having_put, with_lock, with_ends, finding_none, taking, destroying, putting_back};
+ghost use Rattle.lq_tap.specs.Told.{having_put, having_found_full, with_lock, with_ends, finding_none, taking, destroying, putting_back};
 ghost use Rattle.lq_tap.specs.Views.{AreFew};
 ghost use Rattle.lq_tap.specs.Steps.{emptied_below};
-ghost use Rattle.lq_tap.specs.Sees.{view, steps, IsSeatOf, IsElseSame, HasLockAtIndex, FindsNextFull, HasSlotsToEmpty, MayReturnAt};
+ghost use Rattle.lq_tap.specs.Sees.{view, steps, IsSeatOf, IsElseSame, HasLockAtIndex, MayReturnAt};
 
 use crate::shared::{Tap, TapSeat};
 use std::marker::Brand;
@@ -22,7 +22,8 @@ impl Tap {
         requires lock { HasLockAtIndex self.now index seat.old }
         ensures same { IsElseSame seat.old seat.new }
         ensures room { result ≡ 0 → view seat.new ≡ with_lock (with_room (view seat.old).lock) (view seat.old) }
-        ensures full { result ≢ 0 → FindsNextFull self.now result seat.old seat.new }
+        ensures full { result ≢ 0 → (view seat.new ≡ having_found_full (view seat.old).sender.next (result - 1) (view seat.old))
+            × (result - 1 ≢ (view seat.old).sender.next) × (result ≤ self.now.packets) }
         ensures steps { steps seat.new ≡ steps seat.old ⊳ did_load_slot index result }
     {
         self.table
@@ -62,7 +63,8 @@ impl Tap {
     /// `ptr_ring_unconsume`.
     pub(crate) fn zero_down(&self, seat: &mut TapSeat, tail: u32, head: u32)
         requires seat { IsSeatOf self.now seat.old × ((view seat.old).reader.reads ≡ true) × ((view seat.old).reader.holds ≡ true) }
-        requires ends { HasSlotsToEmpty self.now tail head seat.old }
+        requires ends { (view seat.old).reader.ends ≡ record { head = head; tail = tail; edge = head } }
+        requires within { (tail ≤ head) × (tail < self.now.len) × (head ≤ self.now.len) }
         ensures same { IsElseSame seat.old seat.new }
         ensures emptied { view seat.new ≡ with_ends (all_empty self.now.len (view seat.old).reader.ends) (view seat.old) }
         ensures steps { steps seat.new ≡ emptied_below head (head - tail) (steps seat.old) }
