@@ -1,10 +1,10 @@
 -- What a clause says of a tap and its seats.
 use Rattle.std.specs.Prelude.{◌≡◌, ℕ, ◌<◌, true, false, List, [], ◌∷◌}
 use Rattle.lq_ring_core.specs.Ring.{place_before}
-use Rattle.lq_band_laws.specs.Ring.{unlocked, locked_at, IsAtRest}
+use Rattle.lq_band_laws.specs.Ring.{unlocked, IsAtRest}
 use Rattle.lq_tap.specs.Views.{View, Setup}
 use Rattle.lq_tap.specs.Made.{Made, ◌⊳◌, did_load_ended}
-use Rattle.lq_tap.specs.Told.{having_seen_ended, with_lock, with_consumer}
+use Rattle.lq_tap.specs.Told.{having_seen_ended, with_consumer}
 use Rattle.lq_tap.specs.Rule.{consumer_of}
 use Rattle.lq_tap.specs.declared.view.Consumer.{Consumer}
 use Rattle.lq_tap.specs.declared.view.Purpose.{Purpose}
@@ -34,6 +34,12 @@ IsSameSeat b a = (a.seat.table_id ≡ b.seat.table_id) × (a.seat.id ≡ b.seat.
 abbrev pub IsElseSame : TapSeat → TapSeat → Type 0
 IsElseSame b a = IsSameSeat b a × (slot a ≡ slot b)
 
+-- what it knows and its steps become this, and nothing else changes
+pub record Makes (knows : View → View) (made : List Made → List Made) (b a : TapSeat) : Type 0 where
+  pub same : IsElseSame b a
+  pub view_is : view a ≡ knows (view b)
+  pub steps_are : steps a ≡ made (steps b)
+
 -- the seat is one of this tap
 abbrev pub IsSeatOf : Tap → TapSeat → Type 0
 IsSeatOf t c = (c.seat.table_id ≡ t.table.kit.shared.table_id) × ((view c).about ≡ setup t)
@@ -55,15 +61,15 @@ IsMadeFor packets len senders t = (t.packets ≡ packets) × (t.len ≡ len) × 
 abbrev pub IsSenderBefore : Tap → ℕ → TapSeat → Type 0
 IsSenderBefore t n c = IsSenderOf t c × ((view c).sender.going ≡ true) × ((view c).sender.next ≡ n)
 
+-- so many senders were found to have ended
+abbrev pub SeesEnded : ℕ → TapSeat → TapSeat → Type 0
+SeesEnded found b a = (view a ≡ having_seen_ended found (view b)) × (steps a ≡ steps b ⊳ did_load_ended found)
+
 -- THE PRODUCER LOCK
 
 -- it has the producer lock and has stored nothing under it, and this is the index, a place of the ring
 abbrev pub HasLockAtIndex : Tap → ℕ → TapSeat → Type 0
 HasLockAtIndex t index c = ((view c).lock.holds ≡ true) × ((view c).lock.stored ≡ false) × (index ≡ (view c).lock.index) × (index < t.len)
-
--- it got the producer lock, with this index
-abbrev pub GetsProducerAt : Tap → ℕ → TapSeat → TapSeat → Type 0
-GetsProducerAt t index b a = (view a ≡ with_lock (locked_at index) (view b)) × (index < t.len)
 
 -- THE CONSUMER LOCK
 
@@ -72,10 +78,6 @@ abbrev pub GetsConsumer : Tap → Purpose → TapSeat → TapSeat → Type 0
 GetsConsumer t p b a =
     (view a ≡ with_consumer p true (view b)) × (slot a ≡ (0, consumer_of (view b).reader.ends) ∷ slot b)
     × IsAtRest t.len (view b).reader.ends
-
--- so many senders were found to have ended
-abbrev pub SeesEnded : ℕ → TapSeat → TapSeat → Type 0
-SeesEnded found b a = (view a ≡ having_seen_ended found (view b)) × (steps a ≡ steps b ⊳ did_load_ended found)
 
 -- GIVING BACK
 

@@ -42,7 +42,8 @@ Puts len n old new =
 -- else with this one
 abbrev pub FindsFull : ℕ → List Made → List Made → Type 0
 FindsFull seen old new =
-    (index : ℕ) × (locked : List Made) × LocksProducer index old locked × (new ≡ locked ⊳ did_load_slot index (seen + 1) ⊳ did_give_producer index)
+    (index : ℕ) × (locked : List Made) × LocksProducer index old locked
+    × (new ≡ locked ⊳ did_load_slot index (seen + 1) ⊳ did_give_producer index)
 
 -- TAKES
 
@@ -73,7 +74,8 @@ TakesAll len ends batch asked old new =
 -- under the consumer lock
 abbrev pub GetsBatch : ℕ → Ends → List ℕ → ℕ → List Made → List Made → Type 0
 GetsBatch len ends batch asked old new =
-    (locked : List Made) × (last : List Made) × LocksConsumer old locked × TakesAll len ends batch asked locked last × (new ≡ last ⊳ did_give_consumer)
+    (locked : List Made) × (last : List Made) × LocksConsumer old locked
+    × TakesAll len ends batch asked locked last × (new ≡ last ⊳ did_give_consumer)
 
 -- GIVING BACK
 

@@ -2,7 +2,7 @@
 use Rattle.std.specs.Prelude.{ℕ, zero, suc, ◌+◌, ◌-◌, Bool, true, false, ◌==◌, ◌&&◌, ◌||◌, eqb, if◌then◌else◌}
 use Rattle.std.specs.Prelude.{List, [], ◌∷◌, ◌++◌, length, take, drop}
 use Rattle.lq_ring_core.specs.Ring.{place_before}
-use Rattle.lq_band_laws.specs.Ring.{Ends, Lock, without_room, after_take, cleared_at, taken_on}
+use Rattle.lq_band_laws.specs.Ring.{Ends, Lock, with_room, without_room, after_take, cleared_at, taken_on}
 use Rattle.lq_tap.specs.Views.{View}
 use Rattle.lq_tap.specs.declared.view.Consumer.{Consumer}
 use Rattle.lq_tap.specs.declared.view.Purpose.{Purpose}
@@ -111,6 +111,10 @@ taking n v = record v {
     drained = false;
   };
 }
+
+-- the slot that was loaded is empty, so that a packet may be stored there
+abbrev pub finding_room : View → View
+finding_room v = with_lock (with_room v.lock) v
 
 -- none is there
 abbrev pub finding_none : View → View

@@ -1,11 +1,11 @@
 //! The two locks of a `ptr_ring`: `producer_lock`, whose word has the producer index too, and `consumer_lock`.
-ghost use Rattle.std.specs.Prelude.{◌≡◌, ◌/◌, ◌%◌, true, false, [], ◌∷◌};
-ghost use Rattle.lq_band_laws.specs.Ring.{unlocked, index_given, IsAtRest};
+ghost use Rattle.std.specs.Prelude.{◌≡◌, ◌/◌, ◌%◌, ◌<◌, true, false, [], ◌∷◌};
+ghost use Rattle.lq_band_laws.specs.Ring.{unlocked, locked_at, index_given, IsAtRest};
 ghost use Rattle.lq_tap.specs.Made.{◌⊳◌, did_load_producer, did_take_producer, did_give_producer, did_take_consumer, did_give_consumer};
 ghost use Rattle.lq_tap.specs.Told.{with_lock, with_consumer};
 ghost use Rattle.lq_tap.specs.Rule.{consumer_of};
 ghost use Rattle.lq_tap.specs.Steps.{LocksProducer, LocksConsumer};
-ghost use Rattle.lq_tap.specs.Sees.{view, steps, slot, IsSeatOf, IsSameSeat, IsElseSame, GetsProducerAt, GetsConsumer};
+ghost use Rattle.lq_tap.specs.Sees.{view, steps, slot, IsSeatOf, IsSameSeat, IsElseSame, Makes, GetsConsumer};
 
 use crate::shared::{Tap, TapSeat};
 use crate::view::{Consumer, Purpose};
@@ -22,8 +22,7 @@ impl Tap {
     /// Twice the producer index, plus 1 while the producer lock is held: a load of the producer word.
     fn load_producer(&self, seat: &mut TapSeat) -> u64
         requires seat { IsSeatOf self.now seat.old }
-        ensures same { IsElseSame seat.old seat.new × (view seat.new ≡ view seat.old) }
-        ensures steps { steps seat.new ≡ steps seat.old ⊳ did_load_producer result }
+        ensures { Makes (λ v. v) (λ s. s ⊳ did_load_producer result) seat.old seat.new }
     {
         self.table.load::<Brand, _>(&mut seat.seat, PRODUCER, &())
     }
@@ -33,10 +32,9 @@ impl Tap {
         requires seat { IsSeatOf self.now seat.old }
         requires even { seen % 2 ≡ 0 }
         requires free { (view seat.old).lock.holds ≡ false }
-        ensures same { IsElseSame seat.old seat.new }
-        ensures got { result ≡ true → GetsProducerAt self.now (seen / 2) seat.old seat.new }
-        ensures missed { result ≡ false → view seat.new ≡ view seat.old }
-        ensures steps { steps seat.new ≡ steps seat.old ⊳ did_take_producer seen result }
+        ensures got { result ≡ true → Makes (with_lock (locked_at (seen / 2))) (λ s. s ⊳ did_take_producer seen true) seat.old seat.new
+            × (seen / 2 < self.now.len) }
+        ensures missed { result ≡ false → Makes (λ v. v) (λ s. s ⊳ did_take_producer seen false) seat.old seat.new }
     {
         self.table
             .compare_exchange::<Brand, _>(&mut seat.seat, PRODUCER, seen, seen + 1, &())
@@ -48,9 +46,7 @@ impl Tap {
         requires seat { IsSeatOf self.now seat.old }
         requires lock { (view seat.old).lock.holds ≡ true }
         requires index { index ≡ index_given self.now.len (view seat.old).lock }
-        ensures same { IsElseSame seat.old seat.new }
-        ensures given { view seat.new ≡ with_lock unlocked (view seat.old) }
-        ensures steps { steps seat.new ≡ steps seat.old ⊳ did_give_producer index }
+        ensures { Makes (with_lock unlocked) (λ s. s ⊳ did_give_producer index) seat.old seat.new }
     {
         self.table
             .store::<Brand, _>(&mut seat.seat, PRODUCER, 2 * index as u64, &());
@@ -61,7 +57,7 @@ impl Tap {
         requires seat { IsSeatOf self.now seat.old }
         requires free { (view seat.old).lock ≡ unlocked }
         ensures same { IsElseSame seat.old seat.new }
-        ensures locked { GetsProducerAt self.now result seat.old seat.new }
+        ensures locked { (view seat.new ≡ with_lock (locked_at result) (view seat.old)) × (result < self.now.len) }
         ensures steps { LocksProducer result (steps seat.old) (steps seat.new) }
     {
         let backoff = Backoff::new();

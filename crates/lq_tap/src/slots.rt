@@ -1,11 +1,11 @@
 //! The steps on the slots of the ring.
 ghost use Rattle.std.specs.Prelude.{◌≡◌, ◌≢◌, ℕ, ◌+◌, ◌-◌, ◌<◌, ◌≤◌, true, false, List, [], ◌∷◌, ◌++◌, length};
-ghost use Rattle.lq_band_laws.specs.Ring.{with_room, having_stored, all_empty, IsAtRest};
+ghost use Rattle.lq_band_laws.specs.Ring.{having_stored, all_empty, IsAtRest};
 ghost use Rattle.lq_tap.specs.Made.{◌⊳◌, did_load_slot, did_store_slot};
-ghost use Rattle.lq_tap.specs.Told.{having_put, having_found_full, with_lock, with_ends, finding_none, taking, destroying, putting_back};
+ghost use Rattle.lq_tap.specs.Told.{having_put, having_found_full, with_lock, with_ends, finding_room, finding_none, taking, destroying, putting_back};
 ghost use Rattle.lq_tap.specs.Views.{AreFew};
 ghost use Rattle.lq_tap.specs.Steps.{emptied_below};
-ghost use Rattle.lq_tap.specs.Sees.{view, steps, IsSeatOf, IsElseSame, HasLockAtIndex, MayReturnAt};
+ghost use Rattle.lq_tap.specs.Sees.{view, Makes, IsSeatOf, HasLockAtIndex, MayReturnAt};
 
 use crate::shared::{Tap, TapSeat};
 use std::marker::Brand;
@@ -20,11 +20,9 @@ impl Tap {
         requires seat { IsSeatOf self.now seat.old }
         requires packet { ((view seat.old).sender.going ≡ true) × ((view seat.old).sender.next < self.now.packets) }
         requires lock { HasLockAtIndex self.now index seat.old }
-        ensures same { IsElseSame seat.old seat.new }
-        ensures room { result ≡ 0 → view seat.new ≡ with_lock (with_room (view seat.old).lock) (view seat.old) }
-        ensures full { result ≢ 0 → (view seat.new ≡ having_found_full (view seat.old).sender.next (result - 1) (view seat.old))
+        ensures room { result ≡ 0 → Makes finding_room (λ s. s ⊳ did_load_slot index 0) seat.old seat.new }
+        ensures full { result ≢ 0 → Makes (λ v. having_found_full v.sender.next (result - 1) v) (λ s. s ⊳ did_load_slot index result) seat.old seat.new
             × (result - 1 ≢ (view seat.old).sender.next) × (result ≤ self.now.packets) }
-        ensures steps { steps seat.new ≡ steps seat.old ⊳ did_load_slot index result }
     {
         self.table
             .load::<Brand, _>(&mut seat.seat, SLOTS + index as usize, &())
@@ -36,9 +34,7 @@ impl Tap {
         requires packet { ((view seat.old).sender.going ≡ true) × ((view seat.old).sender.next ≡ n) × (n < self.now.packets) }
         requires lock { HasLockAtIndex self.now index seat.old }
         requires room { (view seat.old).lock.room ≡ true }
-        ensures same { IsElseSame seat.old seat.new }
-        ensures put { view seat.new ≡ with_lock (having_stored (view seat.old).lock) (having_put n (view seat.old)) }
-        ensures steps { steps seat.new ≡ steps seat.old ⊳ did_store_slot index (n + 1) }
+        ensures { Makes (λ v. with_lock (having_stored v.lock) (having_put n v)) (λ s. s ⊳ did_store_slot index (n + 1)) seat.old seat.new }
     {
         self.table
             .store::<Brand, _>(&mut seat.seat, SLOTS + index as usize, n as u64 + 1, &());
@@ -49,11 +45,9 @@ impl Tap {
     pub(crate) fn head_slot(&self, seat: &mut TapSeat, head: u32) -> u64
         requires seat { IsSeatOf self.now seat.old × ((view seat.old).reader.reads ≡ true) × ((view seat.old).reader.holds ≡ true) }
         requires rests { IsAtRest self.now.len (view seat.old).reader.ends × (head ≡ (view seat.old).reader.ends.head) }
-        ensures same { IsElseSame seat.old seat.new }
-        ensures none { result ≡ 0 → view seat.new ≡ finding_none (view seat.old) }
-        ensures taken { result ≢ 0 → (view seat.new ≡ taking (result - 1) (view seat.old)) × (result ≤ self.now.packets) }
+        ensures none { result ≡ 0 → Makes finding_none (λ s. s ⊳ did_load_slot head 0) seat.old seat.new }
+        ensures taken { result ≢ 0 → Makes (taking (result - 1)) (λ s. s ⊳ did_load_slot head result) seat.old seat.new × (result ≤ self.now.packets) }
         ensures few { AreFew (view seat.new) }
-        ensures steps { steps seat.new ≡ steps seat.old ⊳ did_load_slot head result }
     {
         self.table
             .load::<Brand, _>(&mut seat.seat, SLOTS + head as usize, &())
@@ -65,9 +59,7 @@ impl Tap {
         requires seat { IsSeatOf self.now seat.old × ((view seat.old).reader.reads ≡ true) × ((view seat.old).reader.holds ≡ true) }
         requires ends { (view seat.old).reader.ends ≡ record { head = head; tail = tail; edge = head } }
         requires within { (tail ≤ head) × (tail < self.now.len) × (head ≤ self.now.len) }
-        ensures same { IsElseSame seat.old seat.new }
-        ensures emptied { view seat.new ≡ with_ends (all_empty self.now.len (view seat.old).reader.ends) (view seat.old) }
-        ensures steps { steps seat.new ≡ emptied_below head (head - tail) (steps seat.old) }
+        ensures { Makes (λ v. with_ends (all_empty self.now.len v.reader.ends) v) (emptied_below head (head - tail)) seat.old seat.new }
     {
         for n in 0..head - tail {
             self.table
@@ -80,10 +72,8 @@ impl Tap {
     pub(crate) fn slot_before(&self, seat: &mut TapSeat, place: u32, left: usize) -> u64
         requires seat { MayReturnAt self.now place seat.old }
         requires left { (0 < left) × (left ≤ length (view seat.old).reader.batch) }
-        ensures same { IsElseSame seat.old seat.new }
-        ensures room { result ≡ 0 → view seat.new ≡ with_lock (with_room (view seat.old).lock) (view seat.old) }
-        ensures full { result ≢ 0 → view seat.new ≡ destroying left (view seat.old) }
-        ensures steps { steps seat.new ≡ steps seat.old ⊳ did_load_slot place result }
+        ensures room { result ≡ 0 → Makes finding_room (λ s. s ⊳ did_load_slot place 0) seat.old seat.new }
+        ensures full { result ≢ 0 → Makes (destroying left) (λ s. s ⊳ did_load_slot place result) seat.old seat.new }
     {
         self.table
             .load::<Brand, _>(&mut seat.seat, SLOTS + place as usize, &left)
@@ -94,9 +84,7 @@ impl Tap {
         requires seat { MayReturnAt self.now place seat.old }
         requires room { (view seat.old).lock.room ≡ true }
         requires last { (rest : List ℕ) × ((view seat.old).reader.batch ≡ rest ++ n ∷ []) }
-        ensures same { IsElseSame seat.old seat.new }
-        ensures put { view seat.new ≡ putting_back (view seat.old) }
-        ensures steps { steps seat.new ≡ steps seat.old ⊳ did_store_slot place (n + 1) }
+        ensures { Makes putting_back (λ s. s ⊳ did_store_slot place (n + 1)) seat.old seat.new }
     {
         self.table
             .store::<Brand, _>(&mut seat.seat, SLOTS + place as usize, n as u64 + 1, &());

@@ -5,7 +5,7 @@ ghost use Rattle.lq_tap.specs.Told.{having_taken, with_ends, rest_at};
 ghost use Rattle.lq_tap.specs.Views.{AreFew};
 ghost use Rattle.lq_tap.specs.Rule.{consumer_of};
 ghost use Rattle.lq_tap.specs.Steps.{GetsBatch, TakesAll, emptied_below, emptied_after};
-ghost use Rattle.lq_tap.specs.Sees.{view, steps, IsReaderOf, IsSeatOf, IsElseSame};
+ghost use Rattle.lq_tap.specs.Sees.{view, steps, Makes, IsReaderOf, IsSeatOf, IsElseSame};
 
 use crate::shared::{Tap, TapSeat};
 use crate::view::{Consumer, Purpose};
@@ -18,9 +18,8 @@ impl Tap {
     fn discard_one(&self, seat: &mut TapSeat, ends: Consumer) -> Consumer
         requires seat { IsSeatOf self.now seat.old × ((view seat.old).reader.reads ≡ true) × ((view seat.old).reader.holds ≡ true) }
         requires ends { ((view seat.old).reader.ends ≡ taken_on (rest_at ends)) × IsAtRest self.now.len (rest_at ends) }
-        ensures same { IsElseSame seat.old seat.new }
-        ensures view { view seat.new ≡ with_ends (after_take self.now.len (rest_at ends)) (view seat.old) }
-        ensures steps { steps seat.new ≡ emptied_below (ends.head + 1) (emptied_after self.now.len (rest_at ends)) (steps seat.old) }
+        ensures made { Makes (with_ends (after_take self.now.len (rest_at ends)))
+            (emptied_below (ends.head + 1) (emptied_after self.now.len (rest_at ends))) seat.old seat.new }
         ensures ends { (result ≡ consumer_of (after_take self.now.len (rest_at ends)))
             × IsAtRest self.now.len (after_take self.now.len (rest_at ends)) }
     {

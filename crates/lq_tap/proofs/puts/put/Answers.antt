@@ -10,5 +10,5 @@ returns-then-found-ne0-clause-steps g c =
       i,
       steps locked,
       c.lock_producer-index.ensures.steps,
-      c.give_producer.ensures.steps ∙ (λ j. c.producer_slot-found.ensures.steps j ⊳ did_give_producer i) ∙ (λ j. steps locked ⊳ did_load_slot i (back j) ⊳ did_give_producer i),
+      c.give_producer.ensures.steps_are ∙ (λ j. (c.producer_slot-found.ensures.full some_).0.steps_are j ⊳ did_give_producer i) ∙ (λ j. steps locked ⊳ did_load_slot i (back j) ⊳ did_give_producer i),
     )

@@ -23,5 +23,10 @@ store-requires c =
           (stores_slot k slots seat.id (seen seat.me) i about p.0 (let h = p.2 in let q = p.1 in let e = t.same.0 in omega arith) l.0 l.1 c.requires.room l.2),
     )
 
-pub returns-clause-put : goal.returns-clause-put
-returns-clause-put c = let v = c.args.seat.now.seat.me.0.view in ap (λ m. m.0) c.store.ensures.2.told ∙ ap (λ (x : ℕ). with_lock (having_stored v.lock) (having_put x v)) c.requires.packet.1
+pub returns : goal.returns
+returns c =
+    let v = c.args.seat.now.seat.me.0.view in let stored = c.store.ensures in record {
+      same = ((stored.0, stored.1), ap (λ m. m.1) stored.2.told);
+      view_is = ap (λ m. m.0) stored.2.told ∙ ap (λ (x : ℕ). with_lock (having_stored v.lock) (having_put x v)) c.requires.packet.1;
+      steps_are = stored.2.noted;
+    }
