@@ -67,9 +67,12 @@ SeesEnded found b a = (view a ≡ having_seen_ended found (view b)) × (steps a 
 
 -- THE PRODUCER LOCK
 
--- it has the producer lock and has stored nothing under it, and this is the index, a place of the ring
-abbrev pub HasLockAtIndex : Tap → ℕ → TapSeat → Type 0
-HasLockAtIndex t index c = ((view c).lock.holds ≡ true) × ((view c).lock.stored ≡ false) × (index ≡ (view c).lock.index) × (index < t.len)
+-- It has a packet to put, and the producer lock, and has stored nothing under it. This is the index, a place of the ring.
+pub record MayPutAt (t : Tap) (index : ℕ) (c : TapSeat) : Type 0 where
+  pub seat : IsSeatOf t c
+  pub packet : ((view c).sender.going ≡ true) × ((view c).sender.next < t.packets)
+  pub lock : ((view c).lock.holds ≡ true) × ((view c).lock.stored ≡ false)
+  pub is : (index ≡ (view c).lock.index) × (index < t.len)
 
 -- THE CONSUMER LOCK
 
@@ -79,12 +82,16 @@ GetsConsumer t p b a =
     (view a ≡ with_consumer p true (view b)) × (slot a ≡ (0, consumer_of (view b).reader.ends) ∷ slot b)
     × IsAtRest t.len (view b).reader.ends
 
+-- it is the reader's, and has the consumer lock
+abbrev pub HasConsumer : Tap → TapSeat → Type 0
+HasConsumer t c = IsSeatOf t c × ((view c).reader.reads ≡ true) × ((view c).reader.holds ≡ true)
+
 -- GIVING BACK
 
 -- It has both locks, has stored nothing under the producer lock, and the slots of all packets that it took are empty. This is the place
 -- before its head.
 pub record MayReturnAt (t : Tap) (place : ℕ) (c : TapSeat) : Type 0 where
-  pub seat : IsSeatOf t c × ((view c).reader.reads ≡ true) × ((view c).reader.holds ≡ true)
+  pub seat : HasConsumer t c
   pub lock : ((view c).lock.holds ≡ true) × ((view c).lock.stored ≡ false)
   pub clear : ((view c).reader.ends.tail ≡ (view c).reader.ends.head) × ((view c).reader.ends.edge ≡ (view c).reader.ends.head)
   pub is : (place ≡ place_before t.len (view c).reader.ends.head 1) × (place < t.len)

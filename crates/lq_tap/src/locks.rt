@@ -5,7 +5,7 @@ ghost use Rattle.lq_tap.specs.Made.{◌⊳◌, did_load_producer, did_take_produ
 ghost use Rattle.lq_tap.specs.Told.{with_lock, with_consumer};
 ghost use Rattle.lq_tap.specs.Rule.{consumer_of};
 ghost use Rattle.lq_tap.specs.Steps.{LocksProducer, LocksConsumer};
-ghost use Rattle.lq_tap.specs.Sees.{view, steps, slot, IsSeatOf, IsSameSeat, IsElseSame, Makes, GetsConsumer};
+ghost use Rattle.lq_tap.specs.Sees.{view, steps, slot, IsSeatOf, IsSameSeat, IsElseSame, Makes, GetsConsumer, HasConsumer};
 
 use crate::shared::{Tap, TapSeat};
 use crate::view::{Consumer, Purpose};
@@ -105,8 +105,7 @@ impl Tap {
 
     /// Gives the consumer lock back, and the ends with it: a store of 0 into the consumer word.
     pub(crate) fn give_consumer(&self, seat: &mut TapSeat, purpose: Purpose)
-        requires seat { IsSeatOf self.now seat.old × ((view seat.old).reader.reads ≡ true) }
-        requires lock { (view seat.old).reader.holds ≡ true }
+        requires seat { HasConsumer self.now seat.old }
         requires ends { slot seat.old ≡ (0, consumer_of (view seat.old).reader.ends) ∷ [] }
         requires rest { IsAtRest self.now.len (view seat.old).reader.ends }
         ensures same { IsSameSeat seat.old seat.new × (slot seat.new ≡ []) }

@@ -3,7 +3,7 @@ ghost use Rattle.std.specs.Prelude.{◌≡◌, ◌+◌, ◌-◌, ◌<◌, ◌≤
 ghost use Rattle.lq_band_laws.specs.Ring.{cleared_at};
 ghost use Rattle.lq_tap.specs.Told.{having_given_back, place_back, without_batch};
 ghost use Rattle.lq_tap.specs.Steps.{GivesBack, PutsBack};
-ghost use Rattle.lq_tap.specs.Sees.{view, steps, IsReaderOf, IsSeatOf, IsElseSame};
+ghost use Rattle.lq_tap.specs.Sees.{view, steps, IsReaderOf, IsElseSame, HasConsumer};
 
 use crate::shared::{Tap, TapSeat};
 use crate::view::{Consumer, Purpose};
@@ -14,7 +14,7 @@ impl Tap {
     /// Puts the packets back from the last one to the first, each before the head, until the slot there is not empty: then the packet
     /// and those before it are destroyed. It answers how many these are, and where the head is.
     fn put_all_back(&self, seat: &mut TapSeat, first: u32, batch: &[u32]) -> (usize, u32)
-        requires seat { IsSeatOf self.now seat.old × ((view seat.old).reader.reads ≡ true) × ((view seat.old).reader.holds ≡ true) }
+        requires seat { HasConsumer self.now seat.old }
         requires lock { ((view seat.old).lock.holds ≡ true) × ((view seat.old).lock.stored ≡ false) × ((view seat.old).lock.room ≡ false) }
         requires clear { ((view seat.old).reader.ends ≡ cleared_at first) × (first < self.now.len) }
         requires batch { (read : List ℕ) × ((view seat.old).reader.batch ≡ read ++ batch.now) }

@@ -5,7 +5,7 @@ ghost use Rattle.lq_tap.specs.Told.{having_taken, with_ends, rest_at};
 ghost use Rattle.lq_tap.specs.Views.{AreFew};
 ghost use Rattle.lq_tap.specs.Rule.{consumer_of};
 ghost use Rattle.lq_tap.specs.Steps.{GetsBatch, TakesAll, emptied_below, emptied_after};
-ghost use Rattle.lq_tap.specs.Sees.{view, steps, Makes, IsReaderOf, IsSeatOf, IsElseSame};
+ghost use Rattle.lq_tap.specs.Sees.{view, steps, Makes, IsReaderOf, IsElseSame, HasConsumer};
 
 use crate::shared::{Tap, TapSeat};
 use crate::view::{Consumer, Purpose};
@@ -16,7 +16,7 @@ impl Tap {
     /// What `__ptr_ring_discard_one` does after a take from these ends: where a batch was taken, or the last slot, the slots are
     /// emptied. It answers the new ends.
     fn discard_one(&self, seat: &mut TapSeat, ends: Consumer) -> Consumer
-        requires seat { IsSeatOf self.now seat.old × ((view seat.old).reader.reads ≡ true) × ((view seat.old).reader.holds ≡ true) }
+        requires seat { HasConsumer self.now seat.old }
         requires ends { ((view seat.old).reader.ends ≡ taken_on (rest_at ends)) × IsAtRest self.now.len (rest_at ends) }
         ensures made { Makes (with_ends (after_take self.now.len (rest_at ends)))
             (emptied_below (ends.head + 1) (emptied_after self.now.len (rest_at ends))) seat.old seat.new }
@@ -41,7 +41,7 @@ impl Tap {
 
     /// Takes packets to the front of `out`, until it is full or none is there. It answers how many, and the new ends.
     fn take_all(&self, seat: &mut TapSeat, first: Consumer, out: &mut [u32]) -> (usize, Consumer)
-        requires seat { IsSeatOf self.now seat.old × ((view seat.old).reader.reads ≡ true) × ((view seat.old).reader.holds ≡ true) }
+        requires seat { HasConsumer self.now seat.old }
         requires begins { (view seat.old).reader.batch ≡ [] }
         requires ends { ((view seat.old).reader.ends ≡ rest_at first) × IsAtRest self.now.len (rest_at first) }
         requires out { 0 < length out.old }

@@ -17,5 +17,5 @@ store-requires c =
     let rest : IsAtRest v.about.len v.reader.ends = subst (λ (x : Setup). IsAtRest x.len v.reader.ends) (sym c.requires.seat.0.1) c.requires.rest in (
       c.requires.seat.0.0,
       (let wide = t.sized.0 in omega arith),
-      subst (λ (xs : List (ℕ × Consumer)). Allows (Rule k) slots seat.id (v, xs) 16 (λ _. 0) (λ _. consumer_given c.args.purpose (step slots 16 0 0 none) (v, xs) 0)) (sym c.requires.ends) (gives_consumer k slots seat.id v y c.args.purpose about c.requires.seat.1 c.requires.lock refl rest),
+      subst (λ (xs : List (ℕ × Consumer)). Allows (Rule k) slots seat.id (v, xs) 16 (λ _. 0) (λ _. consumer_given c.args.purpose (step slots 16 0 0 none) (v, xs) 0)) (sym c.requires.ends) (gives_consumer k slots seat.id v y c.args.purpose about c.requires.seat.1 c.requires.seat.2 refl rest),
     )
