@@ -27,6 +27,7 @@ slot c = c.seat.me.1
 abbrev pub setup : Tap → Setup
 setup t = record { packets = t.packets; len = t.len; senders = t.senders }
 
+-- it is one seat, before and after
 abbrev pub IsSameSeat : TapSeat → TapSeat → Type 0
 IsSameSeat b a = (a.seat.table_id ≡ b.seat.table_id) × (a.seat.id ≡ b.seat.id)
 

@@ -98,6 +98,7 @@ batch_kept Batch false batch = batch
 batch_kept Return true batch = batch
 batch_kept Return false batch = []
 
+-- it has the consumer lock, or has given it back
 abbrev pub with_consumer : Purpose → Bool → View → View
 with_consumer p holds v = record v { reader = record v.reader { holds = holds; batch = batch_kept p holds v.reader.batch } }
 
@@ -116,10 +117,11 @@ taking n v = record v {
 abbrev pub finding_room : View → View
 finding_room v = with_lock (with_room v.lock) v
 
--- none is there
+-- the slot at the head is empty
 abbrev pub finding_none : View → View
 finding_none v = record v { reader = record v.reader { drained = v.reader.ended && (length v.reader.batch == 0) } }
 
+-- this is how far the consumer is
 abbrev pub with_ends : Ends → View → View
 with_ends ends v = record v { reader = record v.reader { ends = ends } }
 
@@ -148,5 +150,6 @@ putting_back v = record v {
   };
 }
 
+-- the batch is over
 abbrev pub without_batch : View → View
 without_batch v = record v { reader = record v.reader { batch = [] } }

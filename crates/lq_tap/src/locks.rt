@@ -73,7 +73,8 @@ impl Tap {
         unreachable!()
     }
 
-    /// Takes the consumer lock, where it is free: an exchange of the consumer word. The slot with the ends comes with it.
+    /// Takes the consumer lock for this purpose, where it is free: an exchange of the consumer word. The slot with the ends comes with
+    /// it.
     fn take_consumer(&self, seat: &mut TapSeat, purpose: Purpose) -> bool
         requires seat { IsSeatOf self.now seat.old × ((view seat.old).reader.reads ≡ true) }
         ensures same { IsSameSeat seat.old seat.new }
@@ -86,7 +87,7 @@ impl Tap {
             == 0
     }
 
-    /// Waits for the consumer lock.
+    /// Waits for the consumer lock, and takes it for this purpose.
     pub(crate) fn lock_consumer<R: Wait>(&self, rt: &R, seat: &mut TapSeat, purpose: Purpose)
         requires seat { IsSeatOf self.now seat.old × ((view seat.old).reader.reads ≡ true) }
         ensures same { IsSameSeat seat.old seat.new }
@@ -103,7 +104,7 @@ impl Tap {
         unreachable!()
     }
 
-    /// Gives the consumer lock back, and the ends with it: a store of 0 into the consumer word.
+    /// Gives back the consumer lock that was taken for this purpose, and the ends with it: a store of 0 into the consumer word.
     pub(crate) fn give_consumer(&self, seat: &mut TapSeat, purpose: Purpose)
         requires seat { HasConsumer self.now seat.old }
         requires ends { slot seat.old ≡ (0, consumer_of (view seat.old).reader.ends) ∷ [] }
