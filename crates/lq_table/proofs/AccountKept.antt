@@ -9,7 +9,12 @@ use Rattle.lq_model.specs.declared.fate.Fate.TheVariants.{Sent}
 use Rattle.lq_account_laws.proofs.Waiting.{fate-stays}
 use Rattle.lq_account_laws.proofs.Changes.{Sends, sent-cases, sent-is}
 use Rattle.lq_account_laws.proofs.Changes.Sends.{sends}
-use Rattle.lq_table.specs.Rule.{SentHaveFates, IsCounted}
+use Rattle.lq_table.specs.Rule.{SentHaveFates}
+
+-- an event by which the station is deactivated is a number of 32 bits
+abbrev pub IsCounted : Event → Type 0
+IsCounted (Down event) = event < 4294967296
+IsCounted event = Unit {0}
 
 new_fate : (a : Account) (e : Event) (n u s : ℕ) → Sends a e u s n → (after e a).fates n ≡ Some (Sent u s)
 new_fate a e n u s (sends m v t hand unit serial) =

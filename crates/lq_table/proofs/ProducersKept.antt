@@ -8,7 +8,6 @@ use Rattle.lq_device.specs.Station.{StationState}
 use Rattle.lq_band_laws.specs.Three.{at, put}
 use Rattle.lq_band_laws.specs.Ring.{Lock, IsRing}
 use Rattle.lq_band_laws.proofs.Three.{at_put_same, at_put_other}
-use Rattle.lq_band_laws.proofs.Kept.{locks}
 use Rattle.lq_table.specs.Places.{producer_place}
 use Rattle.lq_table.specs.Views.{View, Setup}
 use Rattle.lq_table.specs.Rule.{words_of, account, bands_now, locks_at, Rule}

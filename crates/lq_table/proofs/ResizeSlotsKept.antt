@@ -1,10 +1,9 @@
 -- In a resize half done control empties and fills slots, and stores the fates of what it dropped: the machine and the account stay.
 use Rattle.std.specs.Prelude.{◌||◌}
-use Rattle.std.proofs.Common.{◌≡◌, ◌≢◌, ℕ, ◌+◌, ◌-◌, ◌<◌, ◌≤◌, Bool, true, false, eqb, eq-eqb, ne_eqb, List, [], ◌∷◌, ◌++◌, length, set, refl, sym, ap, ◌∙◌, subst, arith, ⊎_elim, Option, Some, None, get_or, Contains, zero, suc}
+use Rattle.std.proofs.Common.{◌≡◌, ◌≢◌, ℕ, ◌+◌, ◌-◌, ◌<◌, ◌≤◌, Bool, true, false, eqb, eq-eqb, ne_eqb, List, [], ◌∷◌, length, set, refl, sym, ap, ◌∙◌, subst, arith, ⊎_elim, Option, Some, None, Contains, zero, suc}
 use Rattle.std.proofs.lemmas.Bool.{cases_eq, lt-ltb}
 use Rattle.std.proofs.lemmas.Option.{same_Some}
-use Rattle.std.proofs.lemmas.List.Elements.{Contains-append_cases}
-use mathlib.Core.Option.{some, none}
+use mathlib.Core.Option.{some}
 use lib.ListN.{get_elem?}
 use Rattle.atomic_table.specs.Table as table
 use Rattle.atomic_table.specs.Table.{step, Allows, keeps}
@@ -21,19 +20,13 @@ use Rattle.lq_band_laws.specs.Times.{times}
 use Rattle.lq_band_laws.specs.HalfResized.{IsHalfResized}
 use Rattle.lq_band_laws.proofs.Seats.{total_same}
 use Rattle.lq_band_laws.proofs.Three.{at_put_same, at_put_other}
-use Rattle.lq_band_laws.proofs.Times.{times_in}
 use Rattle.lq_band_laws.proofs.StoredKept.{stored_as}
-use Rattle.lq_band_laws.proofs.HalfResizedKept.{clears, clears_other, fills}
 use Rattle.lq_table.specs.Views.{View, Setup, State, HolderPart, HalfResize, Work, Left}
-use Rattle.lq_table.specs.Rule.{words_of, slot_word, account, holders, owes, waiting_of, unstored, FatesStored, bands_now, Leaves, IsResizing, locks_at, Settled, Parts, Rule}
-use Rattle.lq_table.specs.Moves.{Sat}
-use Rattle.lq_table.specs.Resizes.{is_word, is_member, hand_with, out_of, into, with_work, with_resizing, clear_slot_told, fill_slot_view}
-use Rattle.lq_table.proofs.ByName.{slots_long, set_slot, slot_of}
-use Rattle.lq_table.proofs.SettledKept.{settled_same}
+use Rattle.lq_table.specs.Rule.{words_of, account, holders, owes, waiting_of, unstored, FatesStored, bands_now, Leaves, IsResizing, locks_at, Settled, Parts, Rule}
+use Rattle.lq_table.specs.Resizes.{is_word, with_work, with_resizing}
 use Rattle.lq_table.proofs.Frames.{none_some, packets_same, locks_same, control_same, rule_after, stays, lends_held, holder_now}
 use Rattle.lq_table.proofs.SeatFrames.{seats_settled, sole_on}
 use Rattle.lq_table.proofs.StationFrames.{stands_same}
-use Rattle.lq_log.specs.Made.{becomes}
 
 -- WORDS OF PACKETS
 
@@ -65,7 +58,7 @@ waiting_at n zero w = omega arith
 waiting_at n (suc zero) w = omega arith
 waiting_at n (suc (suc b)) w = omega arith
 
-by_bool : (c : Bool) (P : Bool → Type 0) → (c ≡ true → P true) → (c ≡ false → P false) → P c
+pub by_bool : (c : Bool) (P : Bool → Type 0) → (c ≡ true → P true) → (c ≡ false → P false) → P c
 by_bool true P y n = y refl
 by_bool false P y n = n refl
 
@@ -86,7 +79,7 @@ pub resizing_known : (k : Setup) (s : table.State (Option StationState) View) (r
 resizing_known k s r id v o here some_share holds under_way = sym (ap (λ (h : HolderPart). h.resizing) (r.parts.station.lends.knows id v here (lt-ltb 0 v.share.shares some_share) holds).is) ∙ under_way
 
 -- a purge takes packets from a line, and leaves the line
-line_now : (left : Option Left) (purge : Option Purge) (a : Account) → Leaves left purge a → (b : ℕ) → b < 3 → (bands_now left a.bands b).line ≡ (a.bands b).line
+pub line_now : (left : Option Left) (purge : Option Purge) (a : Account) → Leaves left purge a → (b : ℕ) → b < 3 → (bands_now left a.bands b).line ≡ (a.bands b).line
 line_now None purge a x b h = refl
 line_now (Some l) purge a x b h = (x.lines l refl b h).0
 
@@ -140,7 +133,7 @@ module _ (k : Setup) where
       }
 
   -- where the same packets wait, the fates stand as they are
-  fates_resizing : (views : List View) (id : ℕ) (v : View) (words : List ℕ) (a : Account) (b : ℕ) (t : HalfResize) (y : Work) (left : Option Left) → get_elem? views id ≡ some v → y.waiting ≡ (at b t.works).waiting → FatesStored k.infos words views a (Some t) left
+  pub fates_resizing : (views : List View) (id : ℕ) (v : View) (words : List ℕ) (a : Account) (b : ℕ) (t : HalfResize) (y : Work) (left : Option Left) → get_elem? views id ≡ some v → y.waiting ≡ (at b t.works).waiting → FatesStored k.infos words views a (Some t) left
       → FatesStored k.infos words (set views id (with_resizing (Some (with_work b y t)) v)) a (Some (with_work b y t)) left
   fates_resizing views id v words a b t y left here same f =
       let t' : HalfResize = with_work b y t in let w : View = with_resizing (Some t') v in
@@ -150,53 +143,3 @@ module _ (k : Setup) where
         shrunk = λ u is n h. f.shrunk t refl n (let z = waits_same n in let h' : 0 < waiting_of n t'.works = subst (λ (z : HalfResize). 0 < waiting_of n z.works) (sym (same_Some t' u is)) h in omega arith) ∙ ap (λ (z : HalfResize). Some (fate.Shrunk z.event)) (same_Some t' u is);
         purged = f.purged;
       }
-
-  -- a packet that a band keeps or has still to settle is one of the packets
-  resizing_packet : (s : table.State (Option StationState) View) (r : Rule k s) (t : HalfResize) → r.state.resizing ≡ Some t → (b : ℕ) → b < 3 → (n : ℕ) → Contains ((at b t.works).kept ++ (at b t.works).waiting) n → n < length k.infos
-  resizing_packet s r t now b below n member =
-      let p = r.parts in let a = account k r.state in ⊎_elim
-      (λ (kept : Contains (at b t.works).kept n). let line = subst (λ (ls : List ℕ). Contains ls n) (sym ((p.station.rings.half_resized t now).kept b below)) kept in (p.account.accounted.brought.packets n (p.account.accounted.brought.lines b n (subst (λ (ls : List ℕ). Contains ls n) (line_now r.state.left r.qdisc.purge a p.account.leaves b below) line))).0)
-      (λ (waiting : Contains (at b t.works).waiting n). (p.account.accounted.brought.packets n (p.account.accounted.brought.fates n _ (p.station.fates.shrunk t now n (let x = times_in n (at b t.works).waiting waiting in let y = waiting_at n b t.works in omega arith)))).0)
-      (Contains-append_cases (at b t.works).kept (at b t.works).waiting n member)
-
-  module _ (slots id : ℕ) (m : Sat) (b i : ℕ) (t : HalfResize) (below : b < 3) (inside : i < k.max_len) (holds : holds_lock m.0.place.position ≡ true) (under_way : m.0.holder.resizing ≡ Some t) (some_share : 0 < m.0.share.shares) where
-    abbrev word : ℕ
-    word = slot_word k b i
-
-    -- any slot is emptied
-    pub clears_slot : length k.infos ≤ 1000000 → Allows (Rule k) slots id m word (λ _. 0) (clear_slot_told b i t (step slots word 0 0 none) m)
-    clears_slot few s r1 deep here small =
-        let v : View = m.0 in let r = resizing_rule k s r1 (Some t) (resizing_known k s r1 id v (Some t) here some_share holds under_way) in let p = r.parts in let g = r.state in let W = words_of k s.words in
-        let a = account k g in let res = p.station.rings.half_resized t refl in let old = res.ring b below in let x : Work = at b t.works in let f : ℕ = get_or x.slots i 0 in
-        let long : i < length (at b W.slots) = (let l = slots_long k s.words b r.wide below in omega arith) in
-        let there : get_or (at b W.slots) i 0 ≡ f = ap (λ (xs : List ℕ). get_or xs i 0) old.known_is in
-        let found : get_or s.words word 0 ≡ f = slot_of k s.words b i below inside ∙ there in
-        let line = res.kept b below in
-        let all : (n : ℕ) → Contains ((bands_now g.left a.bands b).line ++ x.waiting) n → Contains (x.kept ++ x.waiting) n = λ n h. subst (λ (ls : List ℕ). Contains (ls ++ x.waiting) n) line h in
-        let both = by_bool (is_member f x) (λ c. IsHalfResized (set (at b W.slots) i 0) (at b W.producers) (locks_at b s.views) (bands_now g.left a.bands b) x.waiting (set x.slots i 0) (hand_with c f x.hand) × (c ≡ true → f ≤ 1000000))
-        (λ yes_. let y = word_member f (x.kept ++ x.waiting) yes_ in let is : f ≡ f - 1 + 1 = y.0 in let member = y.1 in (
-          clears _ _ _ _ _ _ _ old i (f - 1) long (there ∙ is) (subst (λ (ls : List ℕ). Contains (ls ++ x.waiting) (f - 1)) (sym line) member),
-          λ _. let known = resizing_packet s r t refl b below (f - 1) member in omega arith,
-        )) (λ no_. (clears_other _ _ _ _ _ _ _ old i long (λ n h e. word_other f (x.kept ++ x.waiting) no_ n (all n h) (sym there ∙ e)), λ e. absurd (cc))) in (
-          with_resizing (Some (with_work b (out_of i x) t)) v,
-          keeps,
-          tt,
-          works_on s r word 0 id b v t (out_of i x) (set (at b W.slots) i 0) W.fates v.settled here some_share holds under_way below (set_slot k s.words 0 b i below inside) refl both.0 (fates_resizing s.views id v W.fates a b t (out_of i x) g.left here refl p.station.fates)
-              (settled_same s.views id v (with_resizing (Some (with_work b (out_of i x) t)) v) here W.fates p.seats.settled refl),
-          (found, refl, λ yes_. let y = both.1 (sym (ap (λ (z : ℕ). is_member z x) found) ∙ yes_) in let e : get_or s.words word 0 ≡ f = found in omega arith),
-        )
-
-    -- a packet in hand is put into an empty slot
-    pub fills_slot : (n : ℕ) (hand : List ℕ) → (at b t.works).hand ≡ n ∷ hand → get_or (at b t.works).slots i 0 ≡ 0 → Allows (Rule k) slots id m word (λ _. n + 1) (λ _. becomes (λ _. fill_slot_view b i n hand t) (step slots word (n + 1) 0 none) m (n + 1))
-    fills_slot n hand has_it empty_ s r1 deep here small =
-        let v : View = m.0 in let r = resizing_rule k s r1 (Some t) (resizing_known k s r1 id v (Some t) here some_share holds under_way) in let p = r.parts in let g = r.state in let W = words_of k s.words in let a = account k g in
-        let y : Work = at b t.works in
-        let old = subst (λ (ls : List ℕ). IsHalfResized (at b W.slots) (at b W.producers) (locks_at b s.views) (bands_now g.left a.bands b) y.waiting y.slots ls) has_it ((p.station.rings.half_resized t refl).ring b below) in
-        let new = fills _ _ _ _ _ _ hand n old i (let l = slots_long k s.words b r.wide below in omega arith) (ap (λ (xs : List ℕ). get_or xs i 0) old.known_is ∙ empty_) in (
-          with_resizing (Some (with_work b (into i n hand y) t)) v,
-          keeps,
-          tt,
-          works_on s r word (n + 1) id b v t (into i n hand y) (set (at b W.slots) i (n + 1)) W.fates v.settled here some_share holds under_way below (set_slot k s.words (n + 1) b i below inside) refl new (fates_resizing s.views id v W.fates a b t (into i n hand y) g.left here refl p.station.fates)
-              (settled_same s.views id v (with_resizing (Some (with_work b (into i n hand y) t)) v) here W.fates p.seats.settled refl),
-          refl,
-        )

@@ -20,8 +20,9 @@ use Rattle.lq_account_laws.specs.Trail.{FindsNothing}
 use Rattle.lq_band_laws.specs.Three.{Three}
 use Rattle.lq_band_laws.specs.Ring.{Ends, Lock}
 use Rattle.lq_table.specs.Views.{View, Setup, State, HalfResize, Left, machine_packet}
-use Rattle.lq_table.specs.Rule.{Words, words_of, is_live, account, holders, bands_of, bands_now, event_word, Stands, Ties, Lends, FatesStored, Leaves, Rings, IsCounted, Accounted, AreStops, IsPresentUnit, IsDevice, StationParts, AccountParts, Rule}
+use Rattle.lq_table.specs.Rule.{Words, words_of, is_live, account, holders, bands_of, bands_now, event_word, Stands, Ties, Lends, FatesStored, Leaves, Rings, Accounted, AreStops, IsPresentUnit, IsDevice, StationParts, AccountParts, Rule}
 use Rattle.lq_table.proofs.Frames.{fates_same, rings_same, account_step}
+use Rattle.lq_table.proofs.AccountKept.{IsCounted}
 
 -- THE WORDS
 

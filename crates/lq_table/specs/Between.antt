@@ -25,17 +25,13 @@ use Rattle.atomic_table.specs.Table as table
 abbrev pub IsTransmitting : ℕ → View → Type 0
 IsTransmitting owner v = (is_live v ≡ true) × (p : Packet) × (own_packet v.place.position ≡ Some p) × (p.owner ≡ owner)
 
--- the seat has the turn of this packet
-abbrev pub HasTurn : ℕ → View → Type 0
-HasTurn n v = (is_live v ≡ true) × (v.packets.busy ≡ Some n)
-
 -- some seat has the turn of the owner's packet of this rank
 pub record IsTakenTurn (k : Setup) (o r : ℕ) (views : List View) : Type 0 where
   pub id : ℕ
   pub view : View
   pub packet : ℕ
   pub at : get_elem? views id ≡ some view
-  pub has : HasTurn packet view
+  pub has : (is_live view ≡ true) × (view.packets.busy ≡ Some packet)
   pub owner : owner_in k.infos packet ≡ o
   pub rank : rank_in k.infos packet ≡ r
 

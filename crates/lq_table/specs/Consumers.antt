@@ -1,14 +1,12 @@
 -- The steps of the holder of the run lock on the slots. In the log they are loads and stores of a slot (`load_slot_log`, `store_slot_log`).
-use Rattle.std.specs.Prelude.{false, ℕ, List, [], ◌∷◌, slice_set, ◌≡◌, None, true, slice_index, is_some, Some, ◌-◌, slice_get, ◌==◌, if◌then◌else◌, ◌≢◌, ◌≤◌, Option, ◌+◌}
+use Rattle.std.specs.Prelude.{false, ℕ, List, [], ◌∷◌, slice_set, ◌≡◌, None, true, slice_index, is_some, Some, ◌-◌, slice_get, ◌==◌, if◌then◌else◌, ◌+◌}
 use Rattle.lq_band_laws.specs.Ring.{is_emptying, taken_on, emptied_on}
 use Rattle.lq_band_laws.specs.Three.{at, put}
-use Rattle.lq_device.specs.Station.{StationState}
 use Rattle.lq_model.specs.Account.{Empty, Take, held_in}
 use Rattle.lq_model.specs.Machine.{Qdisc, first_qdisc}
 use Rattle.lq_model.specs.declared.machine.Answer.TheVariants.{Plain}
 use Rattle.lq_model.specs.declared.machine.Packet.{Packet}
-use Rattle.atomic_table.specs.Table.{Step}
-use Rattle.lq_table.specs.Moves.{moved, past_with, IsPacketOf, Sat}
+use Rattle.lq_table.specs.Moves.{moved, past_with}
 use Rattle.lq_table.specs.Sees.{view, ends_at, carried, IsSole, account_of}
 use Rattle.lq_table.specs.Views.{View, machine_packet}
 use Rattle.lq_table.specs.declared.shared.Cpu.{Cpu}
@@ -40,16 +38,6 @@ head_slot_view b n v = moved Plain (seen_band b (machine_packet v.share.about.in
 -- the first packet of a band, from its slot at the head
 abbrev pub SeesHead : ℕ → View → ℕ → Type 0
 SeesHead b v found = IsSole v → slice_get (held_in (account_of v) b) 0 ≡ (if found == 0 then None else Some (found - 1))
-
--- it is a packet of the station; and for a sole seat the account's
-abbrev pub TellsHead : ℕ → View → ℕ → Type 0
-TellsHead b v found = SeesHead b v found × (found ≢ 0 → IsPacketOf v.share.about (found - 1))
-
-abbrev pub head_slot_told : ℕ → Step (Option StationState) → Sat → ℕ → Sat → Type 0
-head_slot_told b _ m found m' = (found ≡ 0 → m' ≡ (head_slot_view_empty b m.0, m.1)) × (found ≢ 0 → m' ≡ (head_slot_view b (found - 1) m.0, m.1)) × (found ≤ 1000000)
-
-abbrev pub head_slot_told_all : ℕ → Step (Option StationState) → Sat → ℕ → Sat → Type 0
-head_slot_told_all b s m found m' = head_slot_told b s m found m' × TellsHead b m.0 found
 
 -- zero_slot: the slot below the edge is emptied.
 

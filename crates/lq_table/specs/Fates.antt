@@ -15,8 +15,7 @@ use Rattle.lq_model.specs.declared.machine.Answer.TheVariants.{Plain, Stop, Hang
 use Rattle.lq_model.specs.declared.machine.Answer.{Answer}
 use Rattle.lq_model.specs.declared.machine.Packet.{Packet}
 use Rattle.lq_model.specs.declared.machine.Position.TheVariants.{Xmit}
-use Rattle.atomic_table.specs.Table.{Step}
-use Rattle.lq_table.specs.Moves.{seen_by, moved, and_settled, Sat}
+use Rattle.lq_table.specs.Moves.{seen_by, moved, and_settled}
 use Rattle.lq_table.specs.Places.{fates_offset}
 use Rattle.lq_table.specs.Resizes.{settled_work, with_work, with_resizing}
 use Rattle.lq_table.specs.Rule.{shown}
@@ -77,15 +76,9 @@ machine_answer (Some NotSent) = Busy
 abbrev pub settle_view_sent : StationState → View → View
 settle_view_sent st v = record (moved (machine_answer st.last) (seen_by v) (λ h. record h { station = st; hand = None; last = h.hand }) (λ g. record g { past = Send ∷ g.past; station = st }) v) { settled = and_settled (option_map (λ n. (n, fate_sent v.holder.station)) v.holder.hand) v.settled }
 
-abbrev pub settle_told_sent : StationState → Step (Option StationState) → Sat → ℕ → Sat → Type 0
-settle_told_sent st _ m found m' = m' ≡ (settle_view_sent st m.0, m.1)
-
 -- an owed fate is stored
 abbrev pub settle_view_owed : View → View
 settle_view_owed v = record v { packets = record v.packets { owed = None }; settled = and_settled v.packets.owed v.settled }
-
-abbrev pub settle_told_owed : Step (Option StationState) → Sat → ℕ → Sat → Type 0
-settle_told_owed _ m found m' = m' ≡ (settle_view_owed m.0, m.1)
 
 -- the packet n, which the resize of the event dropped from the band b, is settled
 abbrev pub settle_view_shrunk : ℕ → ℕ → ℕ → View → View

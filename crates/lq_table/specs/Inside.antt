@@ -1,16 +1,14 @@
 -- The steps on the word of the calls inside.
 use Rattle.std.specs.Option.{option_map}
 use Rattle.std.specs.Prelude.{Option, Some, None, true, ◌≡◌, ◌⊎◌, is_some, false, Bool, if◌then◌else◌, ℕ}
-use Rattle.lq_device.specs.Station.{StationState}
-use Rattle.lq_log.specs.Made.{Made, rise, fall, load, becomes}
+use Rattle.lq_log.specs.Made.{Made, rise, fall, load}
 use Rattle.lq_model.specs.Control.{found_inside}
 use Rattle.lq_model.specs.Steps.{begun}
 use Rattle.lq_model.specs.declared.machine.Answer.TheVariants.{Plain}
 use Rattle.lq_model.specs.declared.machine.Beginning.TheVariants.{Transmits, Interrupts}
 use Rattle.lq_model.specs.declared.machine.Beginning.{Beginning}
 use Rattle.lq_model.specs.declared.machine.Packet.{Packet}
-use Rattle.atomic_table.specs.Table.{Step}
-use Rattle.lq_table.specs.Moves.{seen_by, stepped, Sat}
+use Rattle.lq_table.specs.Moves.{seen_by, stepped}
 use Rattle.lq_table.specs.Places.{inside_place}
 use Rattle.lq_table.specs.Sees.{Solo}
 use Rattle.lq_table.specs.Views.{View, machine_packet}
@@ -41,10 +39,6 @@ lowered v = record v { raised = false }
 
 abbrev pub enter_alone : Bool → Solo → Solo
 enter_alone brings v = if brings then v else lowered v
-
--- the packet that it brings is the one whose turn it has
-abbrev pub enter_told : Step (Option StationState) → Sat → ℕ → Sat → Type 0
-enter_told step m found m' = becomes (λ _. enter_view) step m found m' × ((n : ℕ) → m.0.packets.fresh ≡ Some n → m.0.packets.busy ≡ Some n)
 
 -- leave: a call ends; its view is that of `pass`.
 

@@ -1,18 +1,15 @@
 -- The steps on the run lock.
 use Rattle.std.specs.Prelude.{Bool, ℕ, true, ◌≡◌, ◌≢◌, ◌∷◌, Option, false, not, if◌then◌else◌, ◌<◌, Some, None, is_none, ◌&&◌, []}
-use Rattle.lq_device.specs.Station.{StationState}
 use Rattle.lq_log.specs.Made.{Made, load, exchange, store}
 use Rattle.lq_model.specs.Control.{is_control}
 use Rattle.lq_model.specs.Machine.{Qdisc, bit, Purge, is_closed}
 use Rattle.lq_model.specs.declared.machine.Answer.TheVariants.{Plain}
 use Rattle.lq_model.specs.declared.machine.Position.TheVariants.{Control, Try1, Try2, Unlock, Tail}
 use Rattle.lq_model.specs.declared.machine.Position.{Position}
-use Rattle.atomic_table.specs.Table.{Step}
-use Rattle.lq_table.specs.AtRest.{IsSoleAtRest, KnowsRest}
-use Rattle.lq_table.specs.Moves.{seen_by, stepped, Sat, unchanged, moved, IsKnownSlot}
+use Rattle.lq_table.specs.Moves.{seen_by, stepped, moved, IsKnownSlot}
 use Rattle.lq_table.specs.Places.{lock_place}
-use Rattle.lq_table.specs.Rule.{account, holders, shown, units_of, IsResting}
-use Rattle.lq_table.specs.Sees.{view, steps, slot, IsSameSeat, Solo, solo, IsSole, IsAccounts}
+use Rattle.lq_table.specs.Rule.{shown, units_of, IsResting}
+use Rattle.lq_table.specs.Sees.{view, steps, slot, IsSameSeat, Solo, solo, IsAccounts}
 use Rattle.lq_table.specs.Views.{View, HolderPart}
 use Rattle.lq_table.specs.declared.shared.Cpu.{Cpu}
 
@@ -41,16 +38,6 @@ module _ {D : Type 0} where
   abbrev pub FindsLocked : Cpu D → Cpu D → Type 0
   FindsLocked b a = (view a ≡ look_lock_view (view b)) × ((found : ℕ) × (found ≢ 0) × (steps a ≡ load_lock_log found ∷ steps b))
 
-abbrev pub look_lock_told : Step (Option StationState) → Sat → ℕ → Sat → Type 0
-look_lock_told _ m found m' = (found ≡ 0 → m' ≡ m) × (found ≢ 0 → m' ≡ (look_lock_view m.0, m.1))
-
-abbrev pub look_lock_told_all : Step (Option StationState) → Sat → ℕ → Sat → Type 0
-look_lock_told_all s m found m' = look_lock_told s m found m' × (IsSole m.0 → found ≡ bit m.0.whole.qdisc.locked)
-
--- a load of the run lock
-abbrev pub load_lock_told : Step (Option StationState) → Sat → ℕ → Sat → Type 0
-load_lock_told step m found m' = unchanged step m found m' × (IsSoleAtRest m.0 → KnowsRest m.0)
-
 -- try_lock: the lock is got with the station that lies in the table's slot, by a call or by control; or it was held.
 
 abbrev pub try_lock_log : Bool → Made
@@ -78,10 +65,6 @@ try_lock_view_in_control d v = record v {
 abbrev pub try_lock_view : HolderPart → View → View
 try_lock_view d v = if is_control v.place.position then try_lock_view_in_control d v else try_lock_view_in_call d v
 
--- a seat that has all shares, and was told the state, finds what its account says
-abbrev pub IsToldHolder : View → HolderPart → Type 0
-IsToldHolder v d = v.share.shares ≡ 1024 → v.whole.told ≡ true → d ≡ holders v.whole.state (account v.share.about v.whole.state) d.size
-
 -- a try of the run lock gets it just where it was free, and after it the lock is held; what the holder has is the account's
 abbrev pub SeesTry : Bool → View → View → Type 0
 SeesTry gets v w = (solo w ≡ locked_to true (solo v)) × (gets ≡ not v.whole.qdisc.locked) × (gets ≡ true → IsAccounts w)
@@ -92,18 +75,6 @@ module _ {D : Type 0} where
   abbrev pub GetsRunLock : Cpu D → Cpu D → Type 0
   GetsRunLock b a = (d : HolderPart) × (view a ≡ try_lock_view d (view b)) × (slot a ≡ (0, Some (shown d)) ∷ slot b) × IsResting d.size d.ends × (0 < d.size) × (d.hand ≡ None) × (d.resizing ≡ None)
       × (d.shut ≡ None) × IsKnownSlot (view b).share.about d.slot × ((view b).control.first ≡ true → d.units ≡ units_of (view b).trail)
-
-abbrev pub try_lock_told_as : (HolderPart → View → View) → Step (Option StationState) → Sat → ℕ → Sat → Type 0
-try_lock_told_as got_as _ m found m' =
-    (found ≡ 0 → (d : HolderPart) × (m' ≡ (got_as d m.0, (0, Some (shown d)) ∷ m.1)) × IsResting d.size d.ends × (0 < d.size) × (d.hand ≡ None) × (d.resizing ≡ None) × (d.shut ≡ None) × IsToldHolder m.0 d × IsKnownSlot m.0.share.about d.slot × (m.0.control.first ≡ true → d.units ≡ units_of m.0.trail))
-    × (found ≢ 0 → m' ≡ (look_lock_view m.0, m.1))
-
-abbrev pub try_lock_told : Step (Option StationState) → Sat → ℕ → Sat → Type 0
-try_lock_told = try_lock_told_as try_lock_view
-
--- the lock was held or free as its words say, and after a try it is held; what the holder has is the account's
-abbrev pub try_lock_told_all : Step (Option StationState) → Sat → ℕ → Sat → Type 0
-try_lock_told_all s m found m' = try_lock_told s m found m' × (IsSole m.0 → found ≡ bit m.0.whole.qdisc.locked)
 
 -- unlock: the lock is released, after a run or by control, and the station is given back.
 
@@ -136,6 +107,3 @@ module _ {D : Type 0} where
   -- the seat is the same, with its station and indices, and has none of the slots
   abbrev pub GivesSlotBack : Cpu D → Cpu D → Type 0
   GivesSlotBack b a = IsSameSeat b a × (a.station ≡ b.station) × (a.indices ≡ b.indices) × (slot a ≡ [])
-
-abbrev pub unlock_told : Step (Option StationState) → Sat → ℕ → Sat → Type 0
-unlock_told _ m found m' = m' ≡ (unlock_view m.0, [])

@@ -14,7 +14,6 @@ use Rattle.lq_model.specs.declared.machine.Packet.{Packet}
 use Rattle.lq_model.specs.declared.machine.Position.TheVariants.{Idle, Control}
 use Rattle.lq_model.specs.declared.machine.Position.{Position}
 use Rattle.atomic_table.specs.Table.{Me, Step}
-use Rattle.lq_log.specs.Made.{becomes}
 use Rattle.lq_table.specs.Views.{View, machine_packet, HolderPart, State, Setup}
 
 -- a seat's view, with what it has of the table's slots
@@ -64,9 +63,6 @@ and_settled (Some fate) fates = fate ∷ fates
 
 abbrev pub pass_view : View → View
 pass_view v = stepped Plain (seen_by v) v
-
-abbrev pub pass_told : Step (Option StationState) → Sat → ℕ → Sat → Type 0
-pass_told = becomes (λ _. pass_view)
 
 -- a load that tells the seat nothing
 abbrev pub unchanged : Step (Option StationState) → Sat → ℕ → Sat → Type 0

@@ -1,8 +1,7 @@
 -- The steps on the producer words, the size and the slots, of a seat that brings a packet.
-use Rattle.std.specs.Prelude.{ℕ, ◌%◌, length, ◌≡◌, ◌*◌, false, Option, Bool, ◌+◌, ◌==◌, ◌<◌, ◌≢◌, Some, ◌≤◌, true, None, ◌-◌, ◌↔◌}
-use Rattle.lq_band_laws.specs.Ring.{Lock, locked_at, index_given, sized_if, is_emptying, with_room, having_stored}
+use Rattle.std.specs.Prelude.{ℕ, ◌%◌, length, ◌≡◌, ◌*◌, false, Bool, ◌+◌, ◌==◌, ◌<◌, ◌≢◌, Some, true, None, ◌-◌, ◌↔◌}
+use Rattle.lq_band_laws.specs.Ring.{Lock, locked_at, index_given, sized_if, is_emptying, having_stored}
 use Rattle.lq_band_laws.specs.Three.{put, at}
-use Rattle.lq_device.specs.Station.{StationState}
 use Rattle.lq_log.specs.Made.{Made, load, exchange, store}
 use Rattle.lq_model.specs.Account.{Full, Join}
 use Rattle.lq_model.specs.Alone.{seen_in}
@@ -11,8 +10,7 @@ use Rattle.lq_model.specs.Positions.{holds_lock}
 use Rattle.lq_model.specs.declared.fate.Fate.TheVariants as fate
 use Rattle.lq_model.specs.declared.machine.Answer.TheVariants.{FullSlot, Plain}
 use Rattle.lq_model.specs.declared.machine.Position.TheVariants.{Put}
-use Rattle.atomic_table.specs.Table.{Step}
-use Rattle.lq_table.specs.Moves.{Sat, unchanged, seen_by, moved, past_with, on_trail}
+use Rattle.lq_table.specs.Moves.{seen_by, moved, past_with, on_trail}
 use Rattle.lq_table.specs.Places.{producer_place, size_place, slot_word}
 use Rattle.lq_table.specs.Sees.{view, lock_at, HasProducer, position, packet_at, Brings, account_of, IsSole}
 use Rattle.lq_table.specs.Views.{View, Setup}
@@ -37,9 +35,6 @@ SeesProducer b v found = IsSole v → (at b v.locks).holds ≡ false → found �
 abbrev pub load_producer_log : ℕ → ℕ → Made
 load_producer_log band found = load (producer_place band) found
 
-abbrev pub load_producer_told : ℕ → Step (Option StationState) → Sat → ℕ → Sat → Type 0
-load_producer_told b s m found m' = unchanged s m found m' × SeesProducer b m.0 found
-
 -- take_producer: the producer lock is got, with the index that the word has, or the word isn't as the seat had seen it.
 
 abbrev pub take_producer_log : ℕ → ℕ → Bool → Made
@@ -53,13 +48,6 @@ module _ {D : Type 0} where
   -- the band's producer lock is got, with the index i
   abbrev pub GetsProducer : Shared D → ℕ → ℕ → Cpu D → Cpu D → Type 0
   GetsProducer t band i b a = (view a ≡ with_lock_at band (locked_at i) (view b)) × (a.indices ≡ put band i b.indices) × (i < t.max_len)
-
--- the producer lock was free and is the seat's, with the index i; or it wasn't as the seat had seen it
-abbrev pub take_producer_told : ℕ → ℕ → ℕ → Step (Option StationState) → Sat → ℕ → Sat → Type 0
-take_producer_told b i limit _ m found m' = (found ≡ 2 * i → (m' ≡ (with_lock_at b (locked_at i) m.0, m.1)) × (i < limit)) × (found ≢ 2 * i → m' ≡ m)
-
-abbrev pub take_producer_told_all : ℕ → ℕ → ℕ → Step (Option StationState) → Sat → ℕ → Sat → Type 0
-take_producer_told_all b i limit s m found m' = take_producer_told b i limit s m found m' × SeesProducer b m.0 found
 
 -- give_producer: the lock is given back, with the next index.
 
@@ -77,9 +65,6 @@ load_size_log found = load size_place found
 
 abbrev pub load_size_view : ℕ → View → View
 load_size_view size v = record v { locks = record { low = sized_if size v.locks.low; mid = sized_if size v.locks.mid; high = sized_if size v.locks.high } }
-
-abbrev pub load_size_told : ℕ → Step (Option StationState) → Sat → ℕ → Sat → Type 0
-load_size_told limit _ m found m' = (m' ≡ (load_size_view found m.0, m.1)) × (0 < found) × (found ≤ limit) × (holds_lock m.0.place.position ≡ true → found ≡ m.0.holder.size)
 
 -- producer_slot: the slot at the index is loaded. The packet is dropped as full unless it is empty.
 
@@ -101,13 +86,6 @@ abbrev pub SeesEnd : ℕ → View → ℕ → Type 0
 SeesEnd b v found =
     IsSole v → (holds_lock v.place.position ≡ true → is_emptying v.holder.size (at b v.holder.ends) ≡ false)
     → ((0 < found) ↔ IsOccupied (account_of v).len ((account_of v).bands b)) × (0 < found → found ≡ seen_in (account_of v).len ((account_of v).bands b) + 1)
-
-abbrev pub producer_slot_told : ℕ → ℕ → Step (Option StationState) → Sat → ℕ → Sat → Type 0
-producer_slot_told b n _ m found m' =
-    (found ≡ 0 → m' ≡ (with_lock_at b (with_room (at b m.0.locks)) m.0, m.1)) × (found ≢ 0 → m' ≡ (producer_slot_view_full n (found - 1) m.0, m.1)) × (found ≤ 1000000)
-
-abbrev pub producer_slot_told_all : ℕ → ℕ → Step (Option StationState) → Sat → ℕ → Sat → Type 0
-producer_slot_told_all b n s m found m' = producer_slot_told b n s m found m' × SeesEnd b m.0 found
 
 -- store_slot: the packet joins the band.
 

@@ -1,22 +1,17 @@
 -- The steps of a purge. In the account the purge is one event at its beginning; what control does from there on is to take the packets from
 -- the bands and to store their fates.
 use Rattle.std.specs.Option.{option_map}
-use Rattle.std.specs.Prelude.{false, ◌∷◌, Some, None, ℕ, ◌<◌, ◌≤◌, length, List, Contains, ◌≡◌, ◌+◌, ◌*◌, Option, true, slice_set, [], slice_get, ◌≢◌, ◌-◌, not, nat_lt, if◌then◌else◌}
-use Rattle.lq_account_laws.specs.Trail.{down_of}
+use Rattle.std.specs.Prelude.{false, ◌∷◌, Some, None, ℕ, ◌<◌, ◌≤◌, length, List, Contains, ◌≡◌, ◌+◌, Option, true, slice_set, [], slice_get, not, nat_lt, if◌then◌else◌}
 use Rattle.lq_band_laws.specs.Ring.{taken_on}
 use Rattle.lq_band_laws.specs.Three.{Three, at, put}
-use Rattle.lq_device.specs.Station.{StationState}
 use Rattle.lq_model.specs.Account.{Purge as PurgeEvent}
 use Rattle.lq_model.specs.Band.{Band, held_of, taken_by}
 use Rattle.lq_model.specs.Control.{after_purge}
 use Rattle.lq_model.specs.Machine.{Purge, Qdisc}
-use Rattle.lq_model.specs.declared.fate.Cause.TheVariants as cause
 use Rattle.lq_model.specs.declared.fate.Cause.{Cause}
 use Rattle.lq_model.specs.declared.fate.Fate.TheVariants as fate
 use Rattle.lq_model.specs.declared.fate.Info.{Info}
 use Rattle.lq_model.specs.declared.machine.Position.TheVariants.{Control}
-use Rattle.atomic_table.specs.Table.{Step}
-use Rattle.lq_table.specs.Moves.{Sat}
 use Rattle.lq_table.specs.Sees.{view, position, IsSole, account_of}
 use Rattle.lq_table.specs.Views.{View, Left, machine_packets}
 use Rattle.lq_table.specs.declared.shared.Cpu.{Cpu}
@@ -55,20 +50,12 @@ AreKnown v bands = IsSole v → (b : ℕ) → b < 3 → at b bands ≡ (account_
 abbrev pub BeginsPurge : Cause → View → View → Type 0
 BeginsPurge c v w = (bands : Three Band) × (w ≡ begin_purge_view c bands v) × HoldsAtMost v.holder.size bands × HoldPackets v.share.about.infos bands × AreKnown v bands
 
--- for the event that deactivated the station, which the word tells, and with it the trail
-abbrev pub begin_purge_told : Step (Option StationState) → Sat → ℕ → Sat → Type 0
-begin_purge_told _ m found m' = (e : ℕ) × (bits : ℕ) × (bands : Three Band) × (e < 4294967296) × (bits < 16) × (found ≡ bits + 256 * (e + 1)) × HoldsAtMost m.0.holder.size bands × HoldPackets m.0.share.about.infos bands × AreKnown m.0 bands × (down_of m.0.trail ≡ Some e) × (m' ≡ (begin_purge_view (cause.Event e) bands m.0, m.1))
-
 -- begin_hung_purge: the same for a hung device.
 
 module _ {D : Type 0} where
   -- control that has all shares and the run lock, while the device hangs
   abbrev pub MayPurgeHung : Cpu D → Type 0
   MayPurgeHung c = (position c ≡ Control true) × ((view c).share.shares ≡ 1024) × ((view c).holder.station.device.hung ≡ true)
-
--- for the hung device
-abbrev pub begin_hung_purge_told : Step (Option StationState) → Sat → ℕ → Sat → Type 0
-begin_hung_purge_told _ m found m' = (bands : Three Band) × HoldsAtMost m.0.holder.size bands × HoldPackets m.0.share.about.infos bands × AreKnown m.0 bands × (m' ≡ (begin_purge_view (cause.Hung m.0.holder.station.unit) bands m.0, m.1))
 
 -- purge_slot: the slot at the head of a band is loaded, and its packet is taken. In the log it is a load of a slot.
 
@@ -113,12 +100,6 @@ module _ {D : Type 0} where
   -- the packet n is the first that the purge leaves of the band, and it is taken
   abbrev pub TakesFirstLeft : ℕ → ℕ → Left → Cpu D → Cpu D → Type 0
   TakesFirstLeft band n l b a = (slice_get (held_of (at band l.bands)) 0 ≡ Some n) × (view a ≡ purge_slot_view band n l (view b))
-
-abbrev pub purge_slot_told : ℕ → Purge → Left → Step (Option StationState) → Sat → ℕ → Sat → Type 0
-purge_slot_told b u l _ m found m' =
-    (found ≡ 0 → (held_of (at b l.bands) ≡ []) × (m' ≡ (purge_slot_view_empty u m.0, m.1)))
-    × (found ≢ 0 → (slice_get (held_of (at b l.bands)) 0 ≡ Some (found - 1)) × (m' ≡ (purge_slot_view b (found - 1) l m.0, m.1)))
-    × (found ≤ 1000000)
 
 -- the purge has passed the last band, and no resize is half done
 abbrev pub HasPassedBands : View → Type 0

@@ -4,7 +4,6 @@ use Rattle.std.specs.Prelude.{ℕ, ◌+◌, ◌==◌, ◌||◌, Bool, false, Lis
 use Rattle.lq_band_laws.specs.HalfResized.{IsBeforeResize, IsRefilled}
 use Rattle.lq_band_laws.specs.Ring.{locked_at, at_start}
 use Rattle.lq_band_laws.specs.Three.{put, Three, at, all_three}
-use Rattle.lq_device.specs.Station.{StationState}
 use Rattle.lq_log.specs.Made.{Made, swap, store}
 use Rattle.lq_model.specs.Account.{Resize, held_in}
 use Rattle.lq_model.specs.Plan.{band_in}
@@ -12,8 +11,6 @@ use Rattle.lq_model.specs.declared.fate.Info.{Info}
 use Rattle.lq_model.specs.declared.machine.Phase.TheVariants.{Active, Closing, Quiet, Purged}
 use Rattle.lq_model.specs.declared.machine.Phase.{Phase}
 use Rattle.lq_ring_core.specs.Slots.{round}
-use Rattle.atomic_table.specs.Table.{Step}
-use Rattle.lq_table.specs.Moves.{Sat}
 use Rattle.lq_table.specs.Places.{slot_word, producer_place, size_place}
 use Rattle.lq_table.specs.Rule.{IsResting}
 use Rattle.lq_table.specs.Sees.{view, lock_at, IsSole, account_of}
@@ -100,14 +97,6 @@ BeginsResize infos limit len event v w = (held : ℕ → List ℕ) × (slots : T
     × (v.control.phase ≡ Purged → (b : ℕ) → b < 3 → held b ≡ [])
     × (IsSole v → (b : ℕ) → b < 3 → held b ≡ held_in (account_of v) b)
 
--- the load of the size word that begins it
-abbrev pub begin_resize_told : List Info → ℕ → ℕ → ℕ → Step (Option StationState) → Sat → ℕ → Sat → Type 0
-begin_resize_told infos limit len event _ m found m' = (held : ℕ → List ℕ) × (slots : Three (List ℕ)) × (m' ≡ (begin_resize_view (resizing_of len event held slots) m.0, m.1))
-    × ((b : ℕ) → b < 3 → IsBeforeResize m.0.holder.size limit (at b slots) (held b) (at b m.0.holder.ends))
-    × ((b n : ℕ) → b < 3 → Contains (held b) n → (band_in infos n ≡ b) × (n < length infos))
-    × (m.0.control.phase ≡ Purged → (b : ℕ) → b < 3 → held b ≡ [])
-    × (IsSole m.0 → (b : ℕ) → b < 3 → held b ≡ held_in (account_of m.0) b)
-
 -- clear_slot: a slot is emptied, and a packet that its band has comes into the hand.
 
 abbrev pub clear_slot_log : Setup → ℕ → ℕ → ℕ → Made
@@ -121,10 +110,6 @@ module _ {D : Type 0} where
   -- the slot i of the band is emptied in the resize t, and this stood there
   abbrev pub ClearsSlot : ℕ → ℕ → HalfResize → ℕ → Cpu D → Cpu D → Type 0
   ClearsSlot band i t found b a = (found ≡ slice_index (at band t.works).slots i) × (view a ≡ clear_slot_view band i t (view b)) × (is_member found (at band t.works) ≡ true → found ≤ 1000000)
-
-abbrev pub clear_slot_told : ℕ → ℕ → HalfResize → Step (Option StationState) → Sat → ℕ → Sat → Type 0
-clear_slot_told b i t _ m found m' =
-    (found ≡ slice_index (at b t.works).slots i) × (m' ≡ (clear_slot_view b i t m.0, m.1)) × (is_member found (at b t.works) ≡ true → found ≤ 1000000)
 
 -- fill_slot: a packet is put from the hand into an empty slot. In the log it is a store of a slot.
 

@@ -1,14 +1,10 @@
 -- Cutting a seat in two, and joining two.
-use Rattle.std.specs.Prelude.{ℕ, List, [], ◌∷◌, if◌then◌else◌, eqb, ◌-◌, false, ◌≡◌, Option, None, slice_set, slice_index, ◌+◌, ◌++◌, true, ◌≤◌}
+use Rattle.std.specs.Prelude.{ℕ, List, [], ◌∷◌, if◌then◌else◌, eqb, ◌-◌, false, ◌≡◌, None, slice_set, slice_index, ◌+◌, ◌++◌, true}
 use Rattle.lq_band_laws.specs.Ring.{unlocked}
 use Rattle.lq_band_laws.specs.Three.{all_three}
-use Rattle.lq_device.specs.Station.{StationState}
 use Rattle.lq_model.specs.Machine.{idle_seat, Qdisc}
-use Rattle.atomic_table.specs.Table.{Step}
-use Rattle.atomic_table.specs.declared.shared.Seat.{Seat}
-use Rattle.lq_table.specs.Moves.{Sat}
 use Rattle.lq_table.specs.Sees.{view, slot}
-use Rattle.lq_table.specs.Views.{View, no_packets, not_first, not_holding, State, Known}
+use Rattle.lq_table.specs.Views.{View, no_packets, not_first, not_holding, State}
 use Rattle.lq_table.specs.declared.shared.Cpu.{Cpu}
 
 -- split: a new seat gets one share and an owner of the seat that it is cut off from.
@@ -37,10 +33,6 @@ split_view_new o v = record {
   trail = [];
 }
 
--- a new seat of the same table, with one share, this owner and none of the slots
-abbrev pub IsSeatSplitOff : ℕ → Seat (Option StationState) Known → Seat (Option StationState) Known → Type 0
-IsSeatSplitOff owner from s = (s.table_id ≡ from.table_id) × (s.me.1 ≡ []) × (s.me.0.view ≡ split_view_new owner from.me.0.view)
-
 module _ {D : Type 0} where
   -- a new seat with its indices, of the same table, with one share and this owner, which carries no station
   abbrev pub IsSplitOff : ℕ → Cpu D → Cpu D → Type 0
@@ -67,10 +59,3 @@ join_view v w = record v {
 -- the whole state is told
 abbrev pub learn_view : Qdisc → State → View → View
 learn_view q g v = record v { whole = record { told = true; qdisc = q; state = g } }
-
-abbrev pub learn_told : Step (Option StationState) → Sat → ℕ → Sat → Type 0
-learn_told _ m found m' = (q : Qdisc) × (g : State) × (m' ≡ (learn_view q g m.0, m.1))
-
--- the whole state, and that it has no more shares than there are
-abbrev pub learn_told_all : Step (Option StationState) → Sat → ℕ → Sat → Type 0
-learn_told_all step m found m' = learn_told step m found m' × (m.0.share.shares ≤ 1024)

@@ -1,10 +1,10 @@
 -- The steps on the state word. Of each step: its name in the log, where a seat may make it, what it makes of the seat's view, what it makes
 -- of a seat that has the table alone, what it tells such a seat, and what it tells each seat.
 use Rattle.std.specs.Option.{option_map}
-use Rattle.std.specs.Prelude.{Bool, ◌||◌, ℕ, ◌≡◌, ◌<◌, ◌*◌, ◌+◌, Some, is_some, true, false, Option, None, ◌-◌, ◌/◌, if◌then◌else◌, not, ◌∷◌}
+use Rattle.std.specs.Prelude.{Bool, ◌||◌, ℕ, ◌≡◌, ◌<◌, ◌*◌, ◌+◌, Some, is_some, true, false, None, ◌-◌, ◌/◌, if◌then◌else◌, not, ◌∷◌}
 use Rattle.lq_account_laws.specs.Trail.{down_of}
 use Rattle.lq_device.specs.Station.{StationState, with_slot, HasAnswered}
-use Rattle.lq_log.specs.Made.{Made, load, set, clear, becomes}
+use Rattle.lq_log.specs.Made.{Made, load, set, clear}
 use Rattle.lq_model.specs.Account.{Refuse, Direct, Back}
 use Rattle.lq_model.specs.Machine.{Qdisc}
 use Rattle.lq_model.specs.Positions.{in_hand}
@@ -14,11 +14,10 @@ use Rattle.lq_model.specs.declared.machine.Answer.TheVariants.{Plain}
 use Rattle.lq_model.specs.declared.machine.Packet.{Packet}
 use Rattle.lq_model.specs.declared.machine.Position.TheVariants.{Control, Post, Test, Tail, Soft, Late, Miss, Sched, SoftClear, ClearMissed, BlockedClear, ClearDraining, BlockedMiss, Again, Quota, BlockedDrain, Xmit, Unlock}
 use Rattle.lq_model.specs.declared.machine.Position.{Position}
-use Rattle.atomic_table.specs.Table.{Step}
-use Rattle.lq_table.specs.Moves.{is_set, seen_by, stepped, Sat, moved, past_with, on_trail, pass_view}
+use Rattle.lq_table.specs.Moves.{is_set, seen_by, stepped, moved, past_with, on_trail, pass_view}
 use Rattle.lq_table.specs.Places.{state_place}
 use Rattle.lq_table.specs.Rule.{shown}
-use Rattle.lq_table.specs.Sees.{view, carried, position, account_of, IsSole, Solo, heard, solo}
+use Rattle.lq_table.specs.Sees.{view, carried, position, account_of, Solo, heard, solo}
 use Rattle.lq_table.specs.Views.{View, machine_packet}
 use Rattle.lq_table.specs.declared.shared.Cpu.{Cpu}
 
@@ -77,9 +76,6 @@ load_state_at _ = false
 abbrev pub load_state_view : ℕ → View → View
 load_state_view n v = stepped Plain (seen_state (seen_by v) v.share.about.bypass n) v
 
-abbrev pub load_state_told : Step (Option StationState) → Sat → ℕ → Sat → Type 0
-load_state_told s m found m' = becomes load_state_view s m found m' × (IsSole m.0 → SeesState m.0 found)
-
 -- check: the first load of the state in a transmit. A packet of a deactivated station is refused.
 
 -- the station is deactivated by the event e: the packet n is refused
@@ -90,18 +86,6 @@ check_view_refused n e x v = record (moved Plain (seen_state (seen_by v) v.share
 abbrev pub check_alone : ℕ → ℕ → Solo → Solo
 check_alone n word v = if is_set 2 word then heard (Refuse n (word / 256 - 1)) v else v
 
--- what the first load of the state in a transmit tells a seat alone, and the first seat
-abbrev pub SeesChecked : View → ℕ → Type 0
-SeesChecked v found = (IsSole v → SeesState v found) × (v.control.first ≡ true → SeesDown v found)
-
-abbrev pub check_told : ℕ → Step (Option StationState) → Sat → ℕ → Sat → Type 0
-check_told n _ m found m' =
-    (is_set 2 found ≡ false → m' ≡ (load_state_view found m.0, m.1))
-    × (is_set 2 found ≡ true → HasEvent found (λ e. m' ≡ (check_view_refused n e found m.0, m.1)))
-
-abbrev pub check_told_all : ℕ → Step (Option StationState) → Sat → ℕ → Sat → Type 0
-check_told_all n s m found m' = check_told n s m found m' × SeesChecked m.0 found
-
 -- recheck: the second load, under the run lock. Where nothing waits the packet goes past the bands.
 
 -- nothing waits: the packet n goes past the bands
@@ -111,12 +95,6 @@ recheck_view_direct n x v = record (moved Plain (seen_state (seen_by v) v.share.
 -- and under the run lock: the packet goes past the bands where neither MISSED nor DRAINING is set
 abbrev pub recheck_alone : ℕ → ℕ → Solo → Solo
 recheck_alone n word v = if some_bit word then v else heard (Direct n) v
-
-abbrev pub recheck_told : ℕ → Step (Option StationState) → Sat → ℕ → Sat → Type 0
-recheck_told n _ m found m' = (some_bit found ≡ true → m' ≡ (load_state_view found m.0, m.1)) × (some_bit found ≡ false → m' ≡ (recheck_view_direct n found m.0, m.1))
-
-abbrev pub recheck_told_all : ℕ → Step (Option StationState) → Sat → ℕ → Sat → Type 0
-recheck_told_all n s m found m' = recheck_told n s m found m' × (IsSole m.0 → SeesState m.0 found)
 
 -- MISSED, AFTER A FAILED TRY
 
@@ -133,21 +111,11 @@ miss_at _ = false
 abbrev pub miss_view : Bool → View → View
 miss_view was v = stepped Plain (record (seen_by v) { missed = was }) v
 
-abbrev pub miss_told : Step (Option StationState) → Sat → ℕ → Sat → Type 0
-miss_told s m found m' = becomes (λ found. miss_view (is_set 4 found)) s m found m' × (IsSole m.0 → SeesState m.0 found)
-
 -- look_missed: the state is looked at before MISSED is set. In the log it is a load of the state.
 
 -- MISSED is found set, which does as its set does
 abbrev pub FindsMissed : View → View → Type 0
 FindsMissed v w = (w ≡ miss_view true v) × (solo w ≡ missed_to true (solo v))
-
--- where MISSED is set that is the set, and else nothing is done
-abbrev pub look_missed_told : Step (Option StationState) → Sat → ℕ → Sat → Type 0
-look_missed_told _ m found m' = (is_set 4 found ≡ false → m' ≡ m) × (is_set 4 found ≡ true → m' ≡ (miss_view true m.0, m.1))
-
-abbrev pub look_missed_told_all : Step (Option StationState) → Sat → ℕ → Sat → Type 0
-look_missed_told_all s m found m' = look_missed_told s m found m' × (IsSole m.0 → SeesState m.0 found)
 
 -- SCHED
 
@@ -166,9 +134,6 @@ set_sched_view was v = stepped Plain (record (seen_by v) { sched = was }) v
 
 abbrev pub set_sched_alone : Bool → Solo → Solo
 set_sched_alone was v = record v { raised = v.raised || not was; whole = record v.whole { scheduled = true } }
-
-abbrev pub set_sched_told : Step (Option StationState) → Sat → ℕ → Sat → Type 0
-set_sched_told s m found m' = becomes (λ found. set_sched_view (is_set 1 found)) s m found m' × (IsSole m.0 → SeesState m.0 found)
 
 -- clear_sched: a soft interrupt clears SCHED; its view is that of `pass`.
 

@@ -1,7 +1,6 @@
 -- The steps on the stop words.
 use Rattle.std.specs.Option.{option_map_or, option_map}
-use Rattle.std.specs.Prelude.{ℕ, List, Option, Bool, true, false, ◌≡◌, Some, None, ◌==◌, if◌then◌else◌, ◌&&◌, ◌<◌, length, is_some, slice_index, ◌≢◌, ◌+◌, nat_lt, ◌∷◌, slice_set}
-use Rattle.lq_device.specs.Station.{StationState}
+use Rattle.std.specs.Prelude.{ℕ, List, Option, Bool, true, false, ◌≡◌, Some, None, ◌==◌, if◌then◌else◌, ◌&&◌, ◌<◌, length, is_some, slice_index, ◌+◌, nat_lt, ◌∷◌, slice_set}
 use Rattle.lq_log.specs.Made.{Made, load, store, exchange}
 use Rattle.lq_model.specs.Account.{Pick, Stop as StopEvent, Wake}
 use Rattle.lq_model.specs.Plan.{queue_in}
@@ -13,8 +12,7 @@ use Rattle.lq_model.specs.declared.machine.Blocked.TheVariants.{InHand, NoneTake
 use Rattle.lq_model.specs.declared.machine.Packet.{Packet}
 use Rattle.lq_model.specs.declared.machine.Position.TheVariants.{Gate, Deq, BlockedLoad, Control, Scan, Xmit, BlockedClear, BlockedMiss, BlockedDrain, StoreXoff, Sched}
 use Rattle.lq_model.specs.declared.machine.Position.{Position}
-use Rattle.atomic_table.specs.Table.{Step}
-use Rattle.lq_table.specs.Moves.{past_with, Sat, seen_by, moved}
+use Rattle.lq_table.specs.Moves.{past_with, seen_by, moved}
 use Rattle.lq_table.specs.Places.{xoff_word}
 use Rattle.lq_table.specs.Sees.{steps, setup, Solo, heard, IsSole, account_of, IsAccounts, HasSent}
 use Rattle.lq_table.specs.Views.{Setup, View, machine_packet, HolderPart}
@@ -101,13 +99,6 @@ HasRoomForHand v = holds_lock v.place.position ≡ true → is_some v.holder.han
 abbrev pub SeesXoff : ℕ → View → ℕ → Type 0
 SeesXoff queue v found = (IsSole v → v.whole.state.shut ≡ None → found ≡ slice_index (account_of v).stops queue) × (IsSole v → holds_lock v.place.position ≡ true → IsAccounts v) × (IsSole v → holds_lock v.place.position ≡ true → HasSent v)
 
--- where the holder finds other than 2 the device doesn't hang; and with a packet in hand it has room for that
-abbrev pub load_xoff_told : Step (Option StationState) → Sat → ℕ → Sat → Type 0
-load_xoff_told _ m found m' = (m' ≡ (load_xoff_view found m.0, m.1)) × (holds_lock m.0.place.position ≡ true → found ≢ 2 → m.0.holder.station.device.hung ≡ false) × HasRoomForHand m.0
-
-abbrev pub load_xoff_told_all : ℕ → Step (Option StationState) → Sat → ℕ → Sat → Type 0
-load_xoff_told_all queue s m found m' = load_xoff_told s m found m' × SeesXoff queue m.0 found
-
 -- store_xoff: after an answer of the device a stop word is stored, or each of them where the device hangs.
 
 abbrev pub store_xoff_log : Setup → ℕ → ℕ → Made
@@ -141,12 +132,6 @@ module _ {D : Type 0} where
   abbrev pub LooksAtStop : Shared D → ℕ → Bool → Cpu D → Cpu D → Type 0
   LooksAtStop t queue stopped b a = (found : ℕ) × (stopped ≡ (found == 1)) × (steps a ≡ load_xoff_log (setup t) queue found ∷ steps b)
 
-abbrev pub look_stop_told : Step (Option StationState) → Sat → ℕ → Sat → Type 0
-look_stop_told _ m found m' = m' ≡ m
-
-abbrev pub look_stop_told_all : ℕ → Step (Option StationState) → Sat → ℕ → Sat → Type 0
-look_stop_told_all queue s m found m' = look_stop_told s m found m' × (IsSole m.0 → found ≡ slice_index (account_of m.0).stops queue)
-
 -- wake: a stopped queue is opened.
 
 abbrev pub wake_log : Setup → ℕ → Bool → Made
@@ -154,9 +139,3 @@ wake_log k queue opened = exchange (xoff_word k queue) 1 0 opened
 
 abbrev pub wake_view : ℕ → View → View
 wake_view queue v = record v { place = record v.place { position = Sched false }; whole = record v.whole { qdisc = record v.whole.qdisc { xoff = slice_set v.whole.qdisc.xoff queue 0 }; state = past_with (Wake queue) v.whole.state } }
-
-abbrev pub wake_told : ℕ → Step (Option StationState) → Sat → ℕ → Sat → Type 0
-wake_told queue _ m found m' = (found ≡ 1 → m' ≡ (wake_view queue m.0, m.1)) × (found ≢ 1 → m' ≡ m)
-
-abbrev pub wake_told_all : ℕ → Step (Option StationState) → Sat → ℕ → Sat → Type 0
-wake_told_all queue s m found m' = wake_told queue s m found m' × (IsSole m.0 → found ≡ slice_index (account_of m.0).stops queue)

@@ -1,21 +1,11 @@
 -- The steps on the turn words.
-use Rattle.std.specs.Prelude.{◌≡◌, ℕ, ◌<◌, length, Bool, ◌+◌, ◌*◌, Some, slice_set, slice_index, ◌≢◌, Option, None}
-use Rattle.lq_device.specs.Station.{StationState}
+use Rattle.std.specs.Prelude.{◌≡◌, ℕ, Bool, ◌+◌, ◌*◌, Some, slice_set, slice_index, ◌≢◌, None}
 use Rattle.lq_log.specs.Made.{Made, exchange, store, load}
-use Rattle.lq_model.specs.Plan.{station_in}
-use Rattle.atomic_table.specs.Table.{Step}
-use Rattle.lq_table.specs.Moves.{Sat}
 use Rattle.lq_table.specs.Places.{turn_place}
-use Rattle.lq_table.specs.Rule.{times}
 use Rattle.lq_table.specs.Sees.{packet_owner, packet_rank, view}
 use Rattle.lq_table.specs.Views.{View}
 use Rattle.lq_table.specs.declared.shared.Cpu.{Cpu}
 use Rattle.lq_table.specs.declared.shared.Shared.{Shared}
-
-module _ {D : Type 0} where
-  -- a packet of the station, with its owner and rank
-  abbrev pub IsRankedPacket : Shared D → ℕ → ℕ → ℕ → Type 0
-  IsRankedPacket t n owner rank = (n < length t.infos.now) × (station_in t.infos.now n ≡ t.station) × (owner ≡ packet_owner t n) × (rank ≡ packet_rank t n)
 
 -- take_turn: the turn of a packet, which has this rank of its owner's packets, is taken where it is due.
 
@@ -35,9 +25,6 @@ module _ {D : Type 0} where
   abbrev pub FindsTurnWord : Shared D → ℕ → Cpu D → Cpu D → ℕ → Type 0
   FindsTurnWord t n b a found = (found ≡ slice_index (view b).turns (packet_owner t n)) × (found ≢ 2 * packet_rank t n) × (view a ≡ view b)
 
-abbrev pub take_turn_told : ℕ → ℕ → ℕ → Step (Option StationState) → Sat → ℕ → Sat → Type 0
-take_turn_told n owner rank _ m found m' = (found ≡ slice_index m.0.turns owner) × (found ≡ 2 * rank → m' ≡ (take_turn_view n owner rank m.0, m.1)) × (found ≢ 2 * rank → m' ≡ m)
-
 -- give_turn: it is over.
 
 abbrev pub give_turn_log : ℕ → ℕ → Made
@@ -51,6 +38,3 @@ give_turn_view owner rank v = record v { packets = record v.packets { busy = Non
 
 abbrev pub load_turn_log : ℕ → ℕ → Made
 load_turn_log owner found = load (turn_place owner) found
-
-abbrev pub load_turn_told : ℕ → Step (Option StationState) → Sat → ℕ → Sat → Type 0
-load_turn_told owner _ m found m' = (m' ≡ m) × (0 < times owner m.0.share.owners → found ≡ slice_index m.0.turns owner)

@@ -1,33 +1,17 @@
 //! The steps on the count of calls inside.
 ghost use Rattle.std.specs.Prelude.{◌≡◌, ◌<◌, true, is_some, ◌∷◌};
 ghost use Rattle.lq_model.specs.declared.machine.Position.TheVariants.{Leave as AtLeave};
-ghost use Rattle.lq_table.specs.Marks.{marks_of};
-ghost use Rattle.lq_table.specs.Sees.{view, position, IsSeatOf, IsElseSame, steps, ComesToKnow, IsMarkedSeatOf, solo};
+ghost use Rattle.lq_table.specs.Sees.{view, position, IsSeatOf, IsElseSame, steps, solo};
 ghost use Rattle.lq_table.specs.Moves.{at_rest, pass_view};
 ghost use Rattle.lq_table.specs.Inside.{bringing_packet, enter_view, MayEnter, enter_alone, enter_log, leave_log};
 
-use crate::marks::Marks;
+use crate::marked::Marked;
 use crate::places::INSIDE;
 use crate::shared::{Cpu, Shared};
-use crate::view::Knowledge;
-use atomic_table::Seat;
-use lq_device::{Station, TxDevice};
-use lq_log::Knows;
+use lq_device::TxDevice;
 use std::marker::Brand;
 
 impl<'a, D: TxDevice> Shared<'a, D> {
-    fn enter_seat(&self, seat: &mut Seat<Option<Station<D>>, Knows<Knowledge>>, marks: &mut Marks)
-        requires seat { IsMarkedSeatOf self.now seat.old marks.old }
-        requires at { at_rest seat.old.me.0.view.place.position ≡ true }
-        requires call { MayEnter seat.old.me.0.view }
-        ensures seat { ComesToKnow (enter_view seat.old.me.0.view) seat.old seat.new }
-        ensures told { marks.new ≡ marks_of seat.new.me.0.view }
-        ensures made { seat.new.me.0.steps ≡ enter_log ∷ seat.old.me.0.steps }
-    {
-        self.fetch_add_word::<Brand, _>(seat, INSIDE, 1, &());
-        marks.raised = marks.raised && marks.busy;
-    }
-
     /// A call begins: a transmit of the packet that the seat brings, or else, where it has no packet's turn, a soft
     /// interrupt, which takes the raised mark down. The count of calls inside rises by one, as on entry to the read side of
     /// RCU in `__dev_queue_xmit` and in `net_tx_action` (net/core/dev.c).
@@ -40,7 +24,9 @@ impl<'a, D: TxDevice> Shared<'a, D> {
         ensures step { solo (view cpu.new) ≡ enter_alone (is_some (bringing_packet (view cpu.old))) (solo (view cpu.old)) }
         ensures made { steps cpu.new ≡ enter_log ∷ steps cpu.old }
     {
-        self.enter_seat(&mut cpu.known.seat, &mut cpu.known.marks);
+        let Marked { seat, marks } = &mut cpu.known;
+        self.fetch_add_word::<Brand, _>(seat, INSIDE, 1, &());
+        marks.raised = marks.raised && marks.busy;
     }
 
     /// A call ends: the count of calls inside falls by one.

@@ -4,52 +4,17 @@ ghost use Rattle.lq_model.specs.Plan.{station_in};
 ghost use Rattle.lq_band_laws.specs.Ring.{unlocked};
 ghost use Rattle.lq_band_laws.specs.Three.{all_three};
 ghost use Rattle.lq_table.specs.Rule.{times};
-ghost use Rattle.lq_table.specs.Marks.{marks_of};
-ghost use Rattle.lq_table.specs.Sees.{view, position, IsSeatOf, IsElseSame, steps, packet_owner, packet_rank, IsMarkedSeatOf};
-ghost use Rattle.lq_table.specs.Turns.{FindsTurnWord, IsRankedPacket, TakesTurn, take_turn_view, give_turn_view, give_turn_log, load_turn_log, take_turn_log};
+ghost use Rattle.lq_table.specs.Sees.{view, position, IsSeatOf, IsElseSame, steps, packet_owner, packet_rank};
+ghost use Rattle.lq_table.specs.Turns.{FindsTurnWord, TakesTurn, take_turn_view, give_turn_view, give_turn_log, load_turn_log, take_turn_log};
 ghost use Rattle.lq_table.specs.Moves.{at_rest};
 
-use crate::marks::Marks;
+use crate::marked::Marked;
 use crate::places::turn_word;
 use crate::shared::{Cpu, Shared};
-use crate::view::Knowledge;
-use atomic_table::Seat;
-use lq_device::{Station, TxDevice};
-use lq_log::Knows;
+use lq_device::TxDevice;
 use std::marker::Brand;
 
 impl<'a, D: TxDevice> Shared<'a, D> {
-    fn take_turn_at(
-        &self,
-        seat: &mut Seat<Option<Station<D>>, Knows<Knowledge>>,
-        marks: &mut Marks,
-        n: u32,
-        owner: u32,
-        rank: u32,
-    ) -> u64
-        requires seat { IsMarkedSeatOf self.now seat.old marks.old }
-        requires packet { IsRankedPacket self.now n owner rank }
-        requires owner { (0 < times owner seat.old.me.0.view.share.owners) × (owner < self.now.senders) × (seat.old.me.0.view.packets.busy ≡ None) }
-        ensures same { (seat.new.table_id ≡ seat.old.table_id) × (seat.new.id ≡ seat.old.id) × (seat.new.me.1 ≡ seat.old.me.1) }
-        ensures found { result ≡ slice_index seat.old.me.0.view.turns owner }
-        ensures taken { result ≡ 2 * rank → seat.new.me.0.view ≡ take_turn_view n owner rank seat.old.me.0.view }
-        ensures other { result ≢ 2 * rank → seat.new.me.0.view ≡ seat.old.me.0.view }
-        ensures told { marks.new ≡ marks_of seat.new.me.0.view }
-        ensures made { seat.new.me.0.steps ≡ take_turn_log owner rank (result == 2 * rank) ∷ seat.old.me.0.steps }
-    {
-        let free = 2 * rank as u64;
-        let word = turn_word(owner);
-        let found = self.compare_exchange_word::<Brand, _>(
-            seat,
-            word,
-            free,
-            free + 1,
-            &(n, owner, rank),
-        );
-        marks.busy = found == free;
-        found
-    }
-
     /// Takes the turn of packet `n`, which the seat then brings. Only a seat that has the packet's owner, and brings no
     /// packet, may ask. It is refused, with the turn word as it is, where that isn't twice the packet's rank: then it isn't
     /// the next of its owner's packets at this station.
@@ -64,34 +29,13 @@ impl<'a, D: TxDevice> Shared<'a, D> {
     {
         let owner = self.infos[n as usize].owner as u32;
         let rank = self.infos[n as usize].rank;
-        let found = self.take_turn_at(&mut cpu.known.seat, &mut cpu.known.marks, n, owner, rank);
-        if found == 2 * rank as u64 {
-            Ok(())
-        } else {
-            Err(found)
-        }
-    }
-
-    fn give_turn_at(
-        &self,
-        seat: &mut Seat<Option<Station<D>>, Knows<Knowledge>>,
-        marks: &mut Marks,
-        n: u32,
-        owner: u32,
-        rank: u32,
-    )
-        requires seat { IsMarkedSeatOf self.now seat.old marks.old }
-        requires packet { (owner ≡ packet_owner self.now n) × (rank ≡ packet_rank self.now n) × (owner < self.now.senders) }
-        requires busy { (seat.old.me.0.view.packets.busy ≡ Some n) × (seat.old.me.0.view.packets.fresh ≡ None) × (at_rest seat.old.me.0.view.place.position ≡ true) }
-        ensures same { (seat.new.table_id ≡ seat.old.table_id) × (seat.new.id ≡ seat.old.id) × (seat.new.me.1 ≡ seat.old.me.1) }
-        ensures given { seat.new.me.0.view ≡ give_turn_view owner rank seat.old.me.0.view }
-        ensures told { marks.new ≡ marks_of seat.new.me.0.view }
-        ensures made { seat.new.me.0.steps ≡ give_turn_log owner rank ∷ seat.old.me.0.steps }
-    {
-        let next = 2 * rank as u64 + 2;
+        let free = 2 * rank as u64;
         let word = turn_word(owner);
-        self.store_word::<Brand, _>(seat, word, next, &(owner, rank));
-        marks.busy = false;
+        let Marked { seat, marks } = &mut cpu.known;
+        let about = (n, owner, rank);
+        let found = self.compare_exchange_word::<Brand, _>(seat, word, free, free + 1, &about);
+        marks.busy = found == free;
+        if found == free { Ok(()) } else { Err(found) }
     }
 
     /// Gives back the turn of packet `n`, which has left the seat's hand. It is the last step of a transmit: the seat is in no call and has
@@ -107,7 +51,10 @@ impl<'a, D: TxDevice> Shared<'a, D> {
     {
         let owner = self.infos[n as usize].owner as u32;
         let rank = self.infos[n as usize].rank;
-        self.give_turn_at(&mut cpu.known.seat, &mut cpu.known.marks, n, owner, rank);
+        let word = turn_word(owner);
+        let Marked { seat, marks } = &mut cpu.known;
+        self.store_word::<Brand, _>(seat, word, 2 * rank as u64 + 2, &(owner, rank));
+        marks.busy = false;
     }
 
     /// Loads the turn word of `owner`: twice the rank of its next packet, and one more while that packet's turn is taken.

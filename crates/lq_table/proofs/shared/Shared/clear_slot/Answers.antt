@@ -1,3 +1,4 @@
+mod Kept
 use Rattle.std.proofs.Common.{◌≡◌, ℕ, ◌<◌, ◌≤◌, arith, sym, subst, ap, length, List, Option}
 use mathlib.Core.Option.{none}
 use Rattle.lq_model.specs.declared.fate.Info.{Info}
@@ -7,8 +8,8 @@ use Rattle.lq_table.specs.Keyed.{keyed_setup}
 use Rattle.lq_table.proofs.ByName.{slot_within}
 use Rattle.std.specs.Option.{unwrap_or}
 use Rattle.lq_table.specs.Views.{HalfResize, no_resizing}
-use Rattle.lq_table.specs.Resizes.{clear_slot_told}
-use Rattle.lq_table.proofs.ResizeSlotsKept.{clears_slot}
+use Rattle.lq_table.proofs.shared.Shared.clear_slot.Invariants.{clear_slot_told}
+use Rattle.lq_table.proofs.shared.Shared.clear_slot.Answers.Kept.{clears_slot}
 use Rattle.lq_log.specs.Made.{seen}
 use Rattle.lq_table.proofs.shared.Shared.clear_slot.Goals as goal
 

@@ -1,3 +1,4 @@
+mod Kept
 use Rattle.std.proofs.Common.{sym, ◌≡◌, ℕ, ◌+◌, ◌<◌, arith, ap, ◌∙◌, subst, drop, List, Option}
 use mathlib.Core.Option.{none}
 use Rattle.atomic_table.specs.Table.{step, Allows}
@@ -8,7 +9,7 @@ use Rattle.std.specs.Option.{unwrap_or}
 use Rattle.lq_band_laws.specs.Three.{at}
 use Rattle.lq_table.specs.Views.{HalfResize, no_resizing}
 use Rattle.lq_table.specs.Resizes.{fill_slot_view}
-use Rattle.lq_table.proofs.ResizeSlotsKept.{fills_slot}
+use Rattle.lq_table.proofs.shared.Shared.fill_slot.Answers.Kept.{fills_slot}
 use Rattle.lq_log.specs.Made.{seen, becomes}
 use Rattle.lq_table.proofs.shared.Shared.fill_slot.Goals as goal
 

@@ -7,12 +7,12 @@ use Rattle.atomic_table.specs.Table.{step, Allows}
 use Rattle.lq_table.specs.Rule.{Rule, slot_word}
 use Rattle.lq_table.specs.Keyed.{keyed_setup}
 use Rattle.lq_table.proofs.ByName.{slot_within}
-use Rattle.lq_table.specs.Consumers.{head_slot_told_all}
 use Rattle.lq_table.proofs.shared.Shared.head_slot.Answers.Marks.{head_marks}
 use Rattle.lq_table.proofs.shared.Shared.head_slot.Answers.Kept.{sees_head_sole}
 use Rattle.lq_log.specs.Made.{seen}
 use Rattle.lq_table.specs.Producers.{load_slot_log}
 use Rattle.lq_table.specs.Sees.{setup, steps, ends_at}
+use Rattle.lq_table.proofs.shared.Shared.head_slot.Invariants.{head_slot_told_all}
 use Rattle.lq_table.proofs.CodeReads.{head_read}
 use Rattle.lq_table.proofs.shared.Shared.head_slot.Goals as goal
 

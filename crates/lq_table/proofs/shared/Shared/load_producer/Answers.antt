@@ -5,7 +5,7 @@ use Rattle.atomic_table.specs.Table.{step, Allows}
 use Rattle.lq_table.specs.Places.{producer_place}
 use Rattle.lq_table.specs.Rule.{Rule}
 use Rattle.lq_table.specs.Keyed.{keyed_setup}
-use Rattle.lq_table.specs.Producers.{load_producer_told}
+use Rattle.lq_table.proofs.shared.Shared.load_producer.Invariants.{load_producer_told}
 use Rattle.lq_table.proofs.shared.Shared.load_producer.Answers.Kept.{loads_producer}
 use Rattle.lq_log.specs.Made.{seen}
 use Rattle.lq_table.proofs.shared.Shared.load_producer.Goals as goal

@@ -5,7 +5,7 @@ use Rattle.atomic_table.specs.Table.{step, Allows}
 use Rattle.lq_table.specs.Places.{turn_place}
 use Rattle.lq_table.specs.Rule.{Rule}
 use Rattle.lq_table.specs.Keyed.{keyed_setup}
-use Rattle.lq_table.specs.Turns.{load_turn_told}
+use Rattle.lq_table.proofs.shared.Shared.load_turn.Invariants.{load_turn_told}
 use Rattle.lq_table.proofs.shared.Shared.load_turn.Answers.Kept.{loads_turn}
 use Rattle.lq_log.specs.Made.{seen}
 use Rattle.lq_table.proofs.shared.Shared.load_turn.Goals as goal

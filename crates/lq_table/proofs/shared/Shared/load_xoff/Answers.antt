@@ -7,8 +7,9 @@ use Rattle.lq_model.specs.declared.fate.Info.{Info}
 use Rattle.atomic_table.specs.Table.{step, Allows}
 use Rattle.lq_table.specs.Rule.{Rule}
 use Rattle.lq_table.specs.Keyed.{keyed_setup}
-use Rattle.lq_table.specs.Stops.{load_xoff_queue, load_xoff_told_all}
+use Rattle.lq_table.specs.Stops.{load_xoff_queue}
 use Rattle.lq_table.specs.Sees.{solo}
+use Rattle.lq_table.proofs.shared.Shared.load_xoff.Invariants.{load_xoff_told_all}
 use Rattle.lq_table.proofs.ByName.{xoff_in}
 use Rattle.lq_table.proofs.shared.Shared.load_xoff.Answers.Kept.{loads_stop_sole}
 use Rattle.lq_table.proofs.shared.Shared.load_xoff.Answers.Alone.{loads_stop_solo}

@@ -3,7 +3,7 @@ use Rattle.std.proofs.Common.{◌≡◌, ℕ, ◌<◌, arith, sym, ap, subst}
 use Rattle.atomic_table.specs.Table.{step, Allows}
 use Rattle.lq_table.specs.Rule.{Rule}
 use Rattle.lq_table.specs.Keyed.{keyed_setup}
-use Rattle.lq_table.specs.Stops.{look_stop_told_all}
+use Rattle.lq_table.proofs.shared.Shared.look_stop.Invariants.{look_stop_told_all}
 use Rattle.lq_table.proofs.shared.Shared.look_stop.Answers.Kept.{looks_stop_sole}
 use Rattle.lq_table.proofs.ByName.{xoff_in}
 use mathlib.Core.Option.{none}

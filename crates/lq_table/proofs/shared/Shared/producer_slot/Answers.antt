@@ -11,8 +11,8 @@ use Rattle.lq_band_laws.specs.Three.{at}
 use Rattle.lq_table.specs.Views.{machine_packet}
 use Rattle.lq_table.specs.Rule.{Rule, slot_word}
 use Rattle.lq_table.specs.Keyed.{keyed_setup}
+use Rattle.lq_table.proofs.shared.Shared.producer_slot.Invariants.{producer_slot_told_all}
 use Rattle.lq_table.proofs.ByName.{slot_within}
-use Rattle.lq_table.specs.Producers.{producer_slot_told_all}
 use Rattle.lq_table.proofs.shared.Shared.producer_slot.Answers.Sole.{sees_slot_sole}
 use Rattle.lq_log.specs.Made.{seen}
 use Rattle.lq_table.proofs.shared.Shared.producer_slot.Goals as goal

@@ -11,12 +11,13 @@ use Rattle.lq_log.specs.Made.{seen}
 use Rattle.std.specs.Option.{unwrap_or}
 use Rattle.lq_model.specs.Machine.{Purge}
 use Rattle.lq_table.specs.Views.{Left, no_left}
-use Rattle.lq_table.specs.Purges.{purge_slot_told, first_purge, purge_slot_view_empty, purge_slot_view}
+use Rattle.lq_table.specs.Purges.{first_purge, purge_slot_view_empty, purge_slot_view}
 use Rattle.lq_model.specs.Band.{held_of}
 use Rattle.lq_band_laws.specs.Three.{at}
 use Rattle.lq_table.specs.Moves.{Sat}
 use Rattle.lq_table.specs.Producers.{load_slot_log}
 use Rattle.lq_table.specs.Sees.{view, setup, steps, ends_at}
+use Rattle.lq_table.proofs.shared.Shared.purge_slot.Invariants.{purge_slot_told}
 use Rattle.lq_table.proofs.CodeReads.{head_read}
 use Rattle.lq_table.proofs.shared.Shared.purge_slot.Goals as goal
 

@@ -1,14 +1,8 @@
-mod Alone
-use Rattle.std.proofs.Common.{not, refl, ap, ◌∙◌}
+mod Kept
+use Rattle.std.proofs.Common.{not, refl, ap, ◌∙◌, arith}
 use Rattle.lq_table.specs.Sees.{solo}
-use Rattle.lq_table.proofs.shared.Shared.set_sched.Answers.Alone.{schedules_solo}
+use Rattle.lq_table.proofs.shared.Shared.set_sched.Answers.Kept.{schedules_sole}
 use Rattle.lq_table.proofs.shared.Shared.set_sched.Goals as goal
 
-pub returns : goal.returns
-returns g c = let t = c.set_sched_at.ensures in record {
-  same = ((t.seat.0, t.seat.1), refl, refl, t.seat.2);
-  view = t.seat.3;
-  step = ap solo t.seat.3 ∙ schedules_solo (not c.set_sched_at.result) c.args.cpu.now.known.seat.me.0.view c.requires.at;
-  sole = t.sole;
-  made = t.made;
-}
+pub fetch_or_word-requires : goal.fetch_or_word-requires
+fetch_or_word-requires g c = (c.type_bounds.send-D, ((c.requires.seat.0, (let wide = c.args.self.now.sized.0 in omega arith), schedules_sole _ _ _ _ c.requires.at c.requires.seat.1)))

@@ -9,12 +9,12 @@ use mathlib.Core.Logic.{dite}
 use native.Mathlib.Decide.{ℕ_discrete}
 use Rattle.lq_table.specs.Marks.{marks_of}
 use Rattle.lq_table.specs.Moves.{Sat}
-use Rattle.lq_table.specs.Producers.{take_producer_told_all}
 use Rattle.lq_table.proofs.shared.Shared.take_producer.Answers.Kept.{gets_producer_sole}
 use prog.Atomic.{either}
 use Rattle.std.proofs.Common.{eqb}
 use Rattle.lq_log.specs.Made.{seen, exchange}
 use Rattle.lq_table.specs.Sees.{view, steps, IsSole}
+use Rattle.lq_table.proofs.shared.Shared.take_producer.Invariants.{take_producer_told_all}
 use Rattle.std.proofs.lemmas.Bool.{false≢true}
 use Rattle.lq_table.proofs.shared.Shared.take_producer.Goals as goal
 

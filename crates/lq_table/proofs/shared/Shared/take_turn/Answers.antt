@@ -1,35 +1,53 @@
-use Rattle.std.proofs.Common.{ℕ, ◌*◌, ◌<◌, subst, ◌∷◌, refl, sym, ap, ◌∙◌, slice_index, eq-eqb, ne_eqb}
-use Rattle.lq_table.specs.Turns.{take_turn_log, take_turn_view}
-use Rattle.lq_table.specs.Rule.{times}
+mod Kept
+use Rattle.std.proofs.Common.{◌≡◌, ℕ, ◌+◌, ◌*◌, ◌<◌, arith, refl, sym, ap, ◌∙◌, subst, length, List, ◌∷◌, slice_index, eqb, eq-eqb, ne_eqb}
+use mathlib.Core.Option.{none}
+use prog.Atomic.{either}
+use Rattle.lq_model.specs.declared.fate.Info.{Info}
+use Rattle.lq_model.specs.Plan.{owner_in, station_in, rank_in}
+use Rattle.atomic_table.specs.Table.{step, Allows}
+use Rattle.lq_table.specs.Places.{turn_place}
+use Rattle.lq_table.specs.Rule.{Rule, times}
+use Rattle.lq_table.specs.Keyed.{keyed_setup}
+use Rattle.lq_table.specs.Turns.{take_turn_view}
+use Rattle.lq_table.specs.Moves.{Sat}
 use Rattle.lq_table.specs.Sees.{view, steps}
+use Rattle.lq_table.proofs.shared.Shared.take_turn.Invariants.{take_turn_told}
 use Rattle.lq_table.proofs.CodeReads.{no_info, owner_read, rank_read}
+use Rattle.lq_table.proofs.shared.Shared.take_turn.Answers.Kept.{takes_turn}
+use Rattle.lq_log.specs.Made.{seen, exchange}
 use Rattle.lq_table.proofs.shared.Shared.take_turn.Goals as goal
 
-pub returns-then-found-rank : goal.returns-then-found-rank
-returns-then-found-rank g c =
-    let infos = c.args.self.now.infos.now in let n = c.args.n in let v = view c.args.cpu.now in let t = c.take_turn_at-found.ensures in let is = c.if-found-rank.true in
-    let owner = owner_read infos n no_info c.requires.packet.0 in let rank = rank_read infos n no_info c.requires.packet.0 in record {
-      same = ((t.same.0, t.same.1), refl, refl, t.same.2);
-      turn = (sym (t.found ∙ ap (slice_index v.turns) owner) ∙ (is ∙ ap (λ (r : ℕ). 2 * r) rank), t.taken is ∙ (λ j. take_turn_view n (owner j) (rank j) v));
-      made = t.made ∙ (λ j. take_turn_log (owner j) (rank j) (eq-eqb _ _ is j) ∷ steps c.args.cpu.now);
+pub compare_exchange_word-found-requires : goal.compare_exchange_word-found-requires
+compare_exchange_word-found-requires g c = (
+  c.type_bounds.send-D,
+  (
+      let t = c.args.self.now in let k = keyed_setup t.table.kit.shared.key in let slots = t.table.kit.shared.table_id.slots in let seat = c.args.cpu.now.known.seat in let n = c.args.n in let p = c.requires.packet in
+      let inside : n < length k.infos = subst (λ (xs : List Info). n < length xs) (sym t.same.0) p.0 in
+      let here : station_in k.infos n ≡ k.station = ap (λ (xs : List Info). station_in xs n) t.same.0 ∙ (p.1 ∙ sym t.same.4) in
+      let same = ap (λ (xs : List Info). owner_in xs n) (sym t.same.0) in
+      let owner = owner_read t.infos.now n no_info p.0 ∙ same in let rank = rank_read t.infos.now n no_info p.0 ∙ ap (λ (xs : List Info). rank_in xs n) (sym t.same.0) in
+      let mine : 0 < times (owner_in k.infos n) seat.me.0.view.share.owners = subst (λ (x : ℕ). 0 < times x seat.me.0.view.share.owners) same c.requires.owner.0 in (
+        c.requires.seat.0,
+        (let wide = t.sized.0 in let small = c.requires.owner.1 in let q = c.turn_word-word.ensures in let o = owner_read t.infos.now n no_info p.0 in let x : c.turn_word-word.result < t.table.kit.shared.table_id.words = omega arith in x),
+        subst (λ (z : ℕ × ℕ × ℕ). Allows (Rule k) slots seat.id (seen seat.me) z.2 (λ x. either (eqb x (2 * z.1)) (2 * z.1 + 1) x) (take_turn_told n z.0 z.1 (step slots z.2 (2 * z.1) (2 * z.1 + 1) none) (seen seat.me)))
+            (λ j. (sym owner j, sym rank j, (ap turn_place (sym owner) ∙ sym c.turn_word-word.ensures) j)) (takes_turn k slots seat.id (seen seat.me) n inside here mine c.requires.idle c.requires.seat.1),
+      )),
+)
+
+pub returns-then-found-free : goal.returns-then-found-free
+returns-then-found-free g c =
+    let infos = c.args.self.now.infos.now in let n = c.args.n in let v = view c.args.cpu.now in let e = c.compare_exchange_word-found.ensures in let t = e.2.told in let is = c.if-found-free.true in
+    let owner = owner_read infos n no_info c.requires.packet.0 in let rank = rank_read infos n no_info c.requires.packet.0 in let word = c.turn_word-word.ensures ∙ ap turn_place owner in record {
+      same = ((e.0, e.1), refl, refl, ap (λ (m : Sat). m.1) (t.1 is));
+      turn = (sym (t.0 ∙ ap (slice_index v.turns) owner) ∙ (is ∙ ap (λ (r : ℕ). 2 * r) rank), ap (λ (m : Sat). m.0) (t.1 is) ∙ (λ j. take_turn_view n (owner j) (rank j) v));
+      made = e.2.noted ∙ (λ j. exchange (word j) (2 * rank j) (2 * rank j + 1) (eq-eqb _ _ is j) ∷ steps c.args.cpu.now);
     }
 
-pub returns-else-found-rank : goal.returns-else-found-rank
-returns-else-found-rank g c =
-    let infos = c.args.self.now.infos.now in let n = c.args.n in let v = view c.args.cpu.now in let t = c.take_turn_at-found.ensures in let apart = c.if-found-rank.false in
-    let owner = owner_read infos n no_info c.requires.packet.0 in let rank = rank_read infos n no_info c.requires.packet.0 in record {
-      same = ((t.same.0, t.same.1), refl, refl, t.same.2);
-      turn = (t.found ∙ ap (slice_index v.turns) owner, λ is. apart (is ∙ ap (λ (r : ℕ). 2 * r) (sym rank)), t.other apart);
-      made = t.made ∙ (λ j. take_turn_log (owner j) (rank j) (ne_eqb _ _ apart j) ∷ steps c.args.cpu.now);
+pub returns-else-found-free : goal.returns-else-found-free
+returns-else-found-free g c =
+    let infos = c.args.self.now.infos.now in let n = c.args.n in let v = view c.args.cpu.now in let e = c.compare_exchange_word-found.ensures in let t = e.2.told in let apart = c.if-found-free.false in
+    let owner = owner_read infos n no_info c.requires.packet.0 in let rank = rank_read infos n no_info c.requires.packet.0 in let word = c.turn_word-word.ensures ∙ ap turn_place owner in record {
+      same = ((e.0, e.1), refl, refl, ap (λ (m : Sat). m.1) (t.2 apart));
+      turn = (t.0 ∙ ap (slice_index v.turns) owner, λ is. apart (is ∙ ap (λ (r : ℕ). 2 * r) (sym rank)), ap (λ (m : Sat). m.0) (t.2 apart));
+      made = e.2.noted ∙ (λ j. exchange (word j) (2 * rank j) (2 * rank j + 1) (ne_eqb _ _ apart j) ∷ steps c.args.cpu.now);
     }
-
-pub take_turn_at-found-requires-clause-packet : goal.take_turn_at-found-requires-clause-packet
-take_turn_at-found-requires-clause-packet g c κs within =
-    let infos = c.args.self.now.infos.now in let p = c.requires.packet in
-    (p.0, p.1, owner_read infos c.args.n no_info p.0, rank_read infos c.args.n no_info p.0)
-
-pub take_turn_at-found-requires-clause-owner : goal.take_turn_at-found-requires-clause-owner
-take_turn_at-found-requires-clause-owner g c κs within =
-    let t = c.args.self.now in let owners = c.args.cpu.now.known.seat.me.0.view.share.owners in
-    let owner = sym (owner_read t.infos.now c.args.n no_info c.requires.packet.0) in
-    let mine = subst (λ (o : ℕ). (0 < times o owners) × (o < t.senders)) owner c.requires.owner in (mine.0, mine.1, c.requires.idle)

@@ -8,7 +8,7 @@ use prog.Atomic.{either}
 use Rattle.atomic_table.specs.Table.{step, Allows}
 use Rattle.lq_table.specs.Rule.{Rule}
 use Rattle.lq_table.specs.Keyed.{keyed_setup}
-use Rattle.lq_table.specs.Stops.{wake_told_all}
+use Rattle.lq_table.proofs.shared.Shared.wake.Invariants.{wake_told_all}
 use Rattle.lq_table.proofs.shared.Shared.wake.Answers.Kept.{wakes_sole}
 use Rattle.lq_table.proofs.ByName.{xoff_in}
 use mathlib.Core.Option.{none}

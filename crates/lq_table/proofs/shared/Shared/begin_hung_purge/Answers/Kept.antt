@@ -16,10 +16,10 @@ use Rattle.lq_table.specs.Places.{state_place}
 use Rattle.lq_table.specs.Views.{View, Setup, HolderPart}
 use Rattle.lq_table.specs.Rule.{AreStops, words_of, account, holders, Holder, Rule}
 use Rattle.lq_table.specs.Moves.{Sat}
-use Rattle.lq_table.specs.Purges.{begin_purge_view, begin_hung_purge_told}
+use Rattle.lq_table.specs.Purges.{begin_purge_view}
+use Rattle.lq_table.proofs.shared.Shared.begin_hung_purge.Invariants.{begin_hung_purge_told}
 use Rattle.lq_table.proofs.Facts.{none_if}
 use Rattle.lq_table.proofs.StopsKept.{agree}
-use Rattle.lq_table.proofs.Frames.{opened}
 use Rattle.lq_table.proofs.BeginPurgeKept.{held_few, held_known, held_packets, purges_as}
 
 -- each word is 2

@@ -3,7 +3,6 @@ use Rattle.std.proofs.Common.{inl, ◌≡◌, ℕ, ◌+◌, ◌*◌, ◌<◌, tr
 use Rattle.std.proofs.lemmas.Bool.{lt-ltb}
 use mathlib.Core.Option.{none}
 use Rattle.atomic_table.specs.Table.{step, Allows, keeps}
-use Rattle.lq_model.specs.Account.{Event}
 use Rattle.lq_model.specs.declared.fate.Cause.TheVariants as cause
 use Rattle.lq_model.specs.declared.machine.Phase.{Phase}
 use Rattle.lq_model.specs.declared.machine.Phase.TheVariants.{Active, Closing, Quiet, Purged}
@@ -17,7 +16,8 @@ use Rattle.lq_table.specs.Places.{state_place}
 use Rattle.lq_table.specs.Views.{View, Setup, first_account}
 use Rattle.lq_table.specs.Rule.{account, event_word, Rule}
 use Rattle.lq_table.specs.Moves.{Sat}
-use Rattle.lq_table.specs.Purges.{begin_purge_view, begin_purge_told}
+use Rattle.lq_table.specs.Purges.{begin_purge_view}
+use Rattle.lq_table.proofs.shared.Shared.begin_purge.Invariants.{begin_purge_told}
 use Rattle.lq_table.proofs.BeginPurgeKept.{bits_small, held_few, held_known, held_packets, purges_as, some_of}
 
 quiet_closed : (p : Phase) → is_quiet p ≡ true → is_closed p ≡ true

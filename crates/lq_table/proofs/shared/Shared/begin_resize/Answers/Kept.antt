@@ -42,7 +42,8 @@ use Rattle.lq_table.specs.Views.{View, Setup, State, HolderPart, HalfResize, Wor
 use Rattle.lq_table.specs.Rule.{words_of, machine_of, account, holders, owes, waiting_of, unstored, bands_of, Holder, IsLocker, IsResizing, IsResting, locks_at, KnowsPackets, Rule}
 use Rattle.lq_table.proofs.UnitsKept.{gone_step}
 use Rattle.lq_table.specs.Moves.{Sat}
-use Rattle.lq_table.specs.Resizes.{may_resize, each_band, resizing_of, begin_resize_view, begin_resize_told}
+use Rattle.lq_table.specs.Resizes.{may_resize, each_band, resizing_of, begin_resize_view}
+use Rattle.lq_table.proofs.shared.Shared.begin_resize.Invariants.{begin_resize_told}
 use Rattle.lq_table.proofs.Accounts.{quiet_after}
 use Rattle.lq_table.proofs.ByName.{slots_long, set_back}
 use Rattle.lq_table.proofs.Facts.{map_none, leaving_rule}

@@ -20,7 +20,8 @@ use Rattle.lq_table.specs.Places.{state_place}
 use Rattle.lq_table.specs.Views.{View, Setup, State, HolderPart, machine_packet}
 use Rattle.lq_table.specs.Rule.{words_of, account, holders, event_word, bands_now, Rule}
 use Rattle.lq_table.specs.Moves.{Sat, seen_by, is_set}
-use Rattle.lq_table.specs.States.{seen_state, load_state_view, check_view_refused, check_told, SeesChecked, check_told_all}
+use Rattle.lq_table.specs.States.{seen_state, load_state_view, check_view_refused}
+use Rattle.lq_table.proofs.shared.Shared.check.Invariants.{check_told, SeesChecked, check_told_all}
 use Rattle.lq_table.proofs.ByName.{set_back}
 use Rattle.lq_table.proofs.RecheckKept.{bits_only, two_ways, seen}
 use Rattle.lq_table.proofs.BeginPurgeKept.{some_of, bits_small}

@@ -14,13 +14,14 @@ use Rattle.lq_model.specs.Positions.{holds_lock}
 use Rattle.lq_table.specs.Places.{state_place}
 use Rattle.lq_table.specs.Views.{Setup}
 use Rattle.lq_table.specs.Rule.{event_word, Rule}
-use Rattle.lq_table.specs.Moves.{Sat, pass_told}
+use Rattle.lq_table.specs.Moves.{Sat, pass_view}
 use Rattle.lq_table.specs.States.{clear_draining_at}
 use Rattle.lq_table.proofs.Bits.{and_draining, event_small}
 use Rattle.lq_table.proofs.RecheckKept.{seen}
 use Rattle.lq_table.proofs.Quiet.{Still}
 use Rattle.lq_table.proofs.Frames.{Fits}
 use Rattle.lq_table.proofs.StatesKept.{bits, draining_kept, plain_still}
+use Rattle.lq_log.specs.Made.{becomes}
 
 module _ (k : Setup) where
   clear_draining_fits : (seen q : Qdisc) (position : Position) (s : Seat) → clear_draining_at position ≡ true → Fits q seen Plain position s (record q { draining = false }) × (holds_lock position ≡ true → Still position (step_at position Plain seen s).seat.position)
@@ -28,7 +29,7 @@ module _ (k : Setup) where
   clear_draining_fits seen q _ s h = absurd (false≢true h)
 
   pub clears_draining_kept : (slots id : ℕ) (m : Sat) → clear_draining_at m.0.place.position ≡ true → 0 < m.0.share.shares
-      → Allows (Rule k) slots id m state_place (λ n. bit_and n 18446744073709551607) (pass_told (step slots state_place 18446744073709551607 0 none) m)
+      → Allows (Rule k) slots id m state_place (λ n. bit_and n 18446744073709551607) (becomes (λ _. pass_view) (step slots state_place 18446744073709551607 0 none) m)
   clears_draining_kept slots id m = bits k (λ n. bit_and n 18446744073709551607) clear_draining_at (λ q. record q { draining = false }) clear_draining_fits (draining_kept k false)
       (λ w q down small t. record { state = ap (λ (x : ℕ). bit_and x 18446744073709551607) t.state ∙ and_draining q.sched q.deactivated q.missed q.draining (event_word down) (event_small q (event_word down) (let is = t.state in omega arith)); lock = t.lock; xoff = t.xoff; inside = t.inside; bypass = t.bypass })
       18446744073709551607 slots id m

@@ -4,7 +4,7 @@ use mathlib.Core.Option.{none}
 use Rattle.atomic_table.specs.Table.{step, Allows, keeps}
 use Rattle.lq_band_laws.specs.Three.{at}
 use Rattle.lq_band_laws.specs.Ring.{unlocked, index_given, IsRing}
-use Rattle.lq_band_laws.proofs.Kept.{locks, gives}
+use Rattle.lq_band_laws.proofs.Kept.{gives}
 use Rattle.lq_table.specs.Places.{producer_place}
 use Rattle.lq_table.specs.Views.{View, Setup, HolderPart}
 use Rattle.lq_table.specs.Rule.{words_of, account, holders, bands_now, locks_at, Rule}

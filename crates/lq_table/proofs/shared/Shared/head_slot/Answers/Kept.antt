@@ -30,7 +30,8 @@ use Rattle.lq_band_laws.proofs.Kept.{finds_none, takes}
 use Rattle.lq_table.specs.Views.{View, Setup, State, HolderPart, machine_packet, machine_packets}
 use Rattle.lq_table.specs.Rule.{words_of, slot_word, account, holders, Holder, locks_at, Rule}
 use Rattle.lq_table.specs.Moves.{Sat}
-use Rattle.lq_table.specs.Consumers.{seen_band, head_slot_view_empty, head_slot_view, head_slot_told, TellsHead, head_slot_told_all}
+use Rattle.lq_table.specs.Consumers.{seen_band, head_slot_view_empty, head_slot_view}
+use Rattle.lq_table.proofs.shared.Shared.head_slot.Invariants.{head_slot_told, TellsHead, head_slot_told_all}
 use Rattle.lq_table.proofs.ByName.{set_back, slot_of}
 use Rattle.lq_table.proofs.Ties.{band_tied, band_set, held_taken}
 use Rattle.lq_table.proofs.Facts.{calm_rule, map_none, slot_free}

@@ -10,8 +10,9 @@ use Rattle.lq_model.specs.Machine.{Qdisc}
 use Rattle.lq_model.specs.Steps.{scan, step_at}
 use Rattle.lq_table.specs.Views.{View, machine_packet}
 use Rattle.lq_table.specs.Marks.{marks_of}
-use Rattle.lq_table.specs.Consumers.{head_slot_told, head_slot_view_empty, head_slot_view, seen_band}
+use Rattle.lq_table.specs.Consumers.{head_slot_view_empty, head_slot_view, seen_band}
 use Rattle.lq_table.specs.Moves.{Sat}
+use Rattle.lq_table.proofs.shared.Shared.head_slot.Invariants.{head_slot_told}
 use Rattle.atomic_table.specs.Table.{Step}
 
 scan_raised : (ps : List Packet) (b : ℕ) (second : Bool) (q : Qdisc) (s : Seat) → (scan ps b second q s).seat.raised ≡ s.raised

@@ -16,11 +16,12 @@ use Rattle.lq_model.specs.Positions.{is_inside, holds_lock}
 use Rattle.lq_table.specs.Places.{inside_place}
 use Rattle.lq_table.specs.Views.{View, Setup}
 use Rattle.lq_table.specs.Rule.{words_of, is_live, Rule}
-use Rattle.lq_table.specs.Moves.{Sat, seen_by, pass_view, pass_told}
+use Rattle.lq_table.specs.Moves.{Sat, seen_by, pass_view}
 use Rattle.lq_table.proofs.ByName.{set_inside}
 use Rattle.lq_table.proofs.Middle.{middle}
 use Rattle.lq_table.proofs.Frames.{opened, Fits}
 use Rattle.lq_table.proofs.Quiet.{quiet}
+use Rattle.lq_log.specs.Made.{becomes}
 
 module _ (k : Setup) where
   abbrev St : Type 0
@@ -33,7 +34,7 @@ module _ (k : Setup) where
       (sum_by f m.before + sum_by f m.after, omega (arith, sum_by-append f m.before (v.place ∷ m.after), sum_by-cons f v.place m.after, all))
 
   pub leaves : (slots id : ℕ) (m : Sat) → m.0.place.position ≡ Leave → 0 < m.0.share.shares
-      → Allows (Rule k) slots id m inside_place (λ n. (n + (2 ^ 64 - 1)) % 2 ^ 64) (pass_told (step slots inside_place 1 0 none) m)
+      → Allows (Rule k) slots id m inside_place (λ n. (n + (2 ^ 64 - 1)) % 2 ^ 64) (becomes (λ _. pass_view) (step slots inside_place 1 0 none) m)
   leaves slots id m here some_share s r deep at small =
       let v : View = m.0 in let q = r.qdisc in let p = r.parts in let live = lt-ltb 0 v.share.shares some_share in let n : ℕ = get_or s.words inside_place 0 in let W = words_of k s.words in
       let q' : Qdisc = record q { inside = q.inside - 1 } in let one = counted s r id v at live in let inside : bit (is_inside v.place.position) ≡ 1 = ap (λ (x : Position). bit (is_inside x)) here in

@@ -6,7 +6,6 @@ use Rattle.atomic_table.specs.Table.{step, Allows, keeps}
 use Rattle.lq_model.specs.declared.machine.ControlStep.TheVariants.{LoadInside}
 use Rattle.lq_model.specs.declared.machine.Position.TheVariants.{Control}
 use Rattle.lq_model.specs.declared.machine.Seat.{Seat}
-use Rattle.lq_model.specs.Account.{after}
 use Rattle.lq_model.specs.Machine.{Qdisc}
 use Rattle.lq_model.specs.Control.{is_control, found_inside}
 use Rattle.lq_model.specs.Kept.{IsInductive}

@@ -19,7 +19,7 @@ use Rattle.lq_table.specs.Views.{View, Setup, State, PacketPart, Left}
 use Rattle.lq_table.specs.Rule.{words_of, stops_offset, account, machine_of, bands_now, has_turn, is_live, Ties, Rule}
 use Rattle.lq_table.specs.Moves.{Sat, unchanged}
 use Rattle.lq_table.specs.AtRest.{IsSoleAtRest, IsFatedOrHeld, IsRest, KnowsRest}
-use Rattle.lq_table.specs.Locks.{load_lock_told}
+use Rattle.lq_table.proofs.shared.Shared.load_lock.Invariants.{load_lock_told}
 use Rattle.lq_table.proofs.AllAtRest.{unlocked, nothing, no_purge, home, all_bands, none_at_all}
 use Rattle.lq_table.proofs.Ends.{live, rests, nobody}
 use Rattle.lq_table.proofs.Decided.{all_placed}

@@ -6,7 +6,8 @@ use Rattle.lq_table.specs.Places.{producer_place}
 use Rattle.lq_table.specs.Views.{Setup}
 use Rattle.lq_table.specs.Rule.{Rule}
 use Rattle.lq_table.specs.Moves.{Sat, unchanged}
-use Rattle.lq_table.specs.Producers.{SeesProducer, load_producer_told}
+use Rattle.lq_table.specs.Producers.{SeesProducer}
+use Rattle.lq_table.proofs.shared.Shared.load_producer.Invariants.{load_producer_told}
 use Rattle.lq_table.proofs.Loads.{also, loads_any}
 use Rattle.lq_table.proofs.ProducerSole.{sees_producer}
 

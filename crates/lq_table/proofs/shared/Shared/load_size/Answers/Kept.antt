@@ -8,12 +8,13 @@ use Rattle.lq_band_laws.specs.Three.{at}
 use Rattle.lq_band_laws.specs.Ring.{Lock, sized_if, sized_at, IsRing}
 use Rattle.lq_band_laws.specs.HalfResized.{IsHalfResized}
 use Rattle.lq_band_laws.proofs.HalfResizedKept.{half_resized_sized}
-use Rattle.lq_band_laws.proofs.Kept.{locks, sizes_if}
+use Rattle.lq_band_laws.proofs.Kept.{sizes_if}
 use Rattle.lq_table.specs.Places.{size_place}
 use Rattle.lq_table.specs.Views.{View, Setup, HolderPart}
 use Rattle.lq_table.specs.Rule.{words_of, account, bands_now, locks_at, Rule}
 use Rattle.lq_table.specs.Moves.{Sat}
-use Rattle.lq_table.specs.Producers.{load_size_view, load_size_told}
+use Rattle.lq_table.specs.Producers.{load_size_view}
+use Rattle.lq_table.proofs.shared.Shared.load_size.Invariants.{load_size_told}
 use Rattle.lq_table.proofs.ByName.{set_back}
 use Rattle.lq_table.proofs.Quiet.{beside}
 use Rattle.lq_table.proofs.Frames.{locks_here, locks_after, control_same}

@@ -15,7 +15,8 @@ use Rattle.lq_table.specs.Places.{state_place}
 use Rattle.lq_table.specs.Views.{View, Setup}
 use Rattle.lq_table.specs.Rule.{words_of, Rule}
 use Rattle.lq_table.specs.Moves.{Sat, seen_by, unchanged}
-use Rattle.lq_table.specs.States.{seen_state, load_state_at, load_state_view, load_state_told}
+use Rattle.lq_table.specs.States.{seen_state, load_state_at, load_state_view}
+use Rattle.lq_table.proofs.shared.Shared.load_state.Invariants.{load_state_told}
 use Rattle.lq_table.proofs.ByName.{set_back}
 use Rattle.lq_table.proofs.Shows.{Shows, begins_alike, holder_shows}
 use Rattle.lq_table.proofs.RecheckKept.{bits_only, seen}

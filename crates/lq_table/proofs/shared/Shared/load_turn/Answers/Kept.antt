@@ -7,7 +7,7 @@ use Rattle.lq_table.specs.Places.{turn_place}
 use Rattle.lq_table.specs.Views.{View, Setup}
 use Rattle.lq_table.specs.Rule.{Rule}
 use Rattle.lq_table.specs.Moves.{Sat}
-use Rattle.lq_table.specs.Turns.{load_turn_told}
+use Rattle.lq_table.proofs.shared.Shared.load_turn.Invariants.{load_turn_told}
 use Rattle.lq_table.proofs.ByName.{turn_of_word}
 use Rattle.lq_table.proofs.Frames.{rule_same}
 

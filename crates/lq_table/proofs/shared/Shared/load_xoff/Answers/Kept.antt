@@ -25,7 +25,8 @@ use Rattle.lq_model.specs.Plan.{queue_in}
 use Rattle.lq_table.specs.Views.{View, Setup, HolderPart, machine_packet}
 use Rattle.lq_table.specs.Rule.{words_of, xoff_word, account, holders, is_live, Holder, Rule}
 use Rattle.lq_table.specs.Moves.{Sat}
-use Rattle.lq_table.specs.Stops.{HasRoom, load_xoff_queue, load_xoff_at, load_xoff_leads, is_dequeue, picking, load_xoff_view, load_xoff_view_from, load_xoff_told, SeesXoff, load_xoff_told_all}
+use Rattle.lq_table.specs.Stops.{HasRoom, load_xoff_queue, load_xoff_at, load_xoff_leads, is_dequeue, picking, load_xoff_view, load_xoff_view_from, SeesXoff}
+use Rattle.lq_table.proofs.shared.Shared.load_xoff.Invariants.{load_xoff_told, load_xoff_told_all}
 use Rattle.lq_table.proofs.ByName.{set_back, xoff_of, xoff_long}
 use Rattle.lq_table.proofs.StoreXoffKept.{gates, stays_out}
 use Rattle.lq_table.proofs.Facts.{map_none, slot_free}

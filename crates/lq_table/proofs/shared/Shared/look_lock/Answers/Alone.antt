@@ -7,8 +7,9 @@ use Rattle.lq_device.specs.Station.{StationState}
 use Rattle.lq_model.specs.Machine.{bit}
 use Rattle.lq_table.specs.Marks.{marks_of}
 use Rattle.lq_table.specs.Moves.{Sat}
-use Rattle.lq_table.specs.Locks.{try_lock_at, look_lock_told, SeesLock}
+use Rattle.lq_table.specs.Locks.{try_lock_at, SeesLock}
 use Rattle.lq_table.specs.Sees.{solo}
+use Rattle.lq_table.proofs.shared.Shared.look_lock.Invariants.{look_lock_told}
 use Rattle.atomic_table.specs.Table.{Step}
 use Rattle.lq_table.proofs.TriesSolo.{finds_marks, finds_solo, is_locked}
 

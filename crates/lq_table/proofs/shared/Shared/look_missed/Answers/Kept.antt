@@ -8,7 +8,8 @@ use Rattle.lq_table.specs.Places.{state_place}
 use Rattle.lq_table.specs.Views.{Setup}
 use Rattle.lq_table.specs.Rule.{account, event_word, Rule}
 use Rattle.lq_table.specs.Moves.{Sat, is_set}
-use Rattle.lq_table.specs.States.{miss_at, miss_view, look_missed_told_all}
+use Rattle.lq_table.specs.States.{miss_at, miss_view}
+use Rattle.lq_table.proofs.shared.Shared.look_missed.Invariants.{look_missed_told_all}
 use Rattle.lq_table.proofs.Bits.{has_missed, or_missed}
 use Rattle.lq_table.proofs.StatesKept.{misses_kept}
 use Rattle.lq_table.proofs.SoleFacts.{sees_state}

@@ -7,7 +7,7 @@ use Rattle.lq_model.specs.declared.machine.Position.TheVariants.{Idle}
 use Rattle.lq_table.specs.Views.{Setup}
 use Rattle.lq_table.specs.Rule.{xoff_word, Rule}
 use Rattle.lq_table.specs.Moves.{Sat}
-use Rattle.lq_table.specs.Stops.{look_stop_told_all}
+use Rattle.lq_table.proofs.shared.Shared.look_stop.Invariants.{look_stop_told_all}
 use Rattle.lq_table.proofs.SoleFacts.{sees_stop}
 use Rattle.lq_table.proofs.Frames.{rule_same}
 use Rattle.lq_table.proofs.SoleKept.{none_shut}

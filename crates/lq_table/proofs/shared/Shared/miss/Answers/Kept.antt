@@ -8,7 +8,8 @@ use Rattle.lq_table.specs.Places.{state_place}
 use Rattle.lq_table.specs.Views.{Setup}
 use Rattle.lq_table.specs.Rule.{Rule}
 use Rattle.lq_table.specs.Moves.{Sat, is_set}
-use Rattle.lq_table.specs.States.{miss_at, miss_told, miss_view}
+use Rattle.lq_table.specs.States.{miss_at, miss_view}
+use Rattle.lq_table.proofs.shared.Shared.miss.Invariants.{miss_told}
 use Rattle.lq_table.proofs.Loads.{also}
 use Rattle.lq_table.proofs.SoleFacts.{sees_state}
 use Rattle.lq_table.proofs.StatesKept.{misses_kept}

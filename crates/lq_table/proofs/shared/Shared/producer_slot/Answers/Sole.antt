@@ -23,8 +23,9 @@ use Rattle.lq_band_laws.proofs.StandsFor.{full_exactly}
 use Rattle.lq_table.specs.Views.{View, Setup, HolderPart, machine_packet}
 use Rattle.lq_table.specs.Rule.{words_of, slot_word, account, holders, holding, is_live, IsResting, Rule}
 use Rattle.lq_table.specs.Moves.{Sat}
-use Rattle.lq_table.specs.Producers.{producer_slot_told, SeesEnd, producer_slot_told_all}
+use Rattle.lq_table.specs.Producers.{SeesEnd}
 use Rattle.lq_table.specs.Sees.{account_of}
+use Rattle.lq_table.proofs.shared.Shared.producer_slot.Invariants.{producer_slot_told, producer_slot_told_all}
 use Rattle.lq_table.proofs.ByName.{slot_of}
 use Rattle.lq_table.proofs.Facts.{calm_rule}
 use Rattle.lq_table.proofs.shared.Shared.producer_slot.Answers.Kept.{sees_slot}

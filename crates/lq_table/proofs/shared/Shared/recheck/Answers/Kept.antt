@@ -19,7 +19,8 @@ use Rattle.lq_table.specs.Places.{state_place}
 use Rattle.lq_table.specs.Views.{View, Setup, State, HolderPart, machine_packet}
 use Rattle.lq_table.specs.Rule.{words_of, account, holders, Holder, Rule}
 use Rattle.lq_table.specs.Moves.{Sat, seen_by}
-use Rattle.lq_table.specs.States.{seen_state, some_bit, load_state_view, recheck_view_direct, recheck_told, recheck_told_all}
+use Rattle.lq_table.specs.States.{seen_state, some_bit, load_state_view, recheck_view_direct}
+use Rattle.lq_table.proofs.shared.Shared.recheck.Invariants.{recheck_told, recheck_told_all}
 use Rattle.lq_table.proofs.ByName.{set_back}
 use Rattle.lq_table.proofs.Facts.{calm_rule, map_none, at_within, slot_free, none_beside}
 use Rattle.lq_table.proofs.Accounts.{fresh_is_new}

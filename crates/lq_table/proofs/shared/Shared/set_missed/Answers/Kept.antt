@@ -15,7 +15,7 @@ use Rattle.lq_model.specs.Positions.{holds_lock, in_hand}
 use Rattle.lq_table.specs.Places.{state_place}
 use Rattle.lq_table.specs.Views.{View, Setup}
 use Rattle.lq_table.specs.Rule.{event_word, Rule}
-use Rattle.lq_table.specs.Moves.{Sat, pass_view, pass_told}
+use Rattle.lq_table.specs.Moves.{Sat, pass_view}
 use Rattle.lq_table.specs.States.{set_missed_at, backing, set_bit_view}
 use Rattle.lq_table.proofs.Bits.{or_missed}
 use Rattle.lq_table.proofs.RecheckKept.{seen}
@@ -41,7 +41,7 @@ module _ (k : Setup) where
   set_missed_fits seen q _ s h = absurd (false≢true h)
 
   pub sets_missed_kept : (slots id : ℕ) (m : Sat) → sets_missed_bare m.0.place.position ≡ true → 0 < m.0.share.shares
-      → Allows (Rule k) slots id m state_place (λ n. bit_or n 4) (pass_told (step slots state_place 4 0 none) m)
+      → Allows (Rule k) slots id m state_place (λ n. bit_or n 4) (becomes (λ _. pass_view) (step slots state_place 4 0 none) m)
   sets_missed_kept slots id m = bits k (λ n. bit_or n 4) sets_missed_bare (λ q. record q { missed = true }) set_missed_fits (missed_kept k true)
       (λ w q down small t. record { state = ap (λ (x : ℕ). bit_or x 4) t.state ∙ or_missed q.sched q.deactivated q.missed q.draining (event_word down); lock = t.lock; xoff = t.xoff; inside = t.inside; bypass = t.bypass })
       4 slots id m

@@ -1,6 +1,6 @@
 -- What `settle` makes of what a seat knows that has the table alone.
 use Rattle.std.proofs.Common.{◌≡◌, ℕ, Bool, refl, ap, ◌∙◌}
-use Rattle.lq_model.specs.Account.{Send, Stop}
+use Rattle.lq_model.specs.Account.{Send}
 use Rattle.lq_model.specs.declared.machine.Answer.{Answer}
 use Rattle.lq_model.specs.declared.machine.Answer.TheVariants.{Plain}
 use Rattle.lq_model.specs.declared.machine.Answer.TheVariants as answer

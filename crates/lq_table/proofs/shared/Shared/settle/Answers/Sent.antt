@@ -33,7 +33,7 @@ use Rattle.lq_table.specs.Views.{View, Setup, State, HolderPart, machine_packet}
 use Rattle.lq_table.specs.Rule.{words_of, fates_offset, account, holders, shown, last_sent, Holder, IsDevice, KnowsPackets, Rule}
 use Rattle.lq_table.proofs.UnitsKept.{gone_step}
 use Rattle.lq_table.specs.Moves.{Sat, and_settled, seen_by}
-use Rattle.lq_table.specs.Fates.{machine_answer, fate_sent, settle_view_sent, settle_told_sent}
+use Rattle.lq_table.specs.Fates.{machine_answer, fate_sent, settle_view_sent}
 use Rattle.lq_table.proofs.ByName.{set_fate}
 use Rattle.lq_table.proofs.Facts.{calm_rule, none_if, device_open}
 use Rattle.lq_table.proofs.Shows.{Shows, begins_alike, after_plain, holder_shows}
@@ -46,6 +46,7 @@ use Rattle.lq_table.proofs.TrailsKept.{trails_same}
 use Rattle.lq_table.proofs.Frames.{rings_same, none_left, rule_after, Fits, plays, held_after, lends_held}
 use Rattle.lq_table.proofs.SeatFrames.{seats_with, sole_on}
 use Rattle.lq_table.proofs.StationFrames.{stands_same, ties_same, account_after}
+use Rattle.lq_log.specs.Made.{becomes}
 
 xmit_fits : (q seen : Qdisc) → Shows q seen → (tx : Tx) → is_busy tx ≡ false → (p : Packet) (direct : Bool) (s : Seat) → Fits q seen (machine_answer (Some tx)) (Xmit p direct) s (accepted q)
 xmit_fits q seen e Sent sent p direct s = record { may = refl; seat = ap (λ (d : Position). record (counted s) { position = if direct then Post else if (counted s).run == QUOTA then Quota else d }) (begins_alike q seen e); words = refl }
@@ -93,7 +94,7 @@ open_not_hung x e h = let z : (x == 0) ≡ false = ap (λ (y : ℕ). y == 0) h i
 
 module _ (k : Setup) where
   pub settles : (slots id n : ℕ) (st : StationState) (m : Sat) (p : Packet) (direct : Bool) (tx : Tx) → m.0.place.position ≡ Xmit p direct → m.0.holder.hand ≡ Some n → HasAnswered tx p.queue n (shown m.0.holder) st → is_busy tx ≡ false → HasWord (fate_sent m.0.holder.station) → 0 < m.0.share.shares → n < length k.infos
-      → Allows (Rule k) slots id m (fates_offset k + n) (λ _. word_of (fate_sent m.0.holder.station)) (λ _. settle_told_sent st (step slots (fates_offset k + n) (word_of (fate_sent m.0.holder.station)) 0 none) m (word_of (fate_sent m.0.holder.station)))
+      → Allows (Rule k) slots id m (fates_offset k + n) (λ _. word_of (fate_sent m.0.holder.station)) (λ _. becomes (λ _. settle_view_sent st) (step slots (fates_offset k + n) (word_of (fate_sent m.0.holder.station)) 0 none) m (word_of (fate_sent m.0.holder.station)))
   settles slots id n st m x direct tx position hand sends sent has_word some_share within s r0 deep here small =
       let v : View = m.0 in let r = calm_rule k s r0 id v here (lt-ltb 0 v.share.shares some_share) (ap may_be_inside position) (ap is_control position) in let p = r.parts in let g = r.state in let a = account k g in let q = r.qdisc in let W = words_of k s.words in let live = lt-ltb 0 v.share.shares some_share in
       let D : HolderPart = holders g a W.size in let holds : holds_lock v.place.position ≡ true = ap holds_lock position in

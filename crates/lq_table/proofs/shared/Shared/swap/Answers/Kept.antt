@@ -23,7 +23,8 @@ use Rattle.lq_table.specs.Views.{View, Setup, State, HolderPart, machine_packet,
 use Rattle.lq_table.specs.Rule.{HasServed, IsCallOf, IsDevice, latest_unit, station_count, words_of, account, holders, last_sent, units_of, Holder, Rule}
 use Rattle.lq_table.proofs.UnitsKept.{fewer, unit_is_latest, BringsNone, gone_swap}
 use Rattle.lq_table.specs.Moves.{Sat}
-use Rattle.lq_table.specs.Controls.{IsSwap, shut_after, swap_view, swap_told, GoesAway}
+use Rattle.lq_table.specs.Controls.{IsSwap, shut_after, swap_view, GoesAway}
+use Rattle.lq_table.proofs.shared.Shared.swap.Invariants.{swap_told}
 use Rattle.lq_table.proofs.StopsKept.{agree, after_open, no_two}
 use Rattle.lq_table.proofs.Frames.{is_locked, moves, leaves_same, firsts_as, rule_after, opened, closed, lends_held}
 use Rattle.lq_model.specs.declared.fate.Info.{Info}

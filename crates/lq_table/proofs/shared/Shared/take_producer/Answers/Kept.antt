@@ -12,7 +12,8 @@ use Rattle.lq_table.specs.Places.{producer_place}
 use Rattle.lq_table.specs.Views.{View, Setup}
 use Rattle.lq_table.specs.Rule.{words_of, account, bands_now, locks_at, Rule}
 use Rattle.lq_table.specs.Moves.{Sat}
-use Rattle.lq_table.specs.Producers.{with_lock_at, take_producer_told, SeesProducer, take_producer_told_all}
+use Rattle.lq_table.specs.Producers.{with_lock_at, SeesProducer}
+use Rattle.lq_table.proofs.shared.Shared.take_producer.Invariants.{take_producer_told, take_producer_told_all}
 use Rattle.lq_table.proofs.ByName.{producer_of}
 use Rattle.lq_table.proofs.Frames.{locks_here, calm_even, rule_same}
 use Rattle.lq_table.proofs.ProducersKept.{producer_step}

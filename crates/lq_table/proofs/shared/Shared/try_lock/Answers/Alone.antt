@@ -11,10 +11,11 @@ use Rattle.lq_table.specs.Marks.{marks_of}
 use Rattle.lq_table.specs.Views.{View, HolderPart}
 use Rattle.lq_table.specs.Rule.{holders}
 use Rattle.lq_table.specs.Moves.{Sat, seen_by}
-use Rattle.lq_table.specs.Locks.{seen_lock, try_lock_at, try_lock_view, try_lock_view_in_call, try_lock_view_in_control, try_lock_told, locked_to}
+use Rattle.lq_table.specs.Locks.{seen_lock, try_lock_at, try_lock_view, try_lock_view_in_call, try_lock_view_in_control, locked_to}
 use Rattle.lq_table.specs.Sees.{IsAccounts, account_of, solo}
 use Rattle.atomic_table.specs.Table.{Step}
 use Rattle.lq_table.proofs.TriesSolo.{at_lock, finds_marks, finds_solo, is_locked, marks_at, solo_at}
+use Rattle.lq_table.proofs.shared.Shared.try_lock.Invariants.{try_lock_told}
 
 abbrev got_at : Position → HolderPart → View → View
 got_at y d v = if is_control y then try_lock_view_in_control d v else at_lock y (seen_lock (seen_by (record v { holder = d })) false) d v

@@ -13,7 +13,7 @@ use Rattle.lq_model.specs.Kept.{IsInductive}
 use Rattle.lq_band_laws.proofs.Seats.{each_same}
 use Rattle.lq_table.specs.Places.{lock_place}
 use Rattle.lq_table.specs.Moves.{Sat, seen_by}
-use Rattle.lq_table.specs.Locks.{after_release, unlock_view_in_control, unlock_at, unlock_view_in_call, seen_lock, unlock_view, unlock_told}
+use Rattle.lq_table.specs.Locks.{after_release, unlock_view_in_control, unlock_at, unlock_view_in_call, seen_lock, unlock_view}
 use Rattle.lq_table.proofs.Middle.{middle, controls_in}
 use Rattle.lq_table.proofs.StopsKept.{agree, none_agree, call_none}
 use Rattle.lq_table.proofs.Frames.{none_some, firsts_same, rule_after, opened, closed, moves, Fits, plays}
@@ -24,6 +24,7 @@ use Rattle.lq_model.specs.declared.machine.Position.{Position}
 use Rattle.lq_model.specs.declared.machine.Seat.{Seat}
 use Rattle.lq_table.specs.Views.{View, Setup, HolderPart, machine_packet}
 use Rattle.lq_table.specs.Rule.{words_of, account, holders, shown, IsResting, Holder, KnowsHolder, Rule}
+use Rattle.lq_table.proofs.shared.Shared.unlock.Invariants.{unlock_told}
 use Rattle.lq_table.proofs.ByName.{set_lock}
 use Rattle.lq_table.proofs.Facts.{map_none}
 use Rattle.lq_table.proofs.SeatFrames.{seats_same}

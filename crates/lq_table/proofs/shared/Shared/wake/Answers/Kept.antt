@@ -26,7 +26,7 @@ use Rattle.lq_model.specs.Kept.{IsInductive}
 use Rattle.lq_table.specs.Views.{View, Setup, State, HolderPart}
 use Rattle.lq_table.specs.Rule.{is_live, holding, Opening, AreStops, words_of, account, holders, xoff_word, Rule}
 use Rattle.lq_table.specs.Moves.{Sat}
-use Rattle.lq_table.specs.Stops.{wake_view, wake_told, wake_told_all}
+use Rattle.lq_table.specs.Stops.{wake_view}
 use Rattle.lq_table.proofs.ByName.{set_xoff, xoff_of, xoff_within, xoff_long}
 use Rattle.lq_table.proofs.Middle.{middle, begins_in, steps_in}
 use Rattle.lq_table.proofs.DeviceKept.{xoff_stored}
@@ -36,6 +36,7 @@ use Rattle.lq_table.proofs.SeatFrames.{seats_heard, seats_settled}
 use Rattle.lq_table.proofs.StationFrames.{station_kept, ties_same, account_after}
 use Rattle.lq_band_laws.specs.Three.{at}
 use Rattle.lq_table.specs.Sees.{IsSole, account_of}
+use Rattle.lq_table.proofs.shared.Shared.wake.Invariants.{wake_told, wake_told_all}
 use Rattle.lq_table.proofs.Loads.{also}
 use Rattle.lq_table.proofs.SoleFacts.{sees_stop}
 use Rattle.lq_table.proofs.SoleKept.{none_shut}

@@ -1,4 +1,4 @@
--- `give_turn_at` keeps the rule of the table.
+-- `give_turn` keeps the rule of the table.
 use Rattle.std.proofs.Common.{◌≡◌, ◌≢◌, ℕ, ◌+◌, ◌*◌, ◌<◌, true, set, refl, sym, ap, ◌∙◌, subst, arith, ⊎_elim, Some, None, get_or, length-set, Contains}
 use Rattle.std.proofs.lemmas.Bool.{cases_eq, lt-ltb}
 use mathlib.Core.Logic.{dite}

@@ -1,4 +1,4 @@
--- `enter_seat` keeps the rule of the table.
+-- `enter` keeps the rule of the table.
 use Rattle.std.proofs.Common.{◌≡◌, ◌≢◌, ℕ, ◌+◌, ◌%◌, ◌^◌, ◌<◌, ◌≤◌, Bool, true, false, true≢false, ◌⊎◌, inl, inr, List, [], ◌∷◌, ◌++◌, length, set, get_or, take, refl, sym, ap, ap₂, ◌∙◌, subst, arith, Option, Some, None, sum_by, ⊎_elim}
 use Rattle.std.specs.Prelude.{◌&&◌, is_some}
 use Rattle.std.proofs.lemmas.Bool.{false≢true, lt-ltb}
@@ -27,7 +27,8 @@ use Rattle.lq_table.specs.Places.{inside_place}
 use Rattle.lq_table.specs.Views.{View, Setup, HolderPart, machine_packet}
 use Rattle.lq_table.specs.Rule.{words_of, account, holders, times, is_live, seats_of, machine_of, Owns, Rule}
 use Rattle.lq_table.specs.Moves.{at_rest, Sat, seen_by}
-use Rattle.lq_table.specs.Inside.{call_of, bringing_packet, enter_view, enter_told}
+use Rattle.lq_table.specs.Inside.{call_of, bringing_packet, enter_view}
+use Rattle.lq_table.proofs.shared.Shared.enter.Invariants.{enter_told}
 use Rattle.lq_table.proofs.ByName.{set_inside}
 use Rattle.lq_table.proofs.Middle.{middle, to_idle, elsewhere, found, begins_in, steps_in, few_seats}
 use Rattle.lq_table.proofs.Facts.{map_some}

@@ -1,4 +1,4 @@
--- `set_sched_at` keeps the rule of the table.
+-- `set_sched` keeps the rule of the table.
 use Rattle.std.proofs.Common.{◌≡◌, ℕ, ◌<◌, true, false, true≢false, refl, sym, ap, ◌∙◌, arith}
 use Rattle.std.specs.Prelude.{if◌then◌else◌, bit_or}
 use Rattle.std.proofs.lemmas.Bool.{false≢true, lt-ltb}
@@ -15,7 +15,8 @@ use Rattle.lq_table.specs.Places.{state_place}
 use Rattle.lq_table.specs.Views.{View, Setup}
 use Rattle.lq_table.specs.Rule.{words_of, account, event_word, Rule}
 use Rattle.lq_table.specs.Moves.{Sat, seen_by, is_set}
-use Rattle.lq_table.specs.States.{set_sched_at, set_sched_view, set_sched_told}
+use Rattle.lq_table.specs.States.{set_sched_at, set_sched_view}
+use Rattle.lq_table.proofs.shared.Shared.set_sched.Invariants.{set_sched_told}
 use Rattle.lq_table.proofs.Bits.{has_sched, or_sched}
 use Rattle.lq_table.proofs.ByName.{set_state}
 use Rattle.lq_table.proofs.RecheckKept.{seen}

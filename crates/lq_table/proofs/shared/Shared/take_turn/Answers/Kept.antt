@@ -1,4 +1,4 @@
--- `take_turn_at` keeps the rule of the table.
+-- `take_turn` keeps the rule of the table.
 use Rattle.std.proofs.Common.{◌≡◌, ◌≢◌, ℕ, ◌+◌, ◌*◌, ◌<◌, true, eqb, length, set, refl, sym, ap, ◌∙◌, subst, arith, ⊎_elim, Option, Some, None, eq-eqb, ne_eqb, get_or, length-set, Contains}
 use Rattle.lq_model.specs.Positions.{own_packet}
 use Rattle.std.proofs.lemmas.Option.{same_Some}
@@ -20,7 +20,8 @@ use Rattle.lq_table.specs.Views.{View, Setup}
 use Rattle.lq_table.specs.Comes.{IsFresh}
 use Rattle.lq_table.specs.Rule.{words_of, times, is_live, account, KnowsTurn, has_turn, Rule}
 use Rattle.lq_table.specs.Moves.{Sat}
-use Rattle.lq_table.specs.Turns.{take_turn_view, take_turn_told}
+use Rattle.lq_table.specs.Turns.{take_turn_view}
+use Rattle.lq_table.proofs.shared.Shared.take_turn.Invariants.{take_turn_told}
 use Rattle.lq_table.proofs.ByName.{turn_of_word}
 use Rattle.lq_table.proofs.Facts.{none_if}
 use Rattle.lq_table.proofs.Frames.{none_some, rule_same}

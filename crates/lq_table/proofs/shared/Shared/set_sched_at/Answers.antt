@@ -1,7 +1,0 @@
-mod Kept
-use Rattle.std.proofs.Common.{arith}
-use Rattle.lq_table.proofs.shared.Shared.set_sched_at.Answers.Kept.{schedules_sole}
-use Rattle.lq_table.proofs.shared.Shared.set_sched_at.Goals as goal
-
-pub fetch_or_word-requires : goal.fetch_or_word-requires
-fetch_or_word-requires g c = (c.type_bounds.send-D, ((c.requires.seat.0, (let wide = c.args.self.now.sized.0 in omega arith), schedules_sole _ _ _ _ c.requires.at c.requires.seat.1)))
