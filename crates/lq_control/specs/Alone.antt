@@ -1,13 +1,13 @@
 -- What the calls of control do of a seat that has the table alone, where the device tells its rule: the plan's events in the run of
 -- one sender.
-use Rattle.std.specs.Prelude.{◌≡◌, ℕ, false, Some, IsSome}
+use Rattle.std.specs.Prelude.{◌≡◌, ℕ, false, Some}
 use Rattle.lq_model.specs.Alone.{changed, new_device, served}
 use Rattle.lq_model.specs.Device.{DeviceState}
 use Rattle.lq_model.specs.Plan.{Plan, unit_of_swap}
 use Rattle.lq_model.specs.declared.device.Params.{Params}
 use Rattle.lq_model.specs.declared.plan.EventKind.{EventKind}
 use Rattle.lq_model.specs.declared.plan.EventKind.TheVariants as kind
-use Rattle.lq_table.specs.Sees.{Solo, IsSole, account_of, solo}
+use Rattle.lq_table.specs.Sees.{Solo, solo}
 use Rattle.lq_table.specs.Views.{View, Setup, first_account}
 use Rattle.lq_qdisc.specs.Alone.{Does}
 
@@ -27,7 +27,3 @@ DoesSwapAlone k event unit device old new =
 -- what it knows, without the raised mark and SCHED
 abbrev pub unmarked : Solo → Solo
 unmarked v = record v { raised = false; whole = record v.whole { scheduled = false } }
-
--- while the station is deactivated nothing else changes
-abbrev pub ChangesOnlyMarks : View → View → Type 0
-ChangesOnlyMarks old new = IsSole old → IsSome (account_of old).down → unmarked (solo new) ≡ unmarked (solo old)

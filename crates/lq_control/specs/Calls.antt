@@ -1,5 +1,5 @@
 -- What the calls of control require of the seat that makes them (`May..`), and what they ensure of it.
-use Rattle.std.specs.Prelude.{◌≡◌, ℕ, ◌+◌, ◌-◌, ◌<◌, Bool, true, false, List, ◌++◌, None, IsSome, [], ◌∷◌, Option, Some}
+use Rattle.std.specs.Prelude.{◌≡◌, ℕ, ◌+◌, ◌-◌, ◌<◌, Bool, true, false, List, ◌++◌, None, IsSome, [], ◌∷◌, Option, Some, ◌≤◌}
 use Rattle.lq_account_laws.specs.Trail.{down_of}
 use Rattle.lq_model.specs.Account.{Event, Resize, Down, Purge, Swap, Up}
 use Rattle.lq_model.specs.Device.{DeviceState}
@@ -16,21 +16,23 @@ use Rattle.lq_ring.specs.Put.{no_locks}
 use Rattle.lq_ring.specs.Take.{CarriesStation}
 use Rattle.lq_qdisc.specs.Sends.{IsCallKept, IsReadyToSend}
 use Rattle.lq_table.specs.Controls.{clear_deactivated_view}
-use Rattle.lq_table.specs.Rule.{units_of}
+use Rattle.lq_table.specs.Rule.{units_of, IsResting, station_count}
 use Rattle.lq_table.specs.Sees.{view, known, setup, position, slot, IsSameSeat, IsElseSame, IsSole, IsAccounts, account_of, heard, solo}
 use Rattle.lq_table.specs.Locks.{locked_to}
 use Rattle.lq_table.specs.Moves.{IsKnownSlot}
-use Rattle.lq_table.specs.Views.{View, Setup, WholePart, no_packets, Known}
+use Rattle.lq_table.specs.Views.{View, Setup, WholePart, no_packets, Known, Left}
 use Rattle.lq_table.specs.declared.shared.Cpu.{Cpu}
 use Rattle.lq_table.specs.declared.shared.Shared.{Shared}
-use Rattle.lq_control.specs.Alone.{ChangesOnlyMarks, DoesEventAlone, unmarked, DoesSwapAlone, ServesAlone}
-use Rattle.lq_control.specs.Control.{GetsStation, IsAfterUnits, IsFreshFor, IsIn, IsKeptByControl, IsServed, OwesNoInterrupt, all_opened, phased, with_lock_free, AllArePurged, IsPurgedByDown, IsSlotPurged, OwesPurged, deactivated_solo, relengthed_solo, swapped_solo}
+use Rattle.lq_control.specs.Alone.{DoesEventAlone, unmarked, DoesSwapAlone, ServesAlone}
+use Rattle.lq_control.specs.Control.{GetsStation, IsAfterUnits, IsIn, IsKeptByControl, IsServed, OwesNoInterrupt, all_opened, phased, with_lock_free, AllArePurged, IsPurgedByDown, IsSlotPurged, OwesPurged, deactivated_solo, relengthed_solo, swapped_solo, KeepsDevice}
 use Rattle.lq_control.specs.EndSteps.{FindsBusy, FinishesBy, LoadsStops, LooksBy, PurgesHungBy, SendsAllLeft, SendsIfLeft, ServesToEnd, WaitsUntilLeft}
 use Rattle.lq_control.specs.Ending.{EndsAlike, FinishesAlone}
 use Rattle.lq_control.specs.Finish.{AreAllDone, AreFor, AreKept, AreStopsBelow, AreTurnsFrom, IsActiveOrPurged, IsFinished, IsLook, IsSent, Shows}
-use Rattle.lq_control.specs.Seats.{HasBandsToPurge, HasBegunPurge, HasRingsAtRest, HasSlotToPurge, IsFirstReadyAt, IsReadyAt, KeepsSeatAndDevice, MayBeginPurge}
+use Rattle.lq_control.specs.Seats.{HasSlotToPurge, IsFirstReadyAt, IsReadyAt}
 use Rattle.lq_control.specs.Steps.{FindsClear, Rounds, TakesLock, Ups, WaitsForCalls, with_lock_released, with_queues_opened, ChangesLength, Deactivates, Downs, DrainsBy, PurgesBy, PurgesHeld, PurgesSlot, Relengths, ResizesLive, Swaps, SwapsDevice, WaitsUntilClear}
 use Rattle.lq_control.specs.declared.finishes.Seen.{Seen}
+use Rattle.lq_model.specs.Control.{is_quiet}
+use Rattle.lq_table.specs.Purges.{first_purge, HoldPackets, HoldsAtMost}
 
 -- EVENTS OF THE PLAN
 
@@ -49,7 +51,7 @@ module _ {D : Type 0} where
     pub at : IsFirstReadyAt here c
     pub in_phase : IsIn phase (view c)
     pub next : (unit < 256) × IsAfterUnits t.station (view c).trail unit
-    pub fresh : IsFreshFor t.infos.now t.station device
+    pub fresh : (device.accepted ≡ []) × (device.hung ≡ false) × (station_count t.infos.now t.station ≤ device.spare) × (device.asked ≡ [])
 
   -- A deactivated station was activated.
   pub record ActivatesStation (k : Setup) (b a : Cpu D) : Type 0 where
@@ -61,7 +63,7 @@ module _ {D : Type 0} where
   -- These events came on the trail, the latest first, by these steps; the seat is at this position, with nothing in hand, and knows the
   -- station as in this phase. A seat that has the table alone knows this.
   pub record ControlsStation (next : Position) (phase : Phase) (events : List Event) (by : Known → Known → Type 0) (told : View → View → Type 0) (b a : Cpu D) : Type 0 where
-    pub same : KeepsSeatAndDevice b a
+    pub same : IsSameSeat b a × IsKeptByControl (view b) (view a) × KeepsDevice (view b) (view a)
     pub at : IsReadyAt next phase a
     pub trail : (view a).trail ≡ events ++ (view b).trail
     pub steps : by (known b) (known a)
@@ -168,7 +170,7 @@ module _ {D : Type 0} where
     pub served : IsServed (view b) (view a)
     pub at : (position a ≡ Control false) × IsReadyToSend a
     pub clear : answer ≡ true → OwesNoInterrupt (view a)
-    pub off : ChangesOnlyMarks (view b) (view a)
+    pub off : IsSole (view b) → IsSome (account_of (view b)).down → unmarked (solo (view a)) ≡ unmarked (solo (view b))
     pub found : answer ≡ true → FindsClear (known b) (known a)
     pub again : answer ≡ false → Rounds (setup t) (known b) (known a)
 
@@ -185,14 +187,15 @@ module _ {D : Type 0} where
 module _ {D : Type 0} where
   -- The purge of the station that the seat carries has begun, by this cause.
   pub record MayPurgeHeld (t : Shared D) (cause : Cause) (c : Cpu D) : Type 0 where
-    pub at : HasBegunPurge c
+    pub at : (position c ≡ Control true) × ((view c).control.purge ≡ Some first_purge) × ((view c).packets.fresh ≡ None)
     pub slot : HasSlotToPurge t cause c
-    pub bands : HasBandsToPurge t cause c
-    pub rests : HasRingsAtRest c
+    pub bands : (l : Left) × ((view c).holder.left ≡ Some l) × (l.cause ≡ cause) × HoldsAtMost (view c).holder.size l.bands
+        × HoldPackets t.infos.now l.bands
+    pub rests : IsResting (view c).holder.size (view c).holder.ends × ((view c).holder.resizing ≡ None) × ((view c).locks ≡ no_locks)
 
   -- The seat has the run lock and carries the station, with no call inside; it may begin a purge.
   pub record MayPurgeAll (c : Cpu D) : Type 0 where
-    pub at : MayBeginPurge c
+    pub at : (position c ≡ Control true) × (is_quiet (view c).control.phase ≡ true) × ((view c).control.purge ≡ None)
     pub bare : ((view c).packets ≡ no_packets) × ((view c).locks ≡ no_locks)
     pub rests : Rests c × IsKnownSlot (view c).share.about (view c).holder.slot
     pub station : CarriesStation c

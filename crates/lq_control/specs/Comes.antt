@@ -1,6 +1,6 @@
 -- What the relations of control's calls come to.
 use Rattle.std.specs.Prelude.{◌≡◌, ◌⊎◌, ℕ, List, ◌∷◌, ◌++◌, length}
-use Rattle.lq_model.specs.Account.{Event, Purge, Resize, held}
+use Rattle.lq_model.specs.Account.{Event, Purge, Resize, held, dropped_in}
 use Rattle.lq_model.specs.Device.{DeviceState}
 use Rattle.lq_model.specs.declared.fate.Cause.TheVariants as cause
 use Rattle.lq_model.specs.declared.fate.Fate.TheVariants as fate
@@ -9,7 +9,7 @@ use Rattle.lq_table.specs.Rule.{HasServed, latest_unit, units_of}
 use Rattle.lq_table.specs.Sees.{IsSole, account_of}
 use Rattle.lq_table.specs.Views.{View, Setup}
 use Rattle.lq_qdisc.specs.Calls.{KeepsFates}
-use Rattle.lq_control.specs.Control.{IsKeptByControl, KeepsDevice, Stores, all_dropped}
+use Rattle.lq_control.specs.Control.{IsKeptByControl, KeepsDevice, Stores}
 use Rattle.lq_control.specs.Finish.{AreAllDone, ArePurgesHung}
 
 -- these events came, what control keeps is kept, and so many packets are purged by this event: for a seat that has the table alone all
@@ -31,7 +31,7 @@ pub record Shrinks (len event count : ℕ) (v w : View) : Type 0 where
   pub lost : List ℕ
   pub settled : w.settled ≡ fates_onto (fate.Shrunk event) lost v.settled
   pub counted : count ≡ length lost
-  pub all : IsSole v → lost ≡ all_dropped len (account_of v)
+  pub all : IsSole v → lost ≡ (dropped_in len (account_of v) 0 ++ (dropped_in len (account_of v) 1 ++ dropped_in len (account_of v) 2))
 
 -- what a swap tells of the device that came and the one that went
 pub record SwapsFor (came went : DeviceState) (v w : View) : Type 0 where

@@ -1,8 +1,8 @@
 -- What the calls of control make of what the first seat knows.
-use Rattle.std.specs.Prelude.{◌≡◌, ◌<◌, ◌≤◌, ℕ, true, false, List, [], ◌∷◌, ◌++◌, length, Option, Some, None, Contains}
+use Rattle.std.specs.Prelude.{◌≡◌, ◌<◌, ℕ, true, false, List, ◌∷◌, ◌++◌, length, Option, Some, None, Contains}
 use Rattle.std.specs.Option.{option_map, option_to_list}
 use Rattle.lq_account_laws.specs.Trail.{down_of}
-use Rattle.lq_model.specs.Account.{Account, Event, Down, Purge as PurgeEvent, Resize, Swap, dropped_in}
+use Rattle.lq_model.specs.Account.{Event, Down, Purge as PurgeEvent, Resize, Swap}
 use Rattle.lq_model.specs.Band.{Band, held_of}
 use Rattle.lq_model.specs.Control.{after_purge}
 use Rattle.lq_model.specs.Device.{DeviceState}
@@ -10,14 +10,13 @@ use Rattle.lq_model.specs.declared.fate.Cause.{Cause}
 use Rattle.lq_model.specs.declared.fate.Cause.TheVariants as cause
 use Rattle.lq_model.specs.declared.fate.Fate.{Fate}
 use Rattle.lq_model.specs.declared.fate.Fate.TheVariants as fate
-use Rattle.lq_model.specs.declared.fate.Info.{Info}
 use Rattle.lq_model.specs.declared.machine.Phase.{Phase}
 use Rattle.lq_model.specs.declared.machine.Position.TheVariants.{Control}
 use Rattle.lq_band_laws.specs.Three.{Three}
 use Rattle.lq_band_laws.specs.Ring.{Ends}
 use Rattle.lq_table.specs.Views.{View, HolderPart, Left, WholePart}
 use Rattle.lq_table.specs.Purges.{AreKnown}
-use Rattle.lq_table.specs.Rule.{IsResting, station_count, units_of}
+use Rattle.lq_table.specs.Rule.{IsResting, units_of}
 use Rattle.lq_table.specs.Moves.{IsKnownSlot}
 use Rattle.lq_table.specs.Locks.{try_lock_view_in_control, locked_to}
 use Rattle.lq_table.specs.Sees.{Solo, IsSole, solo, heard, device_to}
@@ -68,10 +67,6 @@ with_lock_free v = record v { place = record v.place { position = Control false 
 abbrev pub OwesNoInterrupt : View → Type 0
 OwesNoInterrupt v = (v.place.raised ≡ false) × (IsSole v → v.whole.qdisc.sched ≡ false)
 
--- what a resize to this length drops of the account
-abbrev pub all_dropped : ℕ → Account → List ℕ
-all_dropped len a = dropped_in len a 0 ++ (dropped_in len a 1 ++ dropped_in len a 2)
-
 -- the station was deactivated and purged
 abbrev pub deactivated_solo : ℕ → Solo → Solo
 deactivated_solo event s = locked_to false (missed_to false (draining_to false (heard (PurgeEvent (cause.Event event)) (locked_to true (heard (Down event) s)))))
@@ -91,10 +86,6 @@ abbrev pub GetsStation : View → View → Type 0
 GetsStation v w = (d : HolderPart) × (w ≡ try_lock_view_in_control d v) × IsResting d.size d.ends × (0 < d.size) × (d.hand ≡ None) × (d.resizing ≡ None) × (d.shut ≡ None) × IsKnownSlot v.share.about d.slot
 
 -- SWAPS
-
--- the device was asked nothing, doesn't hang, and has room for all packets of the station
-abbrev pub IsFreshFor : List Info → ℕ → DeviceState → Type 0
-IsFreshFor infos station d = (d.accepted ≡ []) × (d.hung ≡ false) × (station_count infos station ≤ d.spare) × (d.asked ≡ [])
 
 -- the unit is above every one that the station had
 pub record IsAfterUnits (station : ℕ) (trail : List Event) (unit : ℕ) : Type 0 where

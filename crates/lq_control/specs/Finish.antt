@@ -58,15 +58,11 @@ AreAllDone k turns = (o : ℕ) → o < k.senders → slice_index turns o ≡ 2 *
 
 -- THE TRAIL
 
--- each of these events brought a packet of the first sender
-abbrev pub BroughtFirst : List Info → List Event → Type 0
-BroughtFirst infos events = (e : Event) → Contains events e → (n : ℕ) × (brought e ≡ Some n) × (owner_in infos n ≡ 0)
-
 -- what transmits of the seat put on the trail; fates that were stored stay so
 pub record IsSent (k : Setup) (v w : View) : Type 0 where
   pub events : List Event
   pub trail : w.trail ≡ events ++ v.trail
-  pub first : BroughtFirst k.infos events
+  pub first : (e : Event) → Contains events e → (n : ℕ) × (brought e ≡ Some n) × (owner_in k.infos n ≡ 0)
   pub fates : KeepsFates v w
 
 -- WHAT IS LEFT

@@ -1,20 +1,16 @@
 -- What the calls of control ask of a seat, and what they leave of it.
 use Rattle.std.specs.Prelude.{◌≡◌, ◌<◌, ℕ, true, IfSome, length, Option, Some, None}
-use Rattle.lq_model.specs.Control.{is_quiet}
 use Rattle.lq_model.specs.Machine.{is_closed}
 use Rattle.lq_model.specs.declared.fate.Cause.{Cause}
 use Rattle.lq_model.specs.declared.machine.Phase.{Phase}
 use Rattle.lq_model.specs.declared.machine.Position.{Position}
 use Rattle.lq_model.specs.declared.machine.Position.TheVariants.{Control}
-use Rattle.lq_table.specs.Views.{Left}
-use Rattle.lq_table.specs.Purges.{first_purge, HoldsAtMost, HoldPackets}
-use Rattle.lq_table.specs.Rule.{shown, IsResting}
+use Rattle.lq_table.specs.Rule.{shown}
 use Rattle.lq_table.specs.Sees.{view, known, position, slot, IsSameSeat}
 use Rattle.lq_table.specs.declared.shared.Cpu.{Cpu}
 use Rattle.lq_table.specs.declared.shared.Shared.{Shared}
-use Rattle.lq_ring.specs.Put.{no_locks}
 use Rattle.lq_qdisc.specs.Sends.{IsReadyToSend}
-use Rattle.lq_control.specs.Control.{IsIn, IsKeptByControl, KeepsDevice, OwesPurged}
+use Rattle.lq_control.specs.Control.{IsIn, OwesPurged}
 
 module _ {D : Type 0} where
   -- the first seat at this position, with nothing in hand
@@ -25,10 +21,6 @@ module _ {D : Type 0} where
   abbrev pub IsReadyAt : Position → Phase → Cpu D → Type 0
   IsReadyAt at phase c = (position c ≡ at) × IsReadyToSend c × IsIn phase (view c)
 
-  -- the seat and the devices are the same, and what control keeps
-  abbrev pub KeepsSeatAndDevice : Cpu D → Cpu D → Type 0
-  KeepsSeatAndDevice b a = IsSameSeat b a × IsKeptByControl (view b) (view a) × KeepsDevice (view b) (view a)
-
   -- all but the station that it carries is as it was
   abbrev pub ChangesOnlyStation : Cpu D → Cpu D → Type 0
   ChangesOnlyStation b a = IsSameSeat b a × (a.indices ≡ b.indices) × (slot a ≡ slot b) × (known a ≡ known b)
@@ -36,25 +28,9 @@ module _ {D : Type 0} where
 -- PURGES
 
 module _ {D : Type 0} where
-  -- under the run lock, with no call inside and no purge half done
-  abbrev pub MayBeginPurge : Cpu D → Type 0
-  MayBeginPurge c = (position c ≡ Control true) × (is_quiet (view c).control.phase ≡ true) × ((view c).control.purge ≡ None)
-
-  -- the purge has just begun
-  abbrev pub HasBegunPurge : Cpu D → Type 0
-  HasBegunPurge c = (position c ≡ Control true) × ((view c).control.purge ≡ Some first_purge) × ((view c).packets.fresh ≡ None)
-
   -- the requeue slot of the station that it carries is to be purged by this cause
   abbrev pub HasSlotToPurge : Shared D → Cause → Cpu D → Type 0
   HasSlotToPurge t cause c = (s : Option ℕ) × (c.station ≡ Some (shown (record (view c).holder { slot = s }))) × OwesPurged cause s (view c) × ((view c).holder.slot ≡ None) × IfSome s (λ n. n < length t.infos.now)
-
-  -- and so are these bands
-  abbrev pub HasBandsToPurge : Shared D → Cause → Cpu D → Type 0
-  HasBandsToPurge t cause c = (l : Left) × ((view c).holder.left ≡ Some l) × (l.cause ≡ cause) × HoldsAtMost (view c).holder.size l.bands × HoldPackets t.infos.now l.bands
-
-  -- the rings rest, no resize is half done, and it has no producer lock
-  abbrev pub HasRingsAtRest : Cpu D → Type 0
-  HasRingsAtRest c = IsResting (view c).holder.size (view c).holder.ends × ((view c).holder.resizing ≡ None) × ((view c).locks ≡ no_locks)
 
   -- the run lock of a deactivated station may be released: no purge and no swap is half done
   abbrev pub MayRelease : Cpu D → Type 0

@@ -101,10 +101,6 @@ pub record Finds (n : ℕ) (old new : View) : Type 0 where
 abbrev pub cleared : Solo → Solo
 cleared v = draining_to false (missed_to false v)
 
--- what it has as holder and the state beside the machine are as they were, and a seat that has the table alone knows this
-abbrev pub KeepsHolder : Solo → View → View → Type 0
-KeepsHolder now old new = (new.holder ≡ old.holder) × (new.whole.state ≡ old.whole.state) × (solo new ≡ now)
-
 -- The bands were found empty: once where both bits were loaded clear after that, and else once more after their clearing.
 pub record FindsEmpty (old new : View) : Type 0 where
   pub past : (new.whole.state.past ≡ found_empty 3 old.whole.state.past) ⊎ (new.whole.state.past ≡ found_empty 3 (found_empty 3 old.whole.state.past))

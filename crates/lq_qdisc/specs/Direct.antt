@@ -1,5 +1,5 @@
 -- What handing a packet to the device leaves of what the holder of the run lock knows.
-use Rattle.std.specs.Prelude.{◌≡◌, ◌≢◌, ◌==◌, ◌+◌, ℕ, zero, suc, Bool, true, false, if◌then◌else◌, length, slice_index, List, ◌∷◌, Some, None}
+use Rattle.std.specs.Prelude.{◌≡◌, ◌≢◌, ◌==◌, ℕ, zero, suc, Bool, true, false, if◌then◌else◌, length, slice_index, List, ◌∷◌, Some, None}
 use Rattle.lq_device.specs.Station.{StationState, HasAnswered}
 use Rattle.lq_model.specs.Account.{Event, Back, Send, Stop}
 use Rattle.lq_model.specs.Device.{is_busy}
@@ -126,10 +126,6 @@ pub record IsSentAs (answer : Tx) (n queue : ℕ) (direct : Bool) (st : StationS
 abbrev pub run_after : Through → ℕ → ℕ
 run_after through.Yes run = run_counted run
 run_after (through.Back reason) run = run
-
--- one more packet was sent in the run, and nothing is in hand or in the requeue slot
-abbrev pub HasSentOneMore : View → View → Type 0
-HasSentOneMore old new = (new.place.run ≡ old.place.run + 1) × (new.holder.hand ≡ None) × (new.holder.slot ≡ None)
 
 -- how many packets the device has accepted
 abbrev pub accepted_count : View → ℕ

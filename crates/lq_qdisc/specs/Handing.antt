@@ -2,7 +2,7 @@
 use Rattle.std.specs.Prelude.{◌≡◌, ◌<◌, ℕ, Bool, true, false, is_some, length, [], ◌∷◌, Some, None}
 use Rattle.lq_device.specs.Station.{StationState, HasAnswered}
 use Rattle.lq_model.specs.Account.{Back}
-use Rattle.lq_model.specs.Device.{is_hang}
+use Rattle.lq_model.specs.Device.{is_hang, is_busy}
 use Rattle.lq_model.specs.Plan.{queue_in}
 use Rattle.lq_model.specs.Words.{word_of}
 use Rattle.lq_model.specs.declared.device.Tx.{Tx}
@@ -24,7 +24,7 @@ use Rattle.lq_table.specs.declared.shared.Cpu.{Cpu}
 use Rattle.lq_table.specs.declared.shared.Shared.{Shared}
 use Rattle.lq_qdisc.specs.Calls.{ClearsMissedAlone, IsServing, IsKeptInRun, IsSettledSame}
 use Rattle.lq_qdisc.specs.Direct.{SeesOpen, StaysAt, hearing_stops, run_after, sent_leads, stopped_by}
-use Rattle.lq_qdisc.specs.Seats.{CarriesAccepted, GoesOnFrom, StoresSent}
+use Rattle.lq_qdisc.specs.Seats.{GoesOnFrom, StoresSent}
 use Rattle.lq_qdisc.specs.Steps.{ClearsAndSetsBy, stops_stored}
 use Rattle.lq_qdisc.specs.declared.answers.Through.{Through}
 use Rattle.lq_qdisc.specs.declared.answers.Through.TheVariants.{Yes}
@@ -112,7 +112,8 @@ module _ {D : Type 0} where
     pub at : (direct : Bool) × (position c ≡ Xmit (packet_at t n) direct)
     pub hand : (view c).holder.hand ≡ Some n
     pub room : HasRoom (view c).holder
-    pub accepted : CarriesAccepted t n c
+    pub accepted : (answer : Tx) × (is_busy answer ≡ false)
+        × HasAnswered answer (queue_in t.infos.now n) n (shown (view c).holder) (carried c)
     pub fate_is : f ≡ fate_sent (view c).holder.station
 
   -- That fate is stored.

@@ -1,5 +1,5 @@
 -- A transmit, the interrupts, and their parts: what each requires of the seat (`May..`), and what each ensures of it.
-use Rattle.std.specs.Prelude.{◌≡◌, ℕ, true, false, Bool, if◌then◌else◌, List, None}
+use Rattle.std.specs.Prelude.{◌≡◌, ℕ, true, false, Bool, if◌then◌else◌, List, None, ◌<◌, ◌*◌, ◌≢◌, Some, ◌↔◌}
 use Rattle.lq_model.specs.declared.fate.Info.{Info}
 use Rattle.lq_model.specs.declared.machine.Attempt.{Attempt}
 use Rattle.lq_model.specs.declared.machine.Attempt.TheVariants.{Interrupt}
@@ -16,12 +16,17 @@ use Rattle.lq_table.specs.declared.shared.Cpu.{Cpu}
 use Rattle.lq_table.specs.declared.shared.Shared.{Shared}
 use Rattle.lq_qdisc.specs.Calls.{IsServing, IsSlotOf, KeepsFates}
 use Rattle.lq_qdisc.specs.Direct.{position_after}
-use Rattle.lq_qdisc.specs.Seats.{BringsPacket, FindsOtherTurn, HasOwnerOf, IsNotTurnOf, IsPacketOfStation, IsTurnOf}
-use Rattle.lq_qdisc.specs.Sends.{HasCome, IsBringing, IsCallKept, IsReadyToSend, IsRefusedAsOnTrail, IsStill, IsStillWithHolder, serves_bands}
+use Rattle.lq_qdisc.specs.Seats.{FindsOtherTurn, IsTurnOf, turn_word, BringsStation}
+use Rattle.lq_qdisc.specs.Sends.{HasCome, IsBringing, IsCallKept, IsReadyToSend, IsStill, serves_bands}
 use Rattle.lq_qdisc.specs.Steps.{EnqueuesBy, IsDueBy, StoresRefused, TransmitsBy}
 use Rattle.lq_qdisc.specs.declared.answers.Sending.{Sending}
 use Rattle.lq_qdisc.specs.declared.answers.Through.{Through}
 use Rattle.lq_qdisc.specs.declared.answers.Through.TheVariants.{Yes}
+use Rattle.lq_model.specs.Plan.{band_in, station_in, owner_in, rank_in}
+use Rattle.lq_table.specs.Rule.{times}
+use Rattle.lq_model.specs.Alone.{brought_in}
+use Rattle.lq_qdisc.specs.declared.answers.Sending.TheVariants as sending
+use Rattle.lq_account_laws.specs.Trail.{down_of}
 
 -- WHAT THEY REQUIRE
 
@@ -68,8 +73,8 @@ module _ {D : Type 0} where
   pub record MayTransmit (t : Shared D) (n : ℕ) (c : Cpu D) : Type 0 where
     pub at : position c ≡ Idle
     pub ready : IsReadyToSend c
-    pub packet : IsPacketOfStation t n
-    pub owner : HasOwnerOf t n c
+    pub packet : IsPacketOf (setup t) n × (station_in t.infos.now n ≡ t.station) × (band_in t.infos.now n < 3)
+    pub owner : (0 < times (owner_in t.infos.now n) (view c).share.owners) × (owner_in t.infos.now n < t.senders)
 
 -- WHAT THEY ENSURE
 
@@ -111,15 +116,16 @@ module _ {D : Type 0} where
     pub at : position a ≡ Idle
     pub ready : IsReadyToSend a
     pub in_turn : IsTurnOf t n b → TransmitsBy (setup t) n answer (known b) (known a)
-    pub first : IsTurnOf t n b → (view b).control.first ≡ true → IsRefusedAsOnTrail answer (view b)
-    pub alone : IsTurnOf t n b → (view b).place.raised ≡ false → BringsPacket t n b a
-    pub out_of_turn : IsNotTurnOf t n b → FindsOtherTurn t n answer b a
+    pub first : IsTurnOf t n b → (view b).control.first ≡ true → (event : ℕ)
+        → (answer ≡ sending.Refused event) ↔ (down_of (view b).trail ≡ Some event)
+    pub alone : IsTurnOf t n b → (view b).place.raised ≡ false → BringsStation t (brought_in t.infos.now t.bypass n) b a
+    pub out_of_turn : turn_word t n b ≢ 2 * rank_in t.infos.now n → FindsOtherTurn t n answer b a
 
   -- SCHED was cleared, and the seat goes on to the run lock where the bands are to be served, as the answer says.
   pub record BeginsSoftirq (answer : Bool) (b a : Cpu D) : Type 0 where
     pub same : IsElseSame b a
     pub at : position a ≡ (if answer then Try1 Interrupt else Leave)
-    pub still : IsStillWithHolder (view b) (view a)
+    pub still : IsStill (view b) (view a) × ((view a).locks ≡ (view b).locks) × ((view a).holder ≡ (view b).holder)
     pub due : IsDueBy answer (known b) (known a)
     pub mark : (view a).place.raised ≡ (view b).place.raised
 

@@ -1,34 +1,24 @@
 -- What the calls of a queue discipline ask of a seat, and what they leave of it.
-use Rattle.std.specs.Prelude.{◌≡◌, ◌≢◌, ℕ, ◌*◌, ◌<◌, Bool, false, length, slice_index, Option, Some, None}
-use Rattle.std.specs.Option.{option_map_or}
+use Rattle.std.specs.Prelude.{◌≡◌, ◌≢◌, ℕ, ◌*◌, ◌<◌, Bool, false, length, slice_index, Some, None}
 use Rattle.lq_device.specs.Station.{StationState, HasAnswered}
-use Rattle.lq_model.specs.Alone.{RunningStation, brought_in, opened}
+use Rattle.lq_model.specs.Alone.{RunningStation, opened}
 use Rattle.lq_model.specs.Device.{is_busy}
-use Rattle.lq_model.specs.Plan.{band_in, owner_in, queue_in, rank_in, station_in}
+use Rattle.lq_model.specs.Plan.{owner_in, queue_in, rank_in}
 use Rattle.lq_model.specs.declared.device.Tx.{Tx}
 use Rattle.lq_model.specs.declared.machine.Position.{Position}
-use Rattle.lq_model.specs.declared.machine.Position.TheVariants.{Gate, Scan, Xmit}
+use Rattle.lq_model.specs.declared.machine.Position.TheVariants.{Xmit}
 use Rattle.lq_table.specs.Views.{first_account}
-use Rattle.lq_table.specs.Rule.{shown, times}
+use Rattle.lq_table.specs.Rule.{shown}
 use Rattle.lq_table.specs.Sees.{view, steps, setup, position, packet_at, carried, IsAccounts, solo}
-use Rattle.lq_table.specs.Moves.{IsPacketOf}
 use Rattle.lq_table.specs.Made.{◌⊳◌}
 use Rattle.lq_table.specs.Turns.{take_turn_log}
 use Rattle.lq_table.specs.declared.shared.Cpu.{Cpu}
 use Rattle.lq_table.specs.declared.shared.Shared.{Shared}
 use Rattle.lq_qdisc.specs.Alone.{BringsAlone, Does, IsOneSender, RunsAlone, account_in}
-use Rattle.lq_qdisc.specs.Calls.{looking_at}
 use Rattle.lq_qdisc.specs.Direct.{IsSentAs, position_after}
 use Rattle.lq_qdisc.specs.declared.answers.Sending.{Sending}
 use Rattle.lq_qdisc.specs.declared.answers.Sending.TheVariants as sending
 use Rattle.lq_qdisc.specs.declared.answers.Through.{Through}
-
--- TAKES
-
-module _ {D : Type 0} where
-  -- from a look through the bands it goes on with the packet that was found to the gate, or else behind the last band
-  abbrev pub GoesOnFromBands : Shared D → Option ℕ → Cpu D → Cpu D → Type 0
-  GoesOnFromBands t found b a = (second : Bool) → position b ≡ Scan 0 second → position a ≡ option_map_or (λ n. Gate (packet_at t n) false) found (looking_at 3 second)
 
 -- DIRECT TRANSMITS
 
@@ -41,10 +31,6 @@ module _ {D : Type 0} where
   abbrev pub CarriesDeviceWithRoom : Cpu D → Type 0
   CarriesDeviceWithRoom c = (st : StationState) × (c.station ≡ Some st) × (0 < st.device.spare) × (st.device.hung ≡ false) × (length st.device.accepted < 1000000)
 
-  -- that device accepted the packet n since the last step
-  abbrev pub CarriesAccepted : Shared D → ℕ → Cpu D → Type 0
-  CarriesAccepted t n c = (answer : Tx) × (is_busy answer ≡ false) × HasAnswered answer (queue_in t.infos.now n) n (shown (view c).holder) (carried c)
-
   -- whichever answer it accepted the packet n with, the packet's fate is stored as after this answer
   abbrev pub StoresSent : Shared D → ℕ → Cpu D → Cpu D → Type 0
   StoresSent t n b a = (answer : Tx) → (direct : Bool) → is_busy answer ≡ false → HasAnswered answer (queue_in t.infos.now n) n (shown (view b).holder) (carried b)
@@ -53,14 +39,6 @@ module _ {D : Type 0} where
 -- TRANSMITS
 
 module _ {D : Type 0} where
-  -- the packet n is one of the table's station, and its band is there
-  abbrev pub IsPacketOfStation : Shared D → ℕ → Type 0
-  IsPacketOfStation t n = IsPacketOf (setup t) n × (station_in t.infos.now n ≡ t.station) × (band_in t.infos.now n < 3)
-
-  -- the seat has the owner of the packet n
-  abbrev pub HasOwnerOf : Shared D → ℕ → Cpu D → Type 0
-  HasOwnerOf t n c = (0 < times (owner_in t.infos.now n) (view c).share.owners) × (owner_in t.infos.now n < t.senders)
-
   -- the turn word of that owner, as the seat knows it
   abbrev pub turn_word : Shared D → ℕ → Cpu D → ℕ
   turn_word t n c = slice_index (view c).turns (owner_in t.infos.now n)
@@ -68,10 +46,6 @@ module _ {D : Type 0} where
   -- it is the packet's turn
   abbrev pub IsTurnOf : Shared D → ℕ → Cpu D → Type 0
   IsTurnOf t n c = turn_word t n c ≡ 2 * rank_in t.infos.now n
-
-  -- it isn't
-  abbrev pub IsNotTurnOf : Shared D → ℕ → Cpu D → Type 0
-  IsNotTurnOf t n c = turn_word t n c ≢ 2 * rank_in t.infos.now n
 
   -- the turn was tried and wasn't got: the answer is the turn word, and nothing else was done
   abbrev pub FindsOtherTurn : Shared D → ℕ → Sending → Cpu D → Cpu D → Type 0
@@ -83,10 +57,6 @@ module _ {D : Type 0} where
   -- it brings the station on by this step of the run of one sender
   abbrev pub BringsStation : Shared D → (RunningStation → RunningStation) → Cpu D → Cpu D → Type 0
   BringsStation t step b a = BringsAlone t.infos.now (first_account (setup t)) step (solo (view b)) (solo (view a))
-
-  -- by the packet n
-  abbrev pub BringsPacket : Shared D → ℕ → Cpu D → Cpu D → Type 0
-  BringsPacket t n b a = BringsStation t (brought_in t.infos.now t.bypass n) b a
 
   -- it opens the station's queues
   abbrev pub OpensStation : Shared D → Cpu D → Cpu D → Type 0

@@ -1,10 +1,9 @@
 -- What a transmit and a soft interrupt leave of what a seat knows.
-use Rattle.std.specs.Prelude.{◌≡◌, ◌≢◌, ◌⊎◌, ◌↔◌, ℕ, zero, suc, slice_index, ◌+◌, ◌*◌, ◌<◌, Bool, true, false, not, is_some, length, List, Option, Some, None}
+use Rattle.std.specs.Prelude.{◌≡◌, ◌≢◌, ◌⊎◌, ℕ, zero, suc, slice_index, ◌+◌, ◌*◌, ◌<◌, Bool, true, false, not, is_some, length, List, Option, Some, None}
 use Rattle.lq_model.specs.Account.{Event, Join, Full, Refuse, Direct, Wake}
 use Rattle.lq_model.specs.Plan.{band_in, owner_in, rank_in}
 use Rattle.lq_model.specs.declared.fate.Fate.TheVariants as fate
 use Rattle.lq_model.specs.declared.fate.Info.{Info}
-use Rattle.lq_account_laws.specs.Trail.{down_of}
 use Rattle.lq_model.specs.declared.machine.Attempt.{Attempt}
 use Rattle.lq_model.specs.declared.machine.Attempt.TheVariants as attempt
 use Rattle.lq_run.specs.Runs.{HasNone, after_got, after_missed, after_begin, ended}
@@ -107,10 +106,6 @@ IsRefused n event state old new = (is_set 2 state ≡ true) × ((bits : ℕ) × 
 abbrev pub OwesRefused : ℕ → ℕ → View → Type 0
 OwesRefused n state v = (event : ℕ) × (bits : ℕ) × (bits < 16) × (event < 4294967296) × (state ≡ bits + 256 * (event + 1)) × (v.packets.owed ≡ Some (n, fate.Refused event))
 
--- a packet is refused by an event exactly where the trail has the station deactivated by it
-abbrev pub IsRefusedAsOnTrail : Sending → View → Type 0
-IsRefusedAsOnTrail answer v = (event : ℕ) → (answer ≡ sending.Refused event) ↔ (down_of v.trail ≡ Some event)
-
 -- the seat's view as the transmit of the packet n begins, whose turn it has
 abbrev pub transmitting : List Info → ℕ → View → View
 transmitting infos n v = enter_view (take_turn_view n (owner_in infos n) (rank_in infos n) v)
@@ -123,10 +118,6 @@ pub record IsStill (old new : View) : Type 0 where
   pub packets : new.packets ≡ old.packets
   pub turns : new.turns ≡ old.turns
   pub trail : new.trail ≡ old.trail
-
--- and so are its producer locks, and what it has as holder
-abbrev pub IsStillWithHolder : View → View → Type 0
-IsStillWithHolder old new = IsStill old new × (new.locks ≡ old.locks) × (new.holder ≡ old.holder)
 
 -- SCHED was cleared; what the loads of the state showed says whether the bands are served
 pub record IsDue (due : Bool) (old new : View) : Type 0 where

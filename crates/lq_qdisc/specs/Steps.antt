@@ -1,5 +1,5 @@
 -- What the calls do: the steps in the order in which they are made, and what the seat knows after them, with the values that they found.
-use Rattle.std.specs.Prelude.{◌≡◌, ◌≢◌, ◌⊎◌, ◌↔◌, ◌<◌, ◌≤◌, ◌*◌, ◌+◌, ℕ, zero, suc, Bool, true, false, not, ◌&&◌, is_some, slice_set, List, Option, Some, None, MatchOption}
+use Rattle.std.specs.Prelude.{◌≡◌, ◌≢◌, ◌⊎◌, ◌↔◌, ◌<◌, ◌≤◌, ◌*◌, ◌+◌, ℕ, zero, suc, Bool, true, false, not, ◌&&◌, is_some, slice_set, List, Option, Some, None}
 use Rattle.lq_model.specs.Account.{Direct as DirectEvent}
 use Rattle.lq_model.specs.Plan.{band_in, owner_in, queue_in, rank_in}
 use Rattle.lq_model.specs.Words.{word_of}
@@ -162,10 +162,6 @@ EndsBy k end.Quota old new = (new.view ≡ pass_view old.view) × (solo new.view
 EndsBy k end.Stopped old new = (DequeuesBy k taken.Stopped old new × SeesOneQueue taken.Stopped old.view) ⊎ HandsBy k (through.Back why.Stopped) old new
 EndsBy k end.Busy old new = HandsBy k (through.Back why.Busy) old new
 
--- a turn of a run: a packet was sent, or the run came to this end
-abbrev pub RestartsBy : Setup → Option RunEnd → Known → Known → Type 0
-RestartsBy k answer old new = MatchOption answer (HandsBy k through.Yes old new) (λ end_. EndsBy k end_ old new)
-
 -- `__qdisc_run` of net/sched/sch_generic.c: so many packets were sent, at most as many as the quota, and it came to this end: by the quota
 -- exactly where it sent as many.
 pub record RunsBy (k : Setup) (ran : Ran) (old new : Known) : Type 0 where
@@ -307,9 +303,6 @@ IsDueBy due old new = (d : IsDue due old.view new.view)
 abbrev pub softirq_begun : Known → Known
 softirq_begun k = record { view = enter_view k.view; steps = k.steps ⊳ enter_log }
 
-abbrev pub softirq_over : Known → Known
-softirq_over k = record { view = pass_view k.view; steps = k.steps ⊳ leave_log }
-
 -- `net_tx_action` of net/core/dev.c for one qdisc: the bands are served, unless the station is deactivated still
 pub record InterruptsBy (k : Setup) (old new : Known) : Type 0 where
   pub due : Bool
@@ -318,5 +311,5 @@ pub record InterruptsBy (k : Setup) (old new : Known) : Type 0 where
   pub last : Known
   pub serves : due ≡ true → AttemptsBy k cleared last
   pub leaves : due ≡ false → last ≡ cleared
-  pub ends : new ≡ softirq_over last
+  pub ends : new ≡ record { view = pass_view last.view; steps = last.steps ⊳ leave_log }
   pub step : solo new.view ≡ solo last.view

@@ -1,7 +1,7 @@
 -- The parts of a run: what each requires of the holder of the run lock (`May..`), and what each ensures of it.
-use Rattle.std.specs.Prelude.{⊤, ◌≡◌, ◌≢◌, ◌≤◌, ℕ, ◌+◌, Bool, if◌then◌else◌, is_none, Option, Some, None, MatchOption}
+use Rattle.std.specs.Prelude.{⊤, ◌≡◌, ◌≢◌, ◌≤◌, ℕ, ◌+◌, Bool, if◌then◌else◌, is_none, Option, Some, None, MatchOption, false}
 use Rattle.lq_model.specs.declared.machine.Position.{Position}
-use Rattle.lq_model.specs.declared.machine.Position.TheVariants.{Deq, Gate, Unlock}
+use Rattle.lq_model.specs.declared.machine.Position.TheVariants.{Deq, Gate, Unlock, Scan}
 use Rattle.lq_run.specs.Runs.{begins}
 use Rattle.lq_table.specs.Sees.{view, known, setup, position, slot, packet_at, Solo, solo}
 use Rattle.lq_table.specs.States.{set_bit_alone}
@@ -9,14 +9,16 @@ use Rattle.lq_table.specs.Moves.{IsPacketOf}
 use Rattle.lq_table.specs.declared.shared.Cpu.{Cpu}
 use Rattle.lq_table.specs.declared.shared.Shared.{Shared}
 use Rattle.lq_table.specs.Views.{Setup, Known}
-use Rattle.lq_qdisc.specs.Calls.{ClearsMissedAlone, Dequeues, Finds, FindsNone, IsKeptInRun, IsServing, IsSettledSame, IsSlotOf, IsTakenOf, KeepsFates, KeepsHolder, Looks, SeesOneQueue, after_blocked, after_dequeue, laid_aside, with_back}
-use Rattle.lq_qdisc.specs.Direct.{HasSentOneMore, accepted_count, position_in_run}
-use Rattle.lq_qdisc.specs.Seats.{GoesOnFromBands, ServesStation}
-use Rattle.lq_qdisc.specs.Steps.{ClearsMissedBy, DequeuesBy, DequeuesFrom, LooksThrough, RestartsBy, RunsBy, Scans}
+use Rattle.lq_qdisc.specs.Calls.{ClearsMissedAlone, Dequeues, Finds, FindsNone, IsKeptInRun, IsServing, IsSettledSame, IsSlotOf, IsTakenOf, KeepsFates, Looks, SeesOneQueue, after_blocked, after_dequeue, laid_aside, with_back, looking_at}
+use Rattle.lq_qdisc.specs.Direct.{accepted_count, position_in_run}
+use Rattle.lq_qdisc.specs.Seats.{ServesStation}
+use Rattle.lq_qdisc.specs.Steps.{ClearsMissedBy, DequeuesBy, DequeuesFrom, LooksThrough, RunsBy, Scans, EndsBy, HandsBy}
 use Rattle.lq_qdisc.specs.declared.answers.Ran.{Ran}
 use Rattle.lq_qdisc.specs.declared.answers.RunEnd.{RunEnd}
 use Rattle.lq_qdisc.specs.declared.answers.RunEnd.TheVariants.{Quota}
 use Rattle.lq_qdisc.specs.declared.answers.Taken.{Taken}
+use Rattle.lq_qdisc.specs.declared.answers.Through.TheVariants as through
+use Rattle.std.specs.Option.{option_map_or}
 
 -- DEQUEUE
 
@@ -62,7 +64,8 @@ module _ {D : Type 0} where
     pub kept : IsKeptInRun b a
     pub run : (view a).place.run ≡ (view b).place.run
     pub serving : IsServing a
-    pub at : GoesOnFromBands t found b a
+    pub at : (second : Bool) → position b ≡ Scan 0 second
+        → position a ≡ option_map_or (λ n. Gate (packet_at t n) false) found (looking_at 3 second)
     pub fates : IsSettledSame b a
     pub taken : MatchOption found (FindsNone (view b) (view a)) (λ n. Finds n (view b) (view a))
     pub packet : MatchOption found ⊤ (λ n. IsPacketOf (setup t) n)
@@ -75,7 +78,7 @@ module _ {D : Type 0} where
     pub station : (a.station ≡ b.station) × (slot a ≡ slot b)
     pub at : position a ≡ next
     pub fates : IsSettledSame b a
-    pub same : KeepsHolder (told (solo (view b))) (view b) (view a)
+    pub same : ((view a).holder ≡ (view b).holder) × ((view a).whole.state ≡ (view b).whole.state) × (solo (view a) ≡ told (solo (view b)))
     pub made : by (known b) (known a)
 
   -- At a stopped queue: MISSED was cleared, and set again where the queue was open by then; else DRAINING was set.
@@ -105,9 +108,9 @@ module _ {D : Type 0} where
     pub kept : IsKeptInRun b a
     pub serving : IsServing a
     pub trail : (view a).trail ≡ (view b).trail
-    pub sent : RestartsBy (setup t) answer (known b) (known a)
+    pub sent : MatchOption answer (HandsBy (setup t) through.Yes (known b) (known a)) (λ end_. EndsBy (setup t) end_ (known b) (known a))
     pub at : MatchOption answer (position a ≡ position_in_run (view a)) (λ end. position a ≡ Unlock)
-    pub run : answer ≡ None → HasSentOneMore (view b) (view a)
+    pub run : answer ≡ None → ((view a).place.run ≡ (view b).place.run + 1) × ((view a).holder.hand ≡ None) × ((view a).holder.slot ≡ None)
     pub quota : MatchOption answer ⊤ (λ end. end ≢ Quota)
     pub fates : KeepsFates (view b) (view a)
     pub accepted : accepted_count (view a) ≡ accepted_count (view b) + (if is_none answer then 1 else 0)

@@ -1,35 +1,37 @@
 -- What the calls on the rings require of the seat that makes them (`May..`), and what they ensure of it.
-use Rattle.std.specs.Prelude.{◌≡◌, ℕ, ◌+◌, ◌-◌, ◌<◌, ◌≤◌, Bool, true, false, List, Option, Some, None, IfSome, MatchResult, Result, length, slice_get}
-use Rattle.lq_device.specs.Station.{StationState}
-use Rattle.lq_model.specs.Account.{held_in}
+use Rattle.std.specs.Prelude.{◌≡◌, ℕ, ◌+◌, ◌-◌, ◌<◌, ◌≤◌, Bool, true, false, List, Option, Some, None, IfSome, MatchResult, Result, length, slice_get, MatchOption, slice_index}
+use Rattle.lq_device.specs.Station.{StationState, with_ends}
+use Rattle.lq_model.specs.Account.{held_in, Take}
 use Rattle.lq_model.specs.Words.{HasWord}
 use Rattle.lq_model.specs.declared.fate.Cause.{Cause}
 use Rattle.lq_model.specs.declared.fate.Fate.TheVariants as fate
 use Rattle.lq_model.specs.declared.machine.Position.TheVariants.{Put, Scan}
 use Rattle.lq_ring_core.specs.declared.ring.Full.{Full}
-use Rattle.lq_band_laws.specs.Ring.{is_emptying}
+use Rattle.lq_band_laws.specs.Ring.{is_emptying, locked_at, at_start}
 use Rattle.lq_table.specs.Made.{◌⊳◌}
-use Rattle.lq_table.specs.Resizes.{clear_slot_log, out_of}
-use Rattle.lq_table.specs.Rule.{IsResting}
-use Rattle.lq_table.specs.Sees.{view, known, steps, setup, position, slot, packet_at, ends_at, lock_at, IsSameSeat, IsElseSame, Brings, IsSole, account_of}
-use Rattle.lq_table.specs.Producers.{SeesEnd}
+use Rattle.lq_table.specs.Resizes.{clear_slot_log, out_of, is_member}
+use Rattle.lq_table.specs.Rule.{IsResting, shown}
+use Rattle.lq_table.specs.Sees.{view, known, steps, setup, position, slot, packet_at, ends_at, lock_at, IsSameSeat, IsElseSame, Brings, IsSole, account_of, heard, solo}
+use Rattle.lq_table.specs.Producers.{SeesEnd, with_lock_at}
 use Rattle.lq_table.specs.Moves.{IsPacketOf}
-use Rattle.lq_table.specs.Views.{View}
+use Rattle.lq_table.specs.Views.{View, HolderPart, Work}
 use Rattle.lq_table.specs.declared.shared.Cpu.{Cpu}
 use Rattle.lq_table.specs.declared.shared.Shared.{Shared}
 use Rattle.lq_ring.specs.Changes.{LocksAll, PurgesBand, PurgesOneOrNone, ResizesAll, TurnsAll, TurnsBand, TurnsRing, UnlocksAll}
 use Rattle.lq_ring.specs.Purged.{PassesBand, PurgesFirst}
-use Rattle.lq_ring.specs.Put.{HearsPut, IsPutAs, no_locks}
+use Rattle.lq_ring.specs.Put.{HearsPut, no_locks, dropping_full, putting}
 use Rattle.lq_ring.specs.Resized.{having_locks}
-use Rattle.lq_ring.specs.Seats.{CarriesEndsBeforeTake, CarriesNewEnds, GetsProducerLock, GoesOnFromPut, GoesOnFromScan, HasBandToPurge, HasJustLocked, HasRestingRings, HasRingToPurge, HasRingsAtRestOf, HoldsRingsOf, KeepsSeatAndView, MayResize, RestartsEnds, TurnsAllBands, TurnsAndSets, TurnsBandTo}
-use Rattle.lq_ring.specs.Steps.{EmptiesBatch, LocksProducer, PutsAtBy, PutsBy, TakesBy, zeroed}
-use Rattle.lq_ring.specs.Take.{AreJustTaken, CarriesStation, HearsTake, KnowsEnds, emptying_batch, having_emptied}
-use Rattle.lq_ring.specs.Work.{ArePacketsOf, HasDroppedFrom, IsSlotWord, IsTurner, IsWorkBegun, KeepsAndDrops, back_in, event_of_work, work_at, working}
+use Rattle.lq_ring.specs.Seats.{HasJustLocked, CarriesEndsBeforeTake, GoesOnFromPut, GoesOnFromScan, HasBandToPurge, HasRingToPurge, KeepsSeatAndView, MayResize, TurnsAllBands, TurnsAndSets}
+use Rattle.lq_ring.specs.Steps.{EmptiesBatch, LocksProducer, PutsAtBy, zeroed, FindsSlotEmpty, Takes, FindsFull, Puts}
+use Rattle.lq_ring.specs.Take.{CarriesStation, KnowsEnds, having_emptied, batch_length}
+use Rattle.lq_ring.specs.Work.{ArePacketsOf, HasDroppedFrom, IsTurner, IsWorkBegun, back_in, event_of_work, work_at, working, IsWorkDone, having_turned}
 use Rattle.lq_ring.specs.declared.resize.AllTurned.{AllTurned}
 use Rattle.lq_ring.specs.declared.resize.Turned.{Turned}
 use Rattle.lq_ring.specs.declared.turns.Ends.{Ends}
 use Rattle.lq_ring.specs.declared.turns.Kept.{Kept}
 use Rattle.lq_ring.specs.declared.turns.Resize.{Resize}
+use Rattle.lq_band_laws.specs.Three.{at, all_three}
+use Rattle.lq_model.specs.Positions.{holds_lock}
 
 -- THE STATION THAT THE SEAT CARRIES
 
@@ -46,7 +48,7 @@ module _ {D : Type 0} where
   -- The band's producer lock was waited for and got, with this index.
   pub record LocksBand (t : Shared D) (band index : ℕ) (b a : Cpu D) : Type 0 where
     pub same : IsSameSeat b a × (a.station ≡ b.station) × (slot a ≡ slot b)
-    pub locked : GetsProducerLock t band index b a
+    pub locked : (view a ≡ with_lock_at band (locked_at index) (view b)) × (at band a.indices ≡ index) × (index < t.max_len)
     pub made : LocksProducer band index (steps b) (steps a)
 
   -- The seat brings packet n to the band, and has the band's producer lock with this index.
@@ -59,7 +61,7 @@ module _ {D : Type 0} where
   -- Packet n was put into the band's ring, or was dropped as full, as the answer says; and the producer lock was given back.
   pub record PutsLocked (t : Shared D) (band index n : ℕ) (answer : Result (Unit {0}) Full) (b a : Cpu D) : Type 0 where
     pub same : IsElseSame b a
-    pub put : IsPutAs band n answer (view b) (view a)
+    pub put : MatchResult answer (λ _. view a ≡ putting band n (view b)) (λ full. view a ≡ dropping_full n full.seen (view b))
     pub sole : MatchResult answer (λ _. SeesEnd band (view b) 0) (λ full. SeesEnd band (view b) (full.seen + 1))
     pub made : PutsAtBy (setup t) band index n answer (steps b) (steps a)
 
@@ -73,7 +75,8 @@ module _ {D : Type 0} where
   -- Packet n was put into the band's ring, or was dropped as full, as the answer says.
   pub record PutsPacket (t : Shared D) (band n : ℕ) (answer : Result (Unit {0}) Full) (b a : Cpu D) : Type 0 where
     pub same : IsSameSeat b a × (a.station ≡ b.station) × (slot a ≡ slot b)
-    pub puts : PutsBy (setup t) band n answer (known b) (known a)
+    pub puts : MatchResult answer (λ _. Puts (setup t) band n (known b) (known a))
+        (λ full. FindsFull (setup t) band n full.seen (known b) (known a))
     pub at : GoesOnFromPut t n b a
     pub step : HearsPut band n answer (view b) (view a)
     pub sole : MatchResult answer (λ _. SeesEnd band (view b) 0) (λ full. SeesEnd band (view b) (full.seen + 1))
@@ -90,16 +93,19 @@ module _ {D : Type 0} where
   -- The packet at the head of the band was just taken, and the station that the seat carries has the band's ends as before.
   pub record MayDiscard (t : Shared D) (band size : ℕ) (c : Cpu D) : Type 0 where
     pub below : band < 3
-    pub holder : HoldsRingsOf t size c
+    pub holder : (holds_lock (position c) ≡ true) × ((view c).holder.resizing ≡ None) × ((view c).holder.size ≡ size) × (size ≤ t.max_len)
     pub station : CarriesEndsBeforeTake band c
-    pub ends : AreJustTaken size (ends_at band c)
+    pub ends : ((ends_at band c).edge ≡ (ends_at band c).head) × ((ends_at band c).tail < (ends_at band c).head)
+        × ((ends_at band c).head ≤ size)
 
   -- Where a batch was taken, or the last slot, the slots that were taken are emptied; and the station has the new ends.
   pub record DiscardsOne (t : Shared D) (band size : ℕ) (b a : Cpu D) : Type 0 where
     pub same : IsSameSeat b a × (a.indices ≡ b.indices) × (slot a ≡ slot b)
-    pub emptied : is_emptying size (ends_at band b) ≡ true → view a ≡ emptying_batch band size (view b)
+    pub emptied : is_emptying size (ends_at band b) ≡ true
+        → view a ≡ having_emptied band size (batch_length (at band (view b).holder.ends)) (view b)
     pub rested : is_emptying size (ends_at band b) ≡ false → view a ≡ view b
-    pub station : CarriesNewEnds band b a
+    pub station : (st : StationState) → b.station ≡ Some st
+        → a.station ≡ Some (with_ends st band (ends_at band a).head (ends_at band a).tail)
     pub made : EmptiesBatch (setup t) band size (ends_at band b) (steps b) (steps a)
 
   -- The holder of the run lock scans the band, and carries the station; no take or resize is half done.
@@ -113,12 +119,12 @@ module _ {D : Type 0} where
   -- The packet at the head of the band was taken, or the slot there was loaded as 0, as the answer says.
   pub record TakesFrom (t : Shared D) (band : ℕ) (answer : Option ℕ) (b a : Cpu D) : Type 0 where
     pub same : IsSameSeat b a × (a.indices ≡ b.indices) × (slot a ≡ slot b)
-    pub takes : TakesBy (setup t) band answer (known b) (known a)
+    pub takes : MatchOption answer (FindsSlotEmpty (setup t) band (known b) (known a)) (λ n. Takes (setup t) band n (known b) (known a))
     pub packet : IfSome answer (λ n. IsPacketOf (view b).share.about n)
     pub at : GoesOnFromScan band answer b a
     pub rests : IsResting (view a).holder.size (view a).holder.ends
     pub station : CarriesStation a
-    pub step : HearsTake band answer (view b) (view a)
+    pub step : MatchOption answer (solo (view a) ≡ solo (view b)) (λ n. solo (view a) ≡ heard (Take band) (solo (view b)))
     pub sole : IsSole (view b) → slice_get (held_in (account_of (view b)) band) 0 ≡ answer
     pub known : KnowsEnds (view b) → KnowsEnds (view a)
 
@@ -131,7 +137,8 @@ module _ {D : Type 0} where
     pub at : HasBandToPurge t band cause c
     pub word : HasWord (fate.Purged cause)
     pub packets : ((view c).packets.owed ≡ None) × ((view c).packets.fresh ≡ None)
-    pub rests : HasRingsAtRestOf t size c
+    pub rests : IsResting (view c).holder.size (view c).holder.ends × ((view c).holder.resizing ≡ None) × ((view c).holder.size ≡ size)
+        × (size ≤ t.max_len)
     pub station : CarriesStation c
 
   -- The first packet of the band was purged, or else the band was empty, as the answer says.
@@ -170,7 +177,7 @@ module _ {D : Type 0} where
   pub record TakesOut (t : Shared D) (band i word : ℕ) (b a : Cpu D) : Type 0 where
     pub same : IsElseSame b a
     pub made : steps a ≡ steps b ⊳ clear_slot_log (setup t) band i word
-    pub found : IsSlotWord i word (work_at band (view b))
+    pub found : (word ≡ slice_index (work_at band (view b)).slots i) × (is_member word (work_at band (view b)) ≡ true → word ≤ 1000000)
     pub taken : view a ≡ working band (out_of i (work_at band (view b))) (view b)
 
   -- The band is turned further by steps on its ring, and what the seat knows changes in this way.
@@ -196,10 +203,11 @@ module _ {D : Type 0} where
   -- The work on the band is done: so many packets are kept, and so many dropped.
   pub record TurnsWholeBand (t : Shared D) (band : ℕ) (resize : Resize) (done : Kept) (b a : Cpu D) : Type 0 where
     pub same : IsElseSame b a
-    pub turned : TurnsBandTo t band resize.len resize.event b a
+    pub turned : (w : Work) × (view a ≡ having_turned band resize.event w (view b))
+        × IsWorkDone t.max_len resize.len (work_at band (view b)) w
     pub few : done.dropped ≤ resize.size
     pub made : TurnsRing (setup t) band (steps b) (steps a)
-    pub kept : KeepsAndDrops done.kept done.dropped (work_at band (view b))
+    pub kept : (done.kept ≡ length (work_at band (view b)).kept) × (done.dropped ≡ length (work_at band (view b)).waiting)
 
 -- A RESIZE OF ALL BANDS
 
@@ -215,7 +223,8 @@ module _ {D : Type 0} where
   pub record MayTurnAll (t : Shared D) (resize : Resize) (c : Cpu D) : Type 0 where
     pub long : (0 < resize.len) × (resize.len ≤ t.max_len)
     pub at : MayResize c
-    pub rests : HasRestingRings resize.size c
+    pub rests : ((view c).holder.resizing ≡ None) × IsResting (view c).holder.size (view c).holder.ends
+        × ((view c).holder.size ≡ resize.size)
     pub station : CarriesStation c
     pub locks : (b : ℕ) → b < 3 → ((lock_at b c).holds ≡ true) × ((lock_at b c).stored ≡ false)
 
@@ -241,7 +250,7 @@ module _ {D : Type 0} where
   -- In the station that the seat carries the rings start again.
   pub record RestartsRings (b a : Cpu D) : Type 0 where
     pub same : IsSameSeat b a × (slot a ≡ slot b) × (view a ≡ view b)
-    pub station : RestartsEnds b a
+    pub station : (h : HolderPart) → b.station ≡ Some (shown h) → a.station ≡ Some (shown (record h { ends = all_three at_start }))
     pub made : steps a ≡ steps b
 
   -- Control may change the rings' length to this one; they rest, and it has no producer lock.

@@ -30,10 +30,6 @@ putting b n v = record (store_slot_view b n v) { locks = no_locks }
 abbrev pub dropping_full : ℕ → ℕ → View → View
 dropping_full n seen v = record (producer_slot_view_full n seen v) { locks = no_locks }
 
--- it joined or was dropped, as the answer says
-abbrev pub IsPutAs : ℕ → ℕ → Result (Unit {0}) Full → View → View → Type 0
-IsPutAs b n answer v w = MatchResult answer (λ _. w ≡ putting b n v) (λ full. w ≡ dropping_full n full.seen v)
-
 -- a seat that has the table alone hears which of the two came
 abbrev pub HearsPut : ℕ → ℕ → Result (Unit {0}) Full → View → View → Type 0
 HearsPut b n answer v w = MatchResult answer (λ _. solo w ≡ heard (Join n b) (solo v)) (λ full. solo w ≡ heard (FullEvent n full.seen) (solo v))

@@ -1,6 +1,6 @@
 -- What the calls on the rings ask of a seat, and what they leave of it.
 use Rattle.std.specs.Prelude.{◌≡◌, ℕ, ◌+◌, ◌-◌, ◌<◌, ◌≤◌, Bool, true, false, List, Option, Some, None, MatchOption, length, slice_index}
-use Rattle.lq_device.specs.Station.{StationState, with_ends}
+use Rattle.lq_device.specs.Station.{StationState}
 use Rattle.lq_model.specs.Band.{held_of}
 use Rattle.lq_model.specs.Machine.{Purge}
 use Rattle.lq_model.specs.Plan.{band_in}
@@ -9,12 +9,11 @@ use Rattle.lq_model.specs.Steps.{after_band}
 use Rattle.lq_model.specs.declared.fate.Cause.{Cause}
 use Rattle.lq_model.specs.declared.machine.Position.TheVariants.{Control, Gate, Put, Scan}
 use Rattle.lq_ring_core.specs.Slots.{round}
-use Rattle.lq_band_laws.specs.Three.{at, all_three}
-use Rattle.lq_band_laws.specs.Ring.{at_start, is_emptying, locked_at}
-use Rattle.lq_table.specs.Views.{HolderPart, Left, Work, machine_packet}
+use Rattle.lq_band_laws.specs.Three.{at}
+use Rattle.lq_band_laws.specs.Ring.{is_emptying, locked_at}
+use Rattle.lq_table.specs.Views.{Left, Work, machine_packet}
 use Rattle.lq_table.specs.Resizes.{may_resize}
 use Rattle.lq_table.specs.Producers.{with_lock_at}
-use Rattle.lq_table.specs.Rule.{shown, IsResting}
 use Rattle.lq_table.specs.Sees.{view, position, slot, packet_at, ends_at, IsSameSeat}
 use Rattle.lq_table.specs.Fates.{MayShrink}
 use Rattle.lq_table.specs.declared.shared.Cpu.{Cpu}
@@ -28,10 +27,6 @@ use Rattle.lq_ring.specs.declared.resize.AllTurned.{AllTurned}
 -- PUTS
 
 module _ {D : Type 0} where
-  -- it has got the band's producer lock, with this index
-  abbrev pub GetsProducerLock : Shared D → ℕ → ℕ → Cpu D → Cpu D → Type 0
-  GetsProducerLock t band index b a = (view a ≡ with_lock_at band (locked_at index) (view b)) × (at band a.indices ≡ index) × (index < t.max_len)
-
   -- of the producer locks it has just got the band's, with this index, and no resize is half done
   abbrev pub HasJustLocked : Shared D → ℕ → ℕ → Cpu D → Type 0
   HasJustLocked t band index c = ((view c).locks ≡ just_locked band index) × (at band c.indices ≡ index) × (index < t.max_len) × ((view c).holder.resizing ≡ None)
@@ -51,14 +46,6 @@ module _ {D : Type 0} where
   abbrev pub HoldsRings : Shared D → Cpu D → Type 0
   HoldsRings t c = (holds_lock (position c) ≡ true) × ((view c).holder.resizing ≡ None) × ((view c).holder.size ≤ t.max_len)
 
-  -- and it is this
-  abbrev pub HoldsRingsOf : Shared D → ℕ → Cpu D → Type 0
-  HoldsRingsOf t size c = (holds_lock (position c) ≡ true) × ((view c).holder.resizing ≡ None) × ((view c).holder.size ≡ size) × (size ≤ t.max_len)
-
-  -- the rings rest, no resize is half done, and the rings' length is this, within the table's
-  abbrev pub HasRingsAtRestOf : Shared D → ℕ → Cpu D → Type 0
-  HasRingsAtRestOf t size c = IsResting (view c).holder.size (view c).holder.ends × ((view c).holder.resizing ≡ None) × ((view c).holder.size ≡ size) × (size ≤ t.max_len)
-
   -- the band's slots from the tail up to the head were taken and none of them is emptied, which is due
   abbrev pub HasBatchToEmpty : ℕ → ℕ → ℕ → Cpu D → Type 0
   HasBatchToEmpty band tail head c = (ends_at band c ≡ record { head = head; tail = tail; edge = head }) × (tail < head) × (head ≤ (view c).holder.size)
@@ -67,10 +54,6 @@ module _ {D : Type 0} where
   -- the station that it carries has the band's ends as they were before the packet at the head was taken
   abbrev pub CarriesEndsBeforeTake : ℕ → Cpu D → Type 0
   CarriesEndsBeforeTake band c = (st : StationState) × (c.station ≡ Some st) × (slice_index st.heads band + 1 ≡ (ends_at band c).head) × (slice_index st.tails band ≡ (ends_at band c).tail)
-
-  -- the station that it carries gets the band's ends as the seat knows them
-  abbrev pub CarriesNewEnds : ℕ → Cpu D → Cpu D → Type 0
-  CarriesNewEnds band b a = (st : StationState) → b.station ≡ Some st → a.station ≡ Some (with_ends st band (ends_at band a).head (ends_at band a).tail)
 
   -- from the scan of the band it goes on to the next where it found nothing, and with a packet to the gate
   abbrev pub GoesOnFromScan : ℕ → Option ℕ → Cpu D → Cpu D → Type 0
@@ -97,10 +80,6 @@ module _ {D : Type 0} where
   abbrev pub MayResize : Cpu D → Type 0
   MayResize c = (position c ≡ Control true) × ((view c).control.purge ≡ None) × (may_resize (view c).control.phase ≡ true)
 
-  -- no resize is half done, and the rings rest and have this length
-  abbrev pub HasRestingRings : ℕ → Cpu D → Type 0
-  HasRestingRings size c = ((view c).holder.resizing ≡ None) × IsResting (view c).holder.size (view c).holder.ends × ((view c).holder.size ≡ size)
-
   -- the word is that of a packet of the band that a resize of this event dropped, whose fate may be stored
   abbrev pub IsDroppedWord : Shared D → ℕ → ℕ → ℕ → Cpu D → Type 0
   IsDroppedWord t band event x c = MayShrink band (x - 1) event (view c) × (band < 3) × (band_in t.infos.now (x - 1) ≡ band) × (x - 1 < length t.infos.now) × (x ≤ 1000000)
@@ -108,10 +87,6 @@ module _ {D : Type 0} where
   -- a band of a resize half done, whose work has not begun, where the station that it carries has the band's ends
   abbrev pub IsReadyToTurn : Shared D → ℕ → ℕ → ℕ → ℕ → Cpu D → Type 0
   IsReadyToTurn t band size len event c = (st : StationState) × (c.station ≡ Some st) × IsReadyToResize t.max_len t.infos.now st size len event band (view c)
-
-  -- the work on the band is done, and the fates of the packets that it dropped are stored
-  abbrev pub TurnsBandTo : Shared D → ℕ → ℕ → ℕ → Cpu D → Cpu D → Type 0
-  TurnsBandTo t band len event b a = (w : Work) × (view a ≡ having_turned band event w (view b)) × IsWorkDone t.max_len len (work_at band (view b)) w
 
   -- and the producer is set to this index, which is behind the packets that the band keeps
   abbrev pub TurnsAndSets : Shared D → ℕ → ℕ → ℕ → ℕ → Cpu D → Cpu D → Type 0
@@ -126,7 +101,3 @@ module _ {D : Type 0} where
   -- it has the three producer locks, with the indices to which the resize has set them, and no resize is half done
   abbrev pub HasLocksOfTurned : AllTurned → Cpu D → Type 0
   HasLocksOfTurned turned c = ((view c).locks ≡ locked_three turned.low.index turned.mid.index turned.high.index) × ((view c).holder.resizing ≡ None)
-
-  -- in the station that it carries the rings start again
-  abbrev pub RestartsEnds : Cpu D → Cpu D → Type 0
-  RestartsEnds b a = (h : HolderPart) → b.station ≡ Some (shown h) → a.station ≡ Some (shown (record h { ends = all_three at_start }))

@@ -1,5 +1,5 @@
 -- What a put and a take do: the steps in the order in which they are made, and what the seat knows after them.
-use Rattle.std.specs.Prelude.{◌≡◌, ◌≢◌, ℕ, zero, suc, ◌+◌, ◌-◌, ◌/◌, ◌%◌, true, false, List, Option, Result, MatchOption, MatchResult}
+use Rattle.std.specs.Prelude.{◌≡◌, ◌≢◌, ℕ, zero, suc, ◌+◌, ◌-◌, ◌/◌, ◌%◌, true, false, List, Result, MatchResult}
 use Rattle.lq_ring_core.specs.declared.ring.Full.{Full}
 use Rattle.lq_ring_core.specs.Ring.{next_place}
 use Rattle.lq_band_laws.specs.Three.{at}
@@ -44,10 +44,6 @@ Puts k band n old new = (new.view ≡ putting band n old.view) × (index : ℕ) 
 abbrev pub FindsFull : Setup → ℕ → ℕ → ℕ → Known → Known → Type 0
 FindsFull k band n seen old new = (new.view ≡ dropping_full n seen old.view) × (index : ℕ) × (locked : List Made) × LocksProducer band index old.steps locked × FindsFullAt k band index seen locked new.steps
 
--- one of these two, as the answer says
-abbrev pub PutsBy : Setup → ℕ → ℕ → Result (Unit {0}) Full → Known → Known → Type 0
-PutsBy k band n answer old new = MatchResult answer (λ _. Puts k band n old new) (λ full. FindsFull k band n full.seen old new)
-
 -- TAKES
 
 -- so many slots below head are emptied, the highest first
@@ -68,7 +64,3 @@ FindsSlotEmpty k band old new = (new.view ≡ head_slot_view_empty band old.view
 abbrev pub Takes : Setup → ℕ → ℕ → Known → Known → Type 0
 Takes k band n old new = let own = at band old.view.holder.ends in (new.view ≡ consuming band n old.view)
     × (size : ℕ) × (new.steps ≡ zeroed k band (own.head + 1) (emptied_count old.view.holder.size (taken_on own)) (old.steps ⊳ load_size_log size ⊳ load_slot_log k band own.head (n + 1)))
-
--- one of these two, as the answer says
-abbrev pub TakesBy : Setup → ℕ → Option ℕ → Known → Known → Type 0
-TakesBy k band answer old new = MatchOption answer (FindsSlotEmpty k band old new) (λ n. Takes k band n old new)

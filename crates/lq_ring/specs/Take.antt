@@ -1,12 +1,11 @@
 -- What a take makes of what the holder of the run lock knows.
-use Rattle.std.specs.Prelude.{◌≡◌, ℕ, zero, suc, ◌-◌, ◌<◌, ◌≤◌, if◌then◌else◌, Option, Some, MatchOption}
-use Rattle.lq_model.specs.Account.{Take}
+use Rattle.std.specs.Prelude.{◌≡◌, ℕ, zero, suc, ◌-◌, if◌then◌else◌, Some}
 use Rattle.lq_band_laws.specs.Three.{at, put}
 use Rattle.lq_band_laws.specs.Ring.{Ends, after_take, all_empty, taken_on, emptied_on, is_emptying}
 use Rattle.lq_table.specs.Views.{View}
 use Rattle.lq_table.specs.Consumers.{head_slot_view}
 use Rattle.lq_table.specs.Rule.{shown}
-use Rattle.lq_table.specs.Sees.{view, solo, heard}
+use Rattle.lq_table.specs.Sees.{view}
 use Rattle.lq_table.specs.declared.shared.Cpu.{Cpu}
 
 -- how far a band's consumer is, as the holder has it and in the state beside the machine
@@ -33,14 +32,6 @@ emptied_count size c = if is_emptying size c then batch_length c else 0
 abbrev pub having_emptied : ℕ → ℕ → ℕ → View → View
 having_emptied b size count v = having_ends b (all_empty size (at b v.holder.ends)) (emptied_times size count (at b v.whole.state.ends)) v
 
--- all of them are
-abbrev pub emptying_batch : ℕ → ℕ → View → View
-emptying_batch b size v = having_emptied b size (batch_length (at b v.holder.ends)) v
-
--- the packet at the head was just taken: the edge is at the head
-abbrev pub AreJustTaken : ℕ → Ends → Type 0
-AreJustTaken size c = (c.edge ≡ c.head) × (c.tail < c.head) × (c.head ≤ size)
-
 -- the packet was taken from the band, and all slots were emptied that this asks
 abbrev pub consuming : ℕ → ℕ → View → View
 consuming b n v = let size = v.holder.size in let own = at b v.holder.ends in
@@ -49,10 +40,6 @@ consuming b n v = let size = v.holder.size in let own = at b v.holder.ends in
 -- the state beside the machine has the ends that the holder has
 abbrev pub KnowsEnds : View → Type 0
 KnowsEnds v = v.whole.state.ends ≡ v.holder.ends
-
--- a seat that has the table alone hears the take, if a packet was taken
-abbrev pub HearsTake : ℕ → Option ℕ → View → View → Type 0
-HearsTake b taken v w = MatchOption taken (solo w ≡ solo v) (λ n. solo w ≡ heard (Take b) (solo v))
 
 -- the seat carries the station as it is due at its next step
 abbrev pub CarriesStation : {D : Type 0} → Cpu D → Type 0

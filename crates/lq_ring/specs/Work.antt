@@ -38,10 +38,6 @@ HasSlots limit w = (length w.slots ≡ limit) × AreMembers (members_of w) w.slo
 abbrev pub ArePacketsOf : List Info → ℕ → List ℕ → Type 0
 ArePacketsOf infos b ns = (n : ℕ) → Contains ns n → (band_in infos n ≡ b) × (n < length infos)
 
--- the word of a slot; that of a packet that the band keeps or drops is at most 1000000, since a capture has no more packets
-abbrev pub IsSlotWord : ℕ → ℕ → Work → Type 0
-IsSlotWord i x w = (x ≡ slice_index w.slots i) × (is_member x w ≡ true → x ≤ 1000000)
-
 -- the packet of this word came into the hand last, and the slot is empty
 abbrev pub MayPutBack : ℕ → ℕ → Work → Type 0
 MayPutBack i x w = (hand : List ℕ) × (w.hand ≡ (x - 1) ∷ hand) × (slice_index w.slots i ≡ 0) × (x ≤ 1000000)
@@ -57,10 +53,6 @@ AreFilledUpTo limit count slots = (count ≤ limit) × ((j : ℕ) → j < count 
 -- nothing is in the hand, and so many slots from a place on have the dropped packets in order, and 0 behind the last
 abbrev pub HasDroppedFrom : ℕ → ℕ → Work → Type 0
 HasDroppedFrom from count w = (w.hand ≡ []) × ((n : ℕ) → n < count → slice_index w.slots (from + n) ≡ word_at w.waiting n)
-
--- so many packets are kept, and so many dropped
-abbrev pub KeepsAndDrops : ℕ → ℕ → Work → Type 0
-KeepsAndDrops kept dropped w = (kept ≡ length w.kept) × (dropped ≡ length w.waiting)
 
 -- a word is put back from the hand into a slot, unless it is 0
 abbrev pub back_in : ℕ → ℕ → Work → Work

@@ -8,7 +8,7 @@ use Rattle.lq_table.specs.Locks.{GetsRunLock, SeesTry, look_lock_view}
 use Rattle.lq_table.specs.Sees.{view, known, position, slot, steps, IsSameSeat, IsElseSame, IsSole, solo}
 use Rattle.lq_table.specs.Moves.{pass_view}
 use Rattle.lq_table.specs.declared.shared.Cpu.{Cpu}
-use Rattle.lq_run.specs.Runs.{BeginsAlone, BeginsAsHolder, IsElseKept, IsEventless, IsRaisedAsBefore, HasStation, Rests, StandsWithoutStation, StaysRaised, after_missed, ended}
+use Rattle.lq_run.specs.Runs.{BeginsAlone, BeginsAsHolder, IsElseKept, IsEventless, IsRaisedAsBefore, HasStation, Rests, StandsWithoutStation, after_missed, ended}
 use Rattle.lq_run.specs.Tries.{BeginsBy, EndsRun, SetsMissed, TriesOnce}
 
 -- after a release: a run is at the end of its call, and control in no call
@@ -48,7 +48,7 @@ module _ {D : Type 0} where
 
   -- The run lock is released, and SCHED is set where MISSED is set after that; the seat goes on from this position.
   pub record ReleasesTo (next : Position) (b a : Cpu D) : Type 0 where
-    pub kept : IsElseKept b a × IsEventless b a × StaysRaised b a
+    pub kept : IsElseKept b a × IsEventless b a × ((view b).place.raised ≡ true → (view a).place.raised ≡ true)
     pub at : StandsWithoutStation next b a
     pub sole : IsSole (view b) → solo (view a) ≡ ended (solo (view b))
     pub ends : EndsRun (known b) (known a)

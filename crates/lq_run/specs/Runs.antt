@@ -94,10 +94,6 @@ module _ {D : Type 0} where
   abbrev pub IsRaisedAsBefore : Cpu D → Cpu D → Type 0
   IsRaisedAsBefore b a = (view a).place.raised ≡ (view b).place.raised
 
-  -- a seat that was raised is so still
-  abbrev pub StaysRaised : Cpu D → Cpu D → Type 0
-  StaysRaised b a = (view b).place.raised ≡ true → (view a).place.raised ≡ true
-
   -- SCHED is set, the seat raised where it was clear, and nothing else changes
   abbrev pub SetsSched : Cpu D → Cpu D → Type 0
   SetsSched b a = IsElseSame b a × (was : Bool) × (view a ≡ set_sched_view was (view b)) × (solo (view a) ≡ set_sched_alone was (solo (view b))) × (IsSole (view b) → was ≡ (view b).whole.qdisc.sched) × (steps a ≡ steps b ⊳ set_sched_log was)

@@ -1,4 +1,4 @@
-use Rattle.std.proofs.Common.{rules, inl, inr}
+use Rattle.std.proofs.Common.{inl, inr}
 use Rattle.lq_table.specs.Sees.{known}
 use Rattle.lq_qdisc.proofs.SendLemmas.{LeavesTheRest, brings_then}
 use Rattle.lq_qdisc.proofs.TakeLemmas.{seat_same}
