@@ -1,10 +1,11 @@
-use Rattle.std.proofs.Common.{◌≡◌, ◌+◌, ◌≤◌, ◌==◌, ◌&&◌, ℕ, nat_lt, Bool, true, false, cond, sym, refl, ◌∙◌, ap, ap₂, subst, length, rules, arith}
+use Rattle.std.proofs.Common.{◌≡◌, ◌+◌, ◌≤◌, ◌<◌, ◌==◌, ◌&&◌, ℕ, nat_lt, Bool, true, false, cond, sym, refl, ◌∙◌, ap, ap₂, subst, length, rules, arith}
 use Rattle.std.proofs.lemmas.Grind.{common_steps}
 use Rattle.lq_model.specs.Device.{answer_of, is_multiple}
 use Rattle.lq_model.specs.declared.device.Tx.{Tx}
 use Rattle.lq_model.specs.declared.device.Tx.TheVariants.{Sent, SentStop, SentHang, Busy}
+use Rattle.lq_device.specs.declared.bench.BenchDevice.{BenchDevice}
 use Rattle.lq_device.proofs.bench.BenchDeviceTxDevice.xmit.Goals as goal
-use Rattle.lq_device.proofs.bench.BenchDeviceTxDevice.xmit.Goals.{Else-hangs_at, else-may_be_busy-via-then-may_be_busy+else-self, else-may_be_busy-via-else-may_be_busy}
+use Rattle.lq_device.proofs.bench.BenchDeviceTxDevice.xmit.Goals.{After-len, else-may_be_busy-via-then-may_be_busy+else-self, else-may_be_busy-via-else-may_be_busy}
 
 -- the answer by the three rules
 abbrev by-rules : Bool → Bool → Bool → Tx
@@ -13,6 +14,9 @@ by-rules busy hangs stops = cond busy Busy (cond hangs SentHang (cond stops Sent
 both-no : (may : Bool) (busies limit : ℕ) → limit ≤ busies → (may && nat_lt busies limit) ≡ false
 both-no may busies limit past = grind (arith, common_steps)
 
+both-yes : (may : Bool) (busies limit : ℕ) → may ≡ true → busies < limit → (may && nat_lt busies limit) ≡ true
+both-yes may busies limit is below = grind (arith, common_steps)
+
 not-may : (may : Bool) (low : Bool) → may ≡ false → (may && low) ≡ false
 not-may may low never = grind (arith, common_steps)
 
@@ -20,54 +24,91 @@ not-may may low never = grind (arith, common_steps)
 by-answer : (busy hangs stops last : Bool) → busy ≡ false → hangs ≡ false → stops ≡ last → by-rules false false last ≡ by-rules busy hangs stops
 by-answer busy hangs stops last one two three = sym (ap (λ b. by-rules b hangs stops) one ∙ ap₂ (by-rules false) two three)
 
-module _ (c : Else-hangs_at) where
-  abbrev n : ℕ
-  n = c.args.self.now.accepted.len
+by-hang : (busy hangs stops : Bool) → busy ≡ false → hangs ≡ true → SentHang ≡ by-rules busy hangs stops
+by-hang busy hangs stops one two = sym (ap (λ b. by-rules b hangs stops) one ∙ ap (λ b. by-rules false b stops) two)
 
-  same : n ≡ length c.args.self.now.accepted.items
-  same = c.args.self.now.accepted.ok.0
+by-busy : (busy hangs stops : Bool) → busy ≡ true → Busy ≡ by-rules busy hangs stops
+by-busy busy hangs stops one = sym (ap (λ b. by-rules b hangs stops) one)
 
-  not-busy : (is_multiple (n + c.args.self.now.busies + 1) c.args.self.now.params.busy_every && nat_lt c.args.self.now.busies c.args.self.now.params.busy_limit) ≡ false
+-- the answer that the rules give, by how many packets the device says that it has accepted
+abbrev answer_by : BenchDevice → Tx
+answer_by d = answer_of (record { params = d.params; busies = d.busies }) d.accepted.len
+
+-- the same by the list of them
+by-list : (d : BenchDevice) (answer : Tx) → answer ≡ answer_by d → answer ≡ answer_of (record { params = d.params; busies = d.busies }) (length d.accepted.items)
+by-list d answer is = subst (λ n. answer ≡ answer_of (record { params = d.params; busies = d.busies }) n) d.accepted.ok.0 is
+
+module _ (c : After-len) where
+  abbrev d : BenchDevice
+  d = c.args.self.now
+
+  not-busy : (is_multiple (d.accepted.len + d.busies + 1) d.params.busy_every && nat_lt d.busies d.params.busy_limit) ≡ false
   not-busy =
-      let may = c.is_multiple_next-may_be_busy.ensures (n + c.args.self.now.busies) c.args.self.now.params.busy_every c.args.self.now.busy_counted in
+      let may = c.is_multiple_next-may_be_busy.ensures (d.accepted.len + d.busies) d.params.busy_every d.busy_counted in
       elim c.else-may_be_busy.branch [
         | else-may_be_busy-via-then-may_be_busy+else-self w ↦ both-no _ _ _ w.if-self.false
         | else-may_be_busy-via-else-may_be_busy w ↦ not-may _ _ (sym may ∙ w.if-may_be_busy.false)
       ]
 
-  more : c.len.result ≡ n + 1
-  more = c.len.ensures ∙ c.push_reserved.ensures.len
+  -- whether it hangs is asked of the list with the packet
+  hangs-as-asked : (hangs : Bool) → hangs ≡ (nat_lt 0 d.params.hang_after && (c.len.result == d.params.hang_after)) → (nat_lt 0 d.params.hang_after && (d.accepted.len + 1 == d.params.hang_after)) ≡ hangs
+  hangs-as-asked hangs is = ap (λ n. nat_lt 0 d.params.hang_after && (n == d.params.hang_after)) (sym (c.len.ensures ∙ c.push_reserved.ensures.len)) ∙ sym is
 
-  no-hang : (nat_lt 0 c.args.self.now.params.hang_after && (n + 1 == c.args.self.now.params.hang_after)) ≡ false
-  no-hang = ap (λ k. nat_lt 0 c.args.self.now.params.hang_after && (k == c.args.self.now.params.hang_after)) (sym more) ∙ (sym c.hangs_at.ensures ∙ c.if-hangs_at.false)
+  stops : c.is_multiple_next-stops.result ≡ is_multiple (d.accepted.len + 1) d.params.burst
+  stops = c.is_multiple_next-stops.ensures d.accepted.len d.params.burst d.stop_counted
 
-  stops : c.is_multiple_next-stops.result ≡ is_multiple (n + 1) c.args.self.now.params.burst
-  stops = c.is_multiple_next-stops.ensures n c.args.self.now.params.burst c.args.self.now.stop_counted
+pub returns-then-self : goal.returns-then-self
+returns-then-self c =
+    let d = c.args.self.now in
+    record {
+      identity = refl;
+      asked = search rules;
+      accepted = search rules;
+      spare = grind (arith, common_steps);
+      hung = search rules;
+      busy = search rules;
+      told = refl;
+      rule = by-list d Busy (by-busy _ _ _ (both-yes _ _ _ (sym (c.is_multiple_next-may_be_busy.ensures (d.accepted.len + d.busies) d.params.busy_every d.busy_counted) ∙ c.if-may_be_busy.true) c.if-self.true));
+    }
 
-  rule : (last : Bool) → c.is_multiple_next-stops.result ≡ last → by-rules false false last ≡ answer_of (record { params = c.args.self.now.params; busies = c.args.self.now.busies }) (length c.args.self.now.accepted.items)
-  rule last is = subst (λ m. by-rules false false last ≡ answer_of (record { params = c.args.self.now.params; busies = c.args.self.now.busies }) m) same
-      (by-answer _ _ _ last not-busy no-hang (sym stops ∙ is))
+pub returns-then-hangs_at : goal.returns-then-hangs_at
+returns-then-hangs_at c =
+    let at = (goal.at.returns-then-hangs_at c).After-len in
+    record {
+      identity = refl;
+      asked = search rules;
+      accepted = search rules;
+      spare = grind (arith, common_steps);
+      hung = refl;
+      busy = search rules;
+      told = grind (arith, common_steps);
+      rule = by-list c.args.self.now SentHang (by-hang _ _ _ (not-busy at) (hangs-as-asked at true (sym c.if-hangs_at.true ∙ c.hangs_at.ensures)));
+    }
 
 pub returns-then-stops : goal.returns-then-stops
-returns-then-stops c = record {
-  identity = refl;
-  asked = search rules;
-  accepted = search rules;
-  spare = grind (arith, common_steps);
-  hung = search rules;
-  busy = (search rules);
-  told = grind (arith, common_steps);
-  rule = rule (goal.at.returns-then-stops c).Else-hangs_at true c.if-stops.true;
-}
+returns-then-stops c =
+    let at = (goal.at.returns-then-stops c).After-len in
+    record {
+      identity = refl;
+      asked = search rules;
+      accepted = search rules;
+      spare = grind (arith, common_steps);
+      hung = search rules;
+      busy = search rules;
+      told = grind (arith, common_steps);
+      rule = by-list c.args.self.now SentStop (by-answer _ _ _ true (not-busy at) (hangs-as-asked at false (sym c.if-hangs_at.false ∙ c.hangs_at.ensures)) (sym (stops at) ∙ c.if-stops.true));
+    }
 
 pub returns-else-stops : goal.returns-else-stops
-returns-else-stops c = record {
-  identity = refl;
-  asked = search rules;
-  accepted = search rules;
-  spare = grind (arith, common_steps);
-  hung = search rules;
-  busy = (search rules);
-  told = grind (arith, common_steps);
-  rule = rule (goal.at.returns-else-stops c).Else-hangs_at false c.if-stops.false;
-}
+returns-else-stops c =
+    let at = (goal.at.returns-else-stops c).After-len in
+    record {
+      identity = refl;
+      asked = search rules;
+      accepted = search rules;
+      spare = grind (arith, common_steps);
+      hung = search rules;
+      busy = search rules;
+      told = grind (arith, common_steps);
+      rule = by-list c.args.self.now Sent (by-answer _ _ _ false (not-busy at) (hangs-as-asked at false (sym c.if-hangs_at.false ∙ c.hangs_at.ensures)) (sym (stops at) ∙ c.if-stops.false));
+    }
