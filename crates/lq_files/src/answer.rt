@@ -51,7 +51,7 @@ impl Status {
 }
 
 /// Why a call gave up on the way.
-#[derive(Clone, Copy, Debug, PartialEq, Eq)]
+#[derive(Clone, Copy)]
 pub enum Stop {
     Fault,
     NoMemory,

@@ -13,7 +13,7 @@ use std::alloc::{AllocError, Global};
 
 /// Why a call is refused: the first cause, in the order in which it judges its words, its plan, its bench and its
 /// capture.
-#[derive(Clone, Copy, Debug, PartialEq, Eq)]
+#[derive(Clone, Copy)]
 pub enum Refusal {
     /// The words aren't a command.
     Usage,

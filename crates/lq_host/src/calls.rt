@@ -5,7 +5,7 @@ ghost use Rattle.lq_host.specs.Calls.{as_counts, no_calls, failing_at};
 use std::alloc::{AllocError, Global};
 
 /// A kind of call of a host, to name the calls that are to fail.
-#[derive(Clone, Copy, Debug, PartialEq, Eq)]
+#[derive(Clone, Copy, Debug)]
 pub enum HostCall {
     /// [`Host::open_read`](crate::Host::open_read).
     OpenRead,

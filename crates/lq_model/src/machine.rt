@@ -1,7 +1,7 @@
 //! The types of the machine of the run lock.
 
 /// A packet as the machine of the run lock sees it.
-#[derive(Clone, Copy, Debug, PartialEq, Eq)]
+#[derive(Clone, Copy)]
 pub struct Packet {
     pub number: u32,
     /// The sender that transmits it; of its packets one at a time is in a transmit.
@@ -13,14 +13,14 @@ pub struct Packet {
 }
 
 /// A call that the word of the calls inside counts.
-#[derive(Clone, Copy, Debug, PartialEq, Eq)]
+#[derive(Clone, Copy)]
 pub enum Call {
     Transmit(Packet),
     SoftInterrupt,
 }
 
 /// What a seat tries the run lock for (`qdisc_run_begin` of include/net/sch_generic.h).
-#[derive(Clone, Copy, Debug, PartialEq, Eq)]
+#[derive(Clone, Copy)]
 pub enum Attempt {
     /// To serve the bands, into which a transmit has put this packet (or found its band full).
     Queued(Packet),
@@ -31,7 +31,7 @@ pub enum Attempt {
 }
 
 /// What the holder of the run lock has in hand where it found a queue stopped.
-#[derive(Clone, Copy, Debug, PartialEq, Eq)]
+#[derive(Clone, Copy)]
 pub enum Blocked {
     /// A packet of that queue; `direct` where it goes past the bands.
     InHand { packet: Packet, direct: bool },
@@ -40,7 +40,7 @@ pub enum Blocked {
 }
 
 /// Where a seat stands: the step that it does next.
-#[derive(Clone, Copy, Debug, PartialEq, Eq)]
+#[derive(Clone, Copy)]
 pub enum Position {
     /// In no call.
     Idle,
@@ -132,7 +132,7 @@ pub enum Position {
 }
 
 /// A sender's access to the machine: it plays the part of a processor of the kernel.
-#[derive(Clone, Copy, Debug, PartialEq, Eq)]
+#[derive(Clone, Copy)]
 pub struct Seat {
     pub position: Position,
     /// A soft interrupt was scheduled on it and hasn't begun.
@@ -142,7 +142,7 @@ pub struct Seat {
 }
 
 /// How a call of a seat begins.
-#[derive(Clone, Copy, Debug, PartialEq, Eq)]
+#[derive(Clone, Copy)]
 pub enum Beginning {
     Transmits(Packet),
     Interrupts,
@@ -151,7 +151,7 @@ pub enum Beginning {
 }
 
 /// What a step is answered by the ring or the device.
-#[derive(Clone, Copy, Debug, PartialEq, Eq)]
+#[derive(Clone, Copy)]
 pub enum Answer {
     /// There was room, the packet was sent, or nothing was asked.
     Plain,
@@ -166,7 +166,7 @@ pub enum Answer {
 }
 
 /// How far a deactivation has come.
-#[derive(Clone, Copy, Debug, PartialEq, Eq)]
+#[derive(Clone, Copy)]
 pub enum Phase {
     /// DEACTIVATED is clear.
     Active,
@@ -179,7 +179,7 @@ pub enum Phase {
 }
 
 /// A step of control.
-#[derive(Clone, Copy, Debug, PartialEq, Eq)]
+#[derive(Clone, Copy)]
 pub enum ControlStep {
     /// Ends the call.
     Return,

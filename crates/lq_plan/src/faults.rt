@@ -13,7 +13,7 @@ use crate::values::{elements_in, event_word_of, split_of, spread_of, value_at};
 use toml::{Table, Value};
 
 /// What may be wrong with a table, each fault with its own test of all keys.
-#[derive(Clone, Copy, Debug, PartialEq, Eq)]
+#[derive(Clone, Copy)]
 pub enum Fault {
     UnknownKey,
     MissingKey,

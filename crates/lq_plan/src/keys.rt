@@ -9,7 +9,7 @@ use crate::values::{EventWord, event_word_of, number_at, text_at};
 use toml::Table;
 
 /// Whether a key may be in its table.
-#[derive(Clone, Copy, Debug, PartialEq, Eq)]
+#[derive(Clone, Copy)]
 pub enum Presence {
     Required,
     Optional,
@@ -18,7 +18,7 @@ pub enum Presence {
 }
 
 /// What the value at a key may be.
-#[derive(Clone, Copy, Debug, PartialEq, Eq)]
+#[derive(Clone, Copy)]
 pub enum Rule {
     /// A whole number from `low` to `high`.
     Number { low: u64, high: u64 },
@@ -43,7 +43,7 @@ pub struct Key {
 }
 
 /// What differs between the versions of the format.
-#[derive(Clone, Copy, Debug, PartialEq, Eq)]
+#[derive(Clone, Copy)]
 pub struct Version {
     pub number: u64,
     pub max_senders: u64,

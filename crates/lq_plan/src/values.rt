@@ -9,7 +9,7 @@ use lq_model::{Split, Spread};
 use toml::{Table, Value};
 
 /// What an event does to its station, as its `kind` says.
-#[derive(Clone, Copy, Debug, PartialEq, Eq)]
+#[derive(Clone, Copy, PartialEq, Eq)]
 pub enum EventWord {
     Down,
     Up,

@@ -10,7 +10,7 @@ use crate::start::Start;
 use lq_model::Answer;
 
 /// What the first line of a schedule says of the machine.
-#[derive(Clone, Copy, Debug, PartialEq, Eq)]
+#[derive(Clone, Copy)]
 pub struct Setup {
     pub seats: u32,
     pub len: u32,
@@ -18,7 +18,7 @@ pub struct Setup {
 }
 
 /// What a line of a schedule has a seat do.
-#[derive(Clone, Copy, Debug, PartialEq, Eq)]
+#[derive(Clone, Copy)]
 pub enum Action {
     /// Begins a call.
     Begins(Start),
@@ -27,7 +27,7 @@ pub enum Action {
 }
 
 /// A line of a schedule: a seat, and what it does.
-#[derive(Clone, Copy, Debug, PartialEq, Eq)]
+#[derive(Clone, Copy)]
 pub struct Command {
     pub seat: u32,
     pub action: Action,

@@ -9,7 +9,7 @@ use crate::qdisc::at;
 use lq_model::{Call, Packet, Position, Seat};
 
 /// How a call of a seat begins.
-#[derive(Clone, Copy, Debug, PartialEq, Eq)]
+#[derive(Clone, Copy)]
 pub enum Start {
     /// A transmit of the next packet, in this band, on queue 0.
     Send { band: u32 },

@@ -52,14 +52,14 @@ fn the_other_queue_stays_stopped(rt: HostRuntime) -> Result<(), Fail> {
     steps(&rt, &mut machine, 0, 16);
     assert_eq!(rt; words(&machine), [0, 0, 1, 0, 0, 2, 0]);
     assert!(rt; machine.seats() == 2);
-    assert_eq!(rt;
-        machine.seat(1),
-        Seat {
-            position: Position::Idle,
-            raised: false,
-            run: 0
-        }
-    );
+    let Seat {
+        position,
+        raised,
+        run,
+    } = machine.seat(1);
+    assert!(rt; matches!(position, Position::Idle));
+    assert!(rt; !raised);
+    assert_eq!(rt; run, 0);
     Ok(())
 }
 

@@ -3,6 +3,7 @@ use Rattle.std.proofs.lemmas.Grind.{common_steps}
 use Rattle.lq_model.specs.Device.{answer_of, is_multiple}
 use Rattle.lq_model.specs.declared.device.Tx.{Tx}
 use Rattle.lq_model.specs.declared.device.Tx.TheVariants.{Sent, SentStop, SentHang, Busy}
+use Rattle.lq_device.specs.Multiples.{left_to_multiple}
 use Rattle.lq_device.specs.declared.bench.BenchDevice.{BenchDevice}
 use Rattle.lq_device.proofs.bench.BenchDeviceTxDevice.xmit.Goals as goal
 use Rattle.lq_device.proofs.bench.BenchDeviceTxDevice.xmit.Goals.{After-len, else-may_be_busy-via-then-may_be_busy+else-self, else-may_be_busy-via-else-may_be_busy}
@@ -38,6 +39,10 @@ answer_by d = answer_of (record { params = d.params; busies = d.busies }) d.acce
 by-list : (d : BenchDevice) (answer : Tx) → answer ≡ answer_by d → answer ≡ answer_of (record { params = d.params; busies = d.busies }) (length d.accepted.items)
 by-list d answer is = subst (λ n. answer ≡ answer_of (record { params = d.params; busies = d.busies }) n) d.accepted.ok.0 is
 
+-- what is left to the next multiple above a number, by another name of the number
+left-to : (left number every same : ℕ) → left ≡ left_to_multiple number every → same ≡ number → left ≡ left_to_multiple same every
+left-to left number every same is one = is ∙ ap (λ n. left_to_multiple n every) (sym one)
+
 module _ (c : After-len) where
   abbrev d : BenchDevice
   d = c.args.self.now
@@ -56,6 +61,31 @@ module _ (c : After-len) where
 
   stops : c.is_multiple_next-stops.result ≡ is_multiple (d.accepted.len + 1) d.params.burst
   stops = c.is_multiple_next-stops.ensures d.accepted.len d.params.burst d.stop_counted
+
+  busy-counted : c.left_after_one-self.result ≡ left_to_multiple (c.push_reserved.new.self.len + d.busies) d.params.busy_every
+  busy-counted = let more = c.push_reserved.ensures.len in left-to _ (d.accepted.len + d.busies + 1) _ _ (c.left_after_one-self.ensures (d.accepted.len + d.busies) d.busy_counted) (omega arith)
+
+  stop-counted : c.left_after_one-self-2.result ≡ left_to_multiple c.push_reserved.new.self.len d.params.burst
+  stop-counted = left-to _ (d.accepted.len + 1) _ _ (c.left_after_one-self-2.ensures d.accepted.len d.stop_counted) c.push_reserved.ensures.len
+
+pub invariant_of-self : goal.invariant_of-self
+invariant_of-self c =
+    let d = c.args.self.now in let below = c.if-self.true in
+    record {
+      busies_within = omega arith;
+      busy_counted = left-to _ (d.accepted.len + d.busies + 1) _ _ (c.left_after_one-self.ensures (d.accepted.len + d.busies) d.busy_counted) (omega arith);
+      stop_counted = d.stop_counted;
+    }
+
+pub invariant_of-self-then-hangs_at : goal.invariant_of-self-then-hangs_at
+invariant_of-self-then-hangs_at c =
+    let at = (goal.at.invariant_of-self-then-hangs_at c).After-len in
+    record { busies_within = c.args.self.now.busies_within; busy_counted = busy-counted at; stop_counted = stop-counted at }
+
+pub invariant_of-self-else-hangs_at : goal.invariant_of-self-else-hangs_at
+invariant_of-self-else-hangs_at c =
+    let at = (goal.at.invariant_of-self-else-hangs_at c).After-len in
+    record { busies_within = c.args.self.now.busies_within; busy_counted = busy-counted at; stop_counted = stop-counted at }
 
 pub returns-then-self : goal.returns-then-self
 returns-then-self c =
