@@ -25,13 +25,20 @@ def first_build():
     room = ROOM / "first"
     room.mkdir()
     top = repository("cloned", {"crates/low/src/lib.rt": ""})
-    (top / "tools/build").write_text('#!/bin/sh\n[ "$1" != --chain ] || exec echo chain\nmkdir build\necho built >"$1"\npwd\n', encoding="utf-8")
+    low = "lqtx: proved low by 12 s of a processor, 1 of 1 crates, 0 min 00 s so far, done; under way: none"
+    stand_in = f'#!/bin/sh\n[ "$1" != --chain ] || exec echo chain\nmkdir build\necho built >"$1"\necho "{low}"\npwd\n'
+    (top / "tools/build").write_text(stand_in, encoding="utf-8")
     (top / "tools/build").chmod(0o755)
     for words in (["init", "-q"], ["add", "-A"], ["-c", "user.name=a", "-c", "user.email=a", "commit", "-q", "-m", "all"]):
         subprocess.run(["git", *words], cwd=top, check=True)
     (room / "rt").symlink_to("/bin/true")
     said = run(top / "tools/first-build", "--chain", room, env=os.environ | {"PATH": f"{room}:{os.environ['PATH']}"})
     expect("first-build", said, 0, " processors, ", f"{room}/first-build.", "it took 0 min 00 s; ", "build/: ", "the program: 6 bytes", "chain")
+    said = run(top / "tools/first-build", "--beside", "HEAD", room, env=os.environ | {"PATH": f"{room}:{os.environ['PATH']}"})
+    expect("first-build, two at the same time", said, 0, "low                           12      12", "1 crates of both              12      12")
+    said = run(top / "tools/first-build", "--beside", "no-such-commit", room, env=os.environ | {"PATH": f"{room}:{os.environ['PATH']}"})
+    expect("first-build, no such commit", said, 1, "no-such-commit")
+    expect("first-build, no commit", run(top / "tools/first-build", "--beside"), 2, "tools/first-build --beside COMMIT")
     if sorted(it.name for it in room.iterdir()) != ["rt"]:
         fault("first-build leaves files behind")
     if not shutil.which("rt", path="/usr/bin:/bin"):

@@ -88,6 +88,7 @@ SLOW = {
 def estimate_of_a_slow_first_build():
     """From the first minute on it is right within a third, though the first crates are small and the unproved build has a processor meanwhile."""
     build = load("build")
+    build.SHARES["lq_model"] = 42  # which it took then
     build.Kit = type("Kit", (), {"__init__": lambda *_: None, "has": lambda *_: False})
     it = build.Build(build.crates_of_program(), 4).estimate
     took = max(end for _, end, _ in SLOW.values())
