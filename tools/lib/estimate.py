@@ -16,7 +16,7 @@ from typing import Dict, List
 
 from lib import words
 
-SERIAL = 0.4  # of a crate's time, which several processes don't shorten: with it four idle processors take 9.6 minutes, where 9 to 10 were measured
+SERIAL = 0.2  # of a crate's time, which several processes don't shorten: what each loads for itself, and what one alone writes
 RANGE = (0.95, 3.0)  # of the planned time, on idle processors of the machines that were measured
 KNOWN, USUAL = 0.025, 1.3  # of the planned processor time, that is taken as known beforehand, and how many times it such a machine takes
 STEADY = 0.08  # of the planned seconds, that are taken to go on as slowly as the machine is

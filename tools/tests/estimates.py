@@ -9,7 +9,7 @@ from tests.bench import HERE, ROOM, case, fault, is_equal, load, run
 
 
 def two_crates():
-    """Two processors check `low`, 60 s by one, in 42 s: 84 s of a processor. Then one checks `high` in 30 s, while the other is idle."""
+    """Two processors check `low`, 60 s by one, in 36 s: 72 s of a processor. Then one checks `high` in 30 s, while the other is idle."""
     def starts(ended, under_way):
         return [it for it in ("low", "high") if it not in ended and it not in under_way and (it == "low" or "low" in ended)]
 
@@ -19,25 +19,39 @@ def two_crates():
 @case
 def estimates():
     plan = two_crates()
-    is_equal("the plan's ends", {it: round(at, 3) for it, at in plan.ends.items()}, {"low": 42, "high": 72})
-    is_equal("the plan's processor time", [round(it, 3) for it in plan.work], [0, 84, 114])
-    is_equal("half of it", round(plan.time_of(42), 3), 21)
-    is_equal("more than all of it", round(plan.time_of(1000), 3), 72)
+    is_equal("the plan's ends", {it: round(at, 3) for it, at in plan.ends.items()}, {"low": 36, "high": 66})
+    is_equal("the plan's processor time", [round(it, 3) for it in plan.work], [0, 72, 102])
+    is_equal("half of it", round(plan.time_of(36), 3), 18)
+    is_equal("more than all of it", round(plan.time_of(1000), 3), 66)
     it = estimate.Estimate(plan)
-    is_equal("before a crate has ended", it.in_all(10), "1 to 4 min by machine")
+    is_equal("before a crate has ended", it.in_all(10), "1 to 3 min by machine")
     it.under_way({"low": 100})
-    is_equal("the same with a crate under way", it.in_all(10), "1 to 4 min by machine")
+    is_equal("the same with a crate under way", it.in_all(10), "1 to 3 min by machine")
     is_equal("no crate has ended when all were to", it.in_all(100), "about 3 min in all, 1 on idle processors")
-    it.ended("low", 168)
-    # 2.85 s of a processor are taken as known beforehand, at 1.3 times: (168 + 3.7) / (84 + 2.85). Of the pace 5.76 planned seconds: (84 + 11.4) / (42 + 5.76)
-    is_equal("twice as slow", (round(it.slower(), 2), round(it.whole(84)), it.in_all(84)), (1.98, 144, "about 2 min in all"))
-    is_equal("it is said", it.on_this_machine(84), "this machine takes 2.0 times the processor time of the one that these minutes are of: 2 to 3 min in all")
-    is_equal("a third of the processors is at other work", (round(it.whole(126)), it.in_all(126)), (207, "about 3 min in all, 2 on idle processors"))
+    it.ended("low", 144)
+    # 2.55 s of a processor are taken as known beforehand, at 1.3 times: (144 + 3.3) / (72 + 2.55). Of the pace 5.28 planned seconds: (72 + 10.4) / (36 + 5.28)
+    is_equal("twice as slow", (round(it.slower(), 2), round(it.whole(72)), it.in_all(72)), (1.98, 132, "about 2 min in all"))
+    is_equal("it is said", it.on_this_machine(72), "this machine takes 2.0 times the processor time of the one that these minutes are of: 2 to 3 min in all")
+    is_equal("a third of the processors is at other work", (round(it.whole(108)), it.in_all(108)), (189, "about 3 min in all, 2 on idle processors"))
     it.under_way({"high": 30})
-    # 84 and 15.2 planned seconds are done: second 57.2 of 72
-    is_equal("half of the last crate", round(it.whole(114)), 143)
+    # 72 and 15.2 planned seconds are done: second 51.2 of 66
+    is_equal("half of the last crate", round(it.whole(102)), 131)
     it.under_way({"high": 1000})
     is_equal("a crate that takes longer than planned", round(it.whole(500)), 500)
+
+
+@case
+def several_processes():
+    """The largest crates of a chain have several, until the chain takes 1.4 times what all crates take beside each other: 73.5 of 105 s by two.
+
+    The chain takes 81 s if two check `middle` in 36 s, and 69 if two check `high` in 18, too.
+    """
+    build = load("build")
+    build.SHARES, build.Kit = {"low": 10, "middle": 60, "high": 30, "lqtx": 5}, type("Kit", (), {"__init__": lambda *_: None, "has": lambda *_: False})
+    it = build.Build({"low": [], "middle": ["low"], "high": ["middle"], "lqtx": ["high"]}, 2)
+    is_equal("crates with several processes", it.several, {"middle", "high"})
+    is_equal("the first crate", it.rank("low"), (build.NEAR_ONE, 1))
+    is_equal("the second", it.rank("middle"), (build.NEAR_ONE, 2))
 
 
 # a first build of this program: when each crate began and ended, on four processors that had nothing else to do for four minutes, and then up to
