@@ -42,7 +42,7 @@ def estimates():
 
 @case
 def several_processes():
-    """The largest crates of a chain have several, until the chain takes 1.4 times what all crates take beside each other: 73.5 of 105 s by two.
+    """The largest crates of a chain have several, until it takes at most 1.4 times what all crates take beside each other: here 73.5 s.
 
     The chain takes 81 s if two check `middle` in 36 s, and 69 if two check `high` in 18, too.
     """
