@@ -155,10 +155,10 @@ at_back m hand slot h = more Back h refl (record { may_come = ((m, hand), slot);
 -- the packet in hand is sent
 abbrev sends : {plan : Plan} {infos : List Info} {station n : ℕ} {a : Account} (m : ℕ) (h : IsAt plan infos station n a)
     → a.hand ≡ Some m → a.stops ≡ 0 ∷ [] → queue_in infos m ≡ 0 → IsAt plan infos station n (after Send a)
-sends {infos = infos} {a = a} m h hand stops queue = more Send h refl (record { may_come = (m, hand, not_hung); planned = tt; in_turn = tt })
+sends {infos = infos} {a = a} m h hand stops queue = more Send h refl (record { may_come = (m, hand, opened); planned = tt; in_turn = tt })
   where
-    not_hung : slice_index a.stops (queue_in infos m) ≡ 2 → ⊥
-    not_hung hung = let is_open : slice_index a.stops (queue_in infos m) ≡ 0 = ap₂ (λ stops queue. slice_index stops queue) stops queue in omega arith
+    opened : slice_index a.stops (queue_in infos m) ≡ 0
+    opened = ap₂ (λ stops queue. slice_index stops queue) stops queue
 
 at-end : (xs : List ℕ) (m : ℕ) → slice_get (xs ++ m ∷ []) (length xs) ≡ Some m
 at-end [] m = refl

@@ -33,8 +33,8 @@ pub record MeetsOneStopValue (infos : List Info) (station : ℕ) (past : List Ev
   pub known : stop_of a ≤ 2
   pub opens : (is_open a 0 ≡ true) ↔ (stop_of a ≡ 0)
   pub hung : (is_hung a ≡ true) ↔ (stop_of a ≡ 2)
-  -- the packet in hand is sent unless the queue is hung
-  pub may_send : MayCome infos station past a Send ↔ (((n : ℕ) × (a.hand ≡ Some n)) × (stop_of a ≢ 2))
+  -- the packet in hand is sent where the queue is open
+  pub may_send : MayCome infos station past a Send ↔ (((n : ℕ) × (a.hand ≡ Some n)) × (stop_of a ≡ 0))
   -- it is stopped exactly where the holder's last event was a send, and hung there or again
   pub may_stop : (value : ℕ) → MayCome infos station past a (Stop 0 value) ↔ (((value ≡ 1) × (is_after_send past ≡ true)) ⊎ ((value ≡ 2) × (is_hanging_past past ≡ true)))
   pub may_hang : is_after_send past ≡ true → is_hanging_past past ≡ true

@@ -130,7 +130,7 @@ MayCome infos station past a (Empty band) = held_in a band ≡ []
 MayCome infos station past a (Take band) = MayTake past a band
 MayCome infos station past a Pick = (a.hand ≡ None) × ((n : ℕ) × (a.slot ≡ Some n))
 MayCome infos station past a (Direct n) = MayGoDirect infos station a n
-MayCome infos station past a Send = (n : ℕ) × (a.hand ≡ Some n) × (slice_index a.stops (queue_in infos n) ≡ 2 → ⊥)
+MayCome infos station past a Send = (n : ℕ) × (a.hand ≡ Some n) × (slice_index a.stops (queue_in infos n) ≡ 0)
 MayCome infos station past a Back = ((n : ℕ) × (a.hand ≡ Some n)) × (a.slot ≡ None)
 MayCome infos station past a (Stop queue value) =
     ((value ≡ 1) × (is_after_send past ≡ true) × IsQueueSentOn infos a queue) ⊎ ((value ≡ 2) × (is_hanging_past past ≡ true))

@@ -3,7 +3,7 @@ use Rattle.std.proofs.Common.{◌≡◌, ◌≢◌, ℕ, ◌+◌, ◌-◌, ◌<�
 use Rattle.std.specs.Prelude.{if◌then◌else◌, ◌==◌, slice_index}
 use Rattle.std.specs.Option.{option_map}
 use Rattle.std.specs.List.{slice_get}
-use Rattle.std.proofs.lemmas.Bool.{lt-ltb}
+use Rattle.std.proofs.lemmas.Bool.{eqb-true, lt-ltb}
 use Rattle.std.proofs.lemmas.List.{length-append}
 use mathlib.Core.Option.{none}
 use Rattle.atomic_table.specs.Table.{step, Allows, keeps}
@@ -89,9 +89,6 @@ taken_one Busy e n = absurd cc
 last_pushed : (xs : List ℕ) (n : ℕ) → slice_get (xs ++ n ∷ []) (length (xs ++ n ∷ []) - 1) ≡ Some n
 last_pushed xs n = ap (slice_get (xs ++ n ∷ [])) (let l = length-append xs (n ∷ []) in let i : length (xs ++ n ∷ []) - 1 ≡ length xs = omega arith in i) ∙ get-push-new xs n
 
-open_not_hung : (x : ℕ) → (x == 0) ≡ true → x ≡ 2 → ⊥
-open_not_hung x e h = let z : (x == 0) ≡ false = ap (λ (y : ℕ). y == 0) h in absurd (true≢false (sym e ∙ z))
-
 module _ (k : Setup) where
   pub settles : (slots id n : ℕ) (st : StationState) (m : Sat) (p : Packet) (direct : Bool) (tx : Tx) → m.0.place.position ≡ Xmit p direct → m.0.holder.hand ≡ Some n → HasAnswered tx p.queue n (shown m.0.holder) st → is_busy tx ≡ false → HasWord (fate_sent m.0.holder.station) → 0 < m.0.share.shares → n < length k.infos
       → Allows (Rule k) slots id m (fates_offset k + n) (λ _. word_of (fate_sent m.0.holder.station)) (λ _. becomes (λ _. settle_view_sent st) (step slots (fates_offset k + n) (word_of (fate_sent m.0.holder.station)) 0 none) m (word_of (fate_sent m.0.holder.station)))
@@ -118,7 +115,7 @@ module _ (k : Setup) where
       let mach = plays k s r id v w here live (machine_answer st.last) (seen_by v) (accepted q) fits refl refl refl refl in
       let open_ : is_open q (queue_in k.infos n) ≡ true = ap (λ (z : Packet). is_open q z.queue) x_is ∙ device_open k.infos s.views id v here live q a a.bands p.machine.invariant p.station.ties x direct position in
       let no_shut : g.shut ≡ None = call_none s.views id v here live q p.machine.invariant (ap may_be_inside position) g.shut a.stops p.station.stops in
-      let may : MayCome k.infos k.station g.past a Send = (n, in_hand_is, open_not_hung _ (ap (λ (ls : List ℕ). slice_index ls (queue_in k.infos n) == 0) (sym (agree q.phase q.locked q.xoff a.stops g.shut no_shut p.station.stops)) ∙ open_)) in (
+      let may : MayCome k.infos k.station g.past a Send = (n, in_hand_is, eqb-true _ 0 (ap (λ (ls : List ℕ). slice_index ls (queue_in k.infos n) == 0) (sym (agree q.phase q.locked q.xoff a.stops g.shut no_shut p.station.stops)) ∙ open_)) in (
         w,
         keeps,
         tt,
