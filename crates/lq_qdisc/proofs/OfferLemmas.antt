@@ -16,7 +16,7 @@ use Rattle.lq_table.specs.Made.{◌⊳◌}
 use Rattle.lq_table.specs.States.{set_missed_log, missed_to}
 use Rattle.lq_table.specs.declared.shared.Cpu.{Cpu}
 use Rattle.lq_qdisc.specs.Direct.{Accepts, IsBusyAt, SeesOpen, hearing_stops, stopped_by}
-use Rattle.lq_qdisc.specs.Steps.{DirectsBy, OffersBy, stops_stored}
+use Rattle.lq_qdisc.specs.Steps.{DirectsBy, StartXmit, stops_stored}
 use Rattle.lq_qdisc.specs.declared.answers.Through.{Through}
 use Rattle.lq_qdisc.specs.declared.answers.Through.TheVariants as through
 use Rattle.lq_qdisc.specs.declared.answers.Why.TheVariants as why
@@ -48,7 +48,7 @@ busy_before n queue v m w holder past settled alone sees b = record {
 
 module _ {D : Type 0} where
   pub offers_directs : (k : Setup) (t : Through) (n queue first : ℕ) (p : Packet) (direct : Bool) (b m w : Cpu D) → first ≡ 0 → position b ≡ Gate p direct → view m ≡ load_xoff_view first (view b)
-      → steps m ≡ steps b ⊳ load_xoff_log k queue first → SeesOpen queue (view m) → OffersBy k t n queue (steps m) (known m) (known w) → DirectsBy k t n queue (known b) (known w)
+      → steps m ≡ steps b ⊳ load_xoff_log k queue first → SeesOpen queue (view m) → StartXmit k t n queue (steps m) (known m) (known w) → DirectsBy k t n queue (known b) (known w)
   offers_directs k through.Yes n queue first p direct b m w opened here loaded made sees o =
       let e : view m ≡ moved_to (if first == 0 then Xmit p direct else BlockedClear (InHand p direct)) (view b) = loaded ∙ loaded_at_gate first (view b) p direct here in
       let holder : (view m).holder ≡ (view b).holder = ap (λ (v : View). v.holder) e in (

@@ -7,7 +7,7 @@ use Rattle.lq_table.specs.Moves.{pass_view}
 use Rattle.lq_table.specs.Sees.{solo}
 use Rattle.lq_qdisc.proofs.ViewRelations.{Attempts, Directs, FollowsDirect, Goes, GoesPast, GoesThrough, GoesThroughHeld, Hands, Interrupts, LastTurn, Runs, RunsToEnd, Sends, TriesToPass}
 use Rattle.lq_qdisc.specs.Sends.{Enqueues}
-use Rattle.lq_qdisc.specs.Steps.{AttemptsBy, DirectsBy, EndsBy, EnqueuesBy, FollowsBy, GoesBy, GoesHeldBy, GoesPastBy, GoesThroughBy, HandsBy, InterruptsBy, RunsBy, RunsToEndBy, SendsBy, TriesToPassBy, with_state_loaded}
+use Rattle.lq_qdisc.specs.Steps.{QdiscRun, DirectsBy, EndsBy, EnqueuesBy, RunAfterBypass, XmitSkb, GoesHeldBy, GoesPastBy, EnqueueAndRun, HandsBy, InterruptsBy, RunsBy, RunsToEndBy, SendsBy, TryBypass, with_state_loaded}
 use Rattle.lq_qdisc.specs.declared.answers.Ran.{Ran}
 use Rattle.lq_qdisc.specs.declared.answers.RunEnd.{RunEnd}
 use Rattle.lq_qdisc.specs.declared.answers.RunEnd.TheVariants as end
@@ -50,7 +50,7 @@ runs_view k ran old new r = record { last = r.last.view; sent = sends_view k ran
 pub to_end_view : (k : Setup) (old new : Known) → RunsToEndBy k old new → RunsToEnd k.infos old.view new.view
 to_end_view k old new r = record { ran = r.ran; last = r.last.view; runs = runs_view k r.ran old r.last r.runs; share = r.share; ended = r.ended.0 }
 
-pub attempts_view : (k : Setup) (old new : Known) → AttemptsBy k old new → Attempts k.infos old.view new.view
+pub attempts_view : (k : Setup) (old new : Known) → QdiscRun k old new → Attempts k.infos old.view new.view
 attempts_view k old new (inl m) = inl m.0
 attempts_view k old new (inr t) = inr (t.0.view, t.1.0, to_end_view k t.0 new t.2)
 
@@ -61,7 +61,7 @@ enqueues_view k n sending.Direct old new e = absurd e
 enqueues_view k n (sending.Refused event) old new e = absurd e
 enqueues_view k n (sending.OutOfTurn found) old new e = absurd e
 
-pub through_view : (k : Setup) (n : ℕ) (answer : Sending) (old new : Known) → GoesThroughBy k n answer old new → GoesThrough k.infos n answer old.view new.view
+pub through_view : (k : Setup) (n : ℕ) (answer : Sending) (old new : Known) → EnqueueAndRun k n answer old new → GoesThrough k.infos n answer old.view new.view
 through_view k n answer old new g = record { put = g.0.view; enqueued = enqueues_view k n answer old g.0 g.1; attempted = attempts_view k g.0 new g.2 }
 
 pub held_view : (k : Setup) (n : ℕ) (answer : Sending) (old new : Known) → GoesHeldBy k n answer old new → GoesThroughHeld k.infos n answer old.view new.view
@@ -74,7 +74,7 @@ held_view k n answer old new h = record {
   served = to_end_view k h.put new h.served;
 }
 
-pub follows_view : (k : Setup) (t : Through) (old new : Known) → FollowsBy k t old new → FollowsDirect t k.infos old.view new.view
+pub follows_view : (k : Setup) (t : Through) (old new : Known) → RunAfterBypass k t old new → FollowsDirect t k.infos old.view new.view
 follows_view k through.Yes old new (state, sees, step, inl t) = (state, sees, step, inl (t.0, to_end_view k (with_state_loaded state old) new t.1))
 follows_view k through.Yes old new (state, sees, step, inr t) = (state, sees, step, inr (t.0, t.1.0))
 follows_view k (through.Back reason) old new f = f.0
@@ -91,12 +91,12 @@ past_view k n old new p = record {
   follows = follows_view k p.handed p.after new p.follows;
 }
 
-pub tries_view : (k : Setup) (n : ℕ) (answer : Sending) (old new : Known) → TriesToPassBy k n answer old new → TriesToPass k.infos n answer old.view new.view
+pub tries_view : (k : Setup) (n : ℕ) (answer : Sending) (old new : Known) → TryBypass k n answer old new → TriesToPass k.infos n answer old.view new.view
 tries_view k n answer old new (inl m) = inl (m.0.view, m.1.0, through_view k n answer m.0 new m.2)
 tries_view k n answer old new (inr (got, gets, inl h)) = inr (got.view, gets.0, inl (held_view k n answer got new h))
 tries_view k n answer old new (inr (got, gets, inr p)) = inr (got.view, gets.0, inr (p.0, past_view k n got new p.1))
 
-pub goes_view : (k : Setup) (n : ℕ) (answer : Sending) (old new : Known) → GoesBy k n answer old new → Goes k.infos k.bypass n answer old.view new.view
+pub goes_view : (k : Setup) (n : ℕ) (answer : Sending) (old new : Known) → XmitSkb k n answer old new → Goes k.infos k.bypass n answer old.view new.view
 goes_view k n answer old new g = record {
   state = g.state;
   sees = g.sees;

@@ -1,5 +1,5 @@
 -- The parts of `direct_xmit`: what each requires of the holder of the run lock (`May..`), and what each ensures of it.
-use Rattle.std.specs.Prelude.{◌≡◌, ◌<◌, ℕ, Bool, true, false, is_some, length, [], ◌∷◌, Some, None}
+use Rattle.std.specs.Prelude.{◌≡◌, ◌<◌, ℕ, Bool, true, false, is_some, length, List, [], ◌∷◌, Some, None}
 use Rattle.lq_device.specs.Station.{StationState, HasAnswered}
 use Rattle.lq_model.specs.Account.{Back}
 use Rattle.lq_model.specs.Device.{is_hang, is_busy}
@@ -12,20 +12,20 @@ use Rattle.lq_model.specs.declared.machine.Blocked.TheVariants.{InHand}
 use Rattle.lq_model.specs.declared.machine.Position.{Position}
 use Rattle.lq_model.specs.declared.machine.Position.TheVariants.{BlockedClear, Unlock, Xmit}
 use Rattle.lq_ring.specs.Seats.{KeepsSeatAndView}
-use Rattle.lq_table.specs.Made.{◌⊳◌}
+use Rattle.lq_table.specs.Made.{Made, ◌⊳◌}
 use Rattle.lq_table.specs.Views.{Known}
-use Rattle.lq_table.specs.States.{set_missed_log, requeue_view, missed_to}
+use Rattle.lq_table.specs.States.{set_missed_log, set_bit_view, requeue_view, missed_to}
 use Rattle.lq_table.specs.Fates.{settle_log, fate_sent}
 use Rattle.lq_table.specs.Rule.{shown}
 use Rattle.lq_table.specs.Sees.{view, known, steps, setup, position, slot, packet_at, carried, IsSameSeat, IsElseSame, solo, heard, device_to}
-use Rattle.lq_table.specs.Stops.{HasRoom}
-use Rattle.lq_table.specs.Moves.{IsPacketOf}
+use Rattle.lq_table.specs.Stops.{HasRoom, load_xoff_view}
+use Rattle.lq_table.specs.Moves.{IsPacketOf, pass_view}
 use Rattle.lq_table.specs.declared.shared.Cpu.{Cpu}
 use Rattle.lq_table.specs.declared.shared.Shared.{Shared}
 use Rattle.lq_qdisc.specs.Calls.{ClearsMissedAlone, IsServing, IsKeptInRun, IsSettledSame}
 use Rattle.lq_qdisc.specs.Direct.{SeesOpen, StaysAt, hearing_stops, run_after, sent_leads, stopped_by}
 use Rattle.lq_qdisc.specs.Seats.{GoesOnFrom, StoresSent}
-use Rattle.lq_qdisc.specs.Steps.{ClearsAndSetsBy, stops_stored}
+use Rattle.lq_qdisc.specs.Steps.{ClearsMaybe, stops_stored}
 use Rattle.lq_qdisc.specs.declared.answers.Through.{Through}
 use Rattle.lq_qdisc.specs.declared.answers.Through.TheVariants.{Yes}
 
@@ -81,7 +81,8 @@ module _ {D : Type 0} where
     pub fates : IsSettledSame b a
     pub holder : (view a).holder ≡ record (view b).holder { slot = Some n; hand = None }
     pub past : (view a).whole.state.past ≡ Back ∷ (view b).whole.state.past
-    pub stopped : ClearsAndSetsBy (setup t) queue (known b) (known a)
+    pub stopped : (again : ℕ) × (view a ≡ set_bit_view (set_bit_view (load_xoff_view again (pass_view (view b)))))
+        × (cleared : List Made) × (was : Bool) × ClearsMaybe (setup t) queue again (steps b) cleared × (steps a ≡ cleared ⊳ set_missed_log was)
     pub sole : ClearsMissedAlone queue (λ s. missed_to true (heard Back s)) (view b) (view a)
 
   -- The device has answered Busy to packet n, which is in hand, and the requeue slot is empty.

@@ -45,15 +45,6 @@ ClearsMaybe k queue again old new =
     ((again ≡ 0) × (was : Bool) × (new ≡ old ⊳ clear_missed_log ⊳ load_xoff_log k queue again ⊳ set_missed_log was))
     ⊎ ((again ≢ 0) × (was : Bool) × (new ≡ old ⊳ clear_missed_log ⊳ load_xoff_log k queue again ⊳ set_draining_log was))
 
--- with what the seat knows after it
-abbrev pub ClearsMissedBy : Setup → ℕ → Known → Known → Type 0
-ClearsMissedBy k queue old new = (again : ℕ) × (new.view ≡ set_bit_view (load_xoff_view again (pass_view old.view))) × ClearsMaybe k queue again old.steps new.steps
-
--- and MISSED is set after that
-abbrev pub ClearsAndSetsBy : Setup → ℕ → Known → Known → Type 0
-ClearsAndSetsBy k queue old new = (again : ℕ) × (new.view ≡ set_bit_view (set_bit_view (load_xoff_view again (pass_view old.view))))
-    × (cleared : List Made) × (was : Bool) × ClearsMaybe k queue again old.steps cleared × (new.steps ≡ cleared ⊳ set_missed_log was)
-
 -- the queue is found stopped
 abbrev pub FindsStopWord : Setup → ℕ → Known → Known → Type 0
 FindsStopWord k queue old new = (first again : ℕ) × (first ≢ 0) × (new.view ≡ finding_stopped first again old.view) × ClearsMaybe k queue again (old.steps ⊳ load_xoff_log k queue first) new.steps
@@ -124,16 +115,16 @@ stops_stored k tx.SentHang queue steps = hung_stored k k.queues steps
 
 -- The device answered: its answer to the packet that it accepted says which stop words are stored after that packet's fate. Where it was
 -- busy MISSED is set.
-abbrev pub OffersBy : Setup → Through → ℕ → ℕ → List Made → Known → Known → Type 0
-OffersBy k through.Yes n queue from old new = (a : Accepts n queue old.view new.view) × (new.steps ≡ stops_stored k a.answer queue (from ⊳ settle_log k n (word_of (fate_sent old.view.holder.station))))
-OffersBy k (through.Back why.Busy) n queue from old new = IsBusyAt n queue old.view new.view × (was : Bool) × (new.steps ≡ from ⊳ set_missed_log was)
-OffersBy k (through.Back why.Stopped) n queue from old new = ⊥
+abbrev pub StartXmit : Setup → Through → ℕ → ℕ → List Made → Known → Known → Type 0
+StartXmit k through.Yes n queue from old new = (a : Accepts n queue old.view new.view) × (new.steps ≡ stops_stored k a.answer queue (from ⊳ settle_log k n (word_of (fate_sent old.view.holder.station))))
+StartXmit k (through.Back why.Busy) n queue from old new = IsBusyAt n queue old.view new.view × (was : Bool) × (new.steps ≡ from ⊳ set_missed_log was)
+StartXmit k (through.Back why.Stopped) n queue from old new = ⊥
 
 -- `sch_direct_xmit` of net/sched/sch_generic.c: where the packet's queue is open it is handed to the device; else it goes to the requeue
 -- slot, and MISSED is set
 abbrev pub DirectsBy : Setup → Through → ℕ → ℕ → Known → Known → Type 0
-DirectsBy k through.Yes n queue old new = OffersBy k through.Yes n queue (old.steps ⊳ load_xoff_log k queue 0) old new
-DirectsBy k (through.Back why.Busy) n queue old new = OffersBy k (through.Back why.Busy) n queue (old.steps ⊳ load_xoff_log k queue 0) old new
+DirectsBy k through.Yes n queue old new = StartXmit k through.Yes n queue (old.steps ⊳ load_xoff_log k queue 0) old new
+DirectsBy k (through.Back why.Busy) n queue old new = StartXmit k (through.Back why.Busy) n queue (old.steps ⊳ load_xoff_log k queue 0) old new
 DirectsBy k (through.Back why.Stopped) n queue old new = (l : LaysAside n queue old.view new.view)
     × (cleared : List Made) × (was : Bool) × ClearsMaybe k queue l.again (old.steps ⊳ load_xoff_log k queue l.first) cleared × (new.steps ≡ cleared ⊳ set_missed_log was)
 
@@ -191,8 +182,8 @@ abbrev pub MissesBy : Known → Known → Type 0
 MissesBy old new = Misses old.view new.view × BeginsBy false old new
 
 -- `qdisc_run` of include/net/pkt_sched.h: the run lock is tried, and the bands are served where it is got
-abbrev pub AttemptsBy : Setup → Known → Known → Type 0
-AttemptsBy k old new = MissesBy old new ⊎ ((got : Known) × GetsBy old got × RunsToEndBy k got new)
+abbrev pub QdiscRun : Setup → Known → Known → Type 0
+QdiscRun k old new = MissesBy old new ⊎ ((got : Known) × GetsBy old got × RunsToEndBy k got new)
 
 -- A TRANSMIT
 
@@ -204,8 +195,8 @@ EnqueuesBy k n (sending.FullSeen seen) old new = Enqueues n (band_in k.infos n) 
 EnqueuesBy k n _ old new = ⊥
 
 -- by a seat that doesn't have the run lock, which then tries that
-abbrev pub GoesThroughBy : Setup → ℕ → Sending → Known → Known → Type 0
-GoesThroughBy k n answer old new = (put : Known) × EnqueuesBy k n answer old put × AttemptsBy k put new
+abbrev pub EnqueueAndRun : Setup → ℕ → Sending → Known → Known → Type 0
+EnqueueAndRun k n answer old new = (put : Known) × EnqueuesBy k n answer old put × QdiscRun k put new
 
 -- by a seat that has it, which then serves the bands
 abbrev pub EnqueuesAndRunsBy : Setup → ℕ → Sending → Known → Known → Type 0
@@ -222,14 +213,14 @@ pub record GoesHeldBy (k : Setup) (n : ℕ) (answer : Sending) (old new : Known)
 
 -- after a packet that went past the bands: where the device accepted it the state is loaded, and where MISSED or DRAINING is set then, the
 -- bands are served
-abbrev pub FollowsBy : Setup → Through → Known → Known → Type 0
-FollowsBy k through.Yes old new = (state : ℕ) × (IsSole old.view → SeesState old.view state) × (solo (load_state_view state old.view) ≡ solo old.view)
+abbrev pub RunAfterBypass : Setup → Through → Known → Known → Type 0
+RunAfterBypass k through.Yes old new = (state : ℕ) × (IsSole old.view → SeesState old.view state) × (solo (load_state_view state old.view) ≡ solo old.view)
     × (((some_bit state ≡ true) × RunsToEndBy k (with_state_loaded state old) new) ⊎ ((some_bit state ≡ false) × ReleasesBy (with_state_loaded state old) new))
-FollowsBy k (through.Back reason) old new = ReleasesBy old new
+RunAfterBypass k (through.Back reason) old new = ReleasesBy old new
 
 -- the packet n, which is in hand, goes past the bands with this result, and what follows it is done
-abbrev pub PassesBandsBy : Setup → ℕ → Known → Known → Type 0
-PassesBandsBy k n old new = (handed : Through) × (after : Known) × DirectsBy k handed n (queue_in k.infos n) old after × FollowsBy k handed after new
+abbrev pub XmitBypass : Setup → ℕ → Known → Known → Type 0
+XmitBypass k n old new = (handed : Through) × (after : Known) × DirectsBy k handed n (queue_in k.infos n) old after × RunAfterBypass k handed after new
 
 -- a load of the state under the run lock, after which the packet n is in hand
 abbrev pub gone : ℕ → ℕ → Known → Known
@@ -244,20 +235,15 @@ pub record GoesPastBy (k : Setup) (n : ℕ) (old new : Known) : Type 0 where
   pub handed : Through
   pub after : Known
   pub direct : DirectsBy k handed n (queue_in k.infos n) (gone n state old) after
-  pub follows : FollowsBy k handed after new
+  pub follows : RunAfterBypass k handed after new
 
 -- under the run lock
-abbrev pub GoesLockedBy : Setup → ℕ → Sending → Known → Known → Type 0
-GoesLockedBy k n answer old new = GoesHeldBy k n answer old new ⊎ ((answer ≡ sending.Direct) × GoesPastBy k n old new)
+abbrev pub BypassLocked : Setup → ℕ → Sending → Known → Known → Type 0
+BypassLocked k n answer old new = GoesHeldBy k n answer old new ⊎ ((answer ≡ sending.Direct) × GoesPastBy k n old new)
 
 -- It may go past the bands, since neither bit was set: it does so where the run lock is got and neither is set still.
-abbrev pub TriesToPassBy : Setup → ℕ → Sending → Known → Known → Type 0
-TriesToPassBy k n answer old new = ((missed : Known) × MissesBy old missed × GoesThroughBy k n answer missed new) ⊎ ((got : Known) × GetsBy old got × GoesLockedBy k n answer got new)
-
--- the station is deactivated: the packet is refused, and its fate stored
-abbrev pub RefusesBy : Setup → ℕ → Sending → ℕ → Known → Known → Type 0
-RefusesBy k n answer state old new = (event : ℕ) × (answer ≡ sending.Refused event) × IsRefused n event state old.view new.view
-    × (new.steps ≡ old.steps ⊳ load_state_log state ⊳ settle_log k n (word_of (fate.Refused event)))
+abbrev pub TryBypass : Setup → ℕ → Sending → Known → Known → Type 0
+TryBypass k n answer old new = ((missed : Known) × MissesBy old missed × EnqueueAndRun k n answer missed new) ⊎ ((got : Known) × GetsBy old got × BypassLocked k n answer got new)
 
 -- its fate is stored, where the state was loaded as this word
 abbrev pub StoresRefused : Setup → ℕ → ℕ → Sending → List Made → List Made → Type 0
@@ -265,13 +251,14 @@ StoresRefused k n state answer old new = (event : ℕ) × (bits : ℕ) × (bits 
     × (new ≡ old ⊳ settle_log k n (word_of (fate.Refused event)))
 
 -- `__dev_xmit_skb` of net/core/dev.c, the part for a qdisc with `TCQ_F_NOLOCK`
-pub record GoesBy (k : Setup) (n : ℕ) (answer : Sending) (old new : Known) : Type 0 where
+pub record XmitSkb (k : Setup) (n : ℕ) (answer : Sending) (old new : Known) : Type 0 where
   pub state : ℕ
   pub sees : IsSole old.view → SeesState old.view state
   pub first : old.view.control.first ≡ true → SeesDown old.view state
-  pub refused : is_set 2 state ≡ true → RefusesBy k n answer state old new
-  pub past : is_set 2 state ≡ false → k.bypass && not (some_bit state) ≡ true → TriesToPassBy k n answer (with_state_loaded state old) new
-  pub through : is_set 2 state ≡ false → k.bypass && not (some_bit state) ≡ false → GoesThroughBy k n answer (with_state_loaded state old) new
+  pub refused : is_set 2 state ≡ true → (event : ℕ) × (answer ≡ sending.Refused event) × IsRefused n event state old.view new.view
+      × (new.steps ≡ old.steps ⊳ load_state_log state ⊳ settle_log k n (word_of (fate.Refused event)))
+  pub past : is_set 2 state ≡ false → k.bypass && not (some_bit state) ≡ true → TryBypass k n answer (with_state_loaded state old) new
+  pub through : is_set 2 state ≡ false → k.bypass && not (some_bit state) ≡ false → EnqueueAndRun k n answer (with_state_loaded state old) new
 
 -- the turn of the packet n is taken, and the call begins
 abbrev pub transmit_begun : ℕ → Setup → Known → Known
@@ -287,7 +274,7 @@ pub record TransmitsBy (k : Setup) (n : ℕ) (answer : Sending) (old new : Known
   pub turns : new.view.turns ≡ slice_set old.view.turns (owner_in k.infos n) (2 * rank_in k.infos n + 2)
   pub trail : new.view.trail ≡ trail_with (came_as k.infos n answer) old.view
   pub last : Known
-  pub goes : GoesBy k n answer (transmit_begun n k old) last
+  pub goes : XmitSkb k n answer (transmit_begun n k old) last
   pub ends : new ≡ transmit_over n k last
   pub step : solo new.view ≡ solo last.view
 
@@ -309,7 +296,7 @@ pub record InterruptsBy (k : Setup) (old new : Known) : Type 0 where
   pub cleared : Known
   pub begins : IsDueBy due (softirq_begun old) cleared
   pub last : Known
-  pub serves : due ≡ true → AttemptsBy k cleared last
+  pub serves : due ≡ true → QdiscRun k cleared last
   pub leaves : due ≡ false → last ≡ cleared
   pub ends : new ≡ record { view = pass_view last.view; steps = last.steps ⊳ leave_log }
   pub step : solo new.view ≡ solo last.view

@@ -3,16 +3,17 @@ use Rattle.std.specs.Prelude.{⊤, ◌≡◌, ◌≢◌, ◌≤◌, ℕ, ◌+◌
 use Rattle.lq_model.specs.declared.machine.Position.{Position}
 use Rattle.lq_model.specs.declared.machine.Position.TheVariants.{Deq, Gate, Unlock, Scan}
 use Rattle.lq_run.specs.Runs.{begins}
-use Rattle.lq_table.specs.Sees.{view, known, setup, position, slot, packet_at, Solo, solo}
-use Rattle.lq_table.specs.States.{set_bit_alone}
-use Rattle.lq_table.specs.Moves.{IsPacketOf}
+use Rattle.lq_table.specs.Sees.{view, known, steps, setup, position, slot, packet_at, Solo, solo}
+use Rattle.lq_table.specs.States.{set_bit_alone, set_bit_view}
+use Rattle.lq_table.specs.Moves.{IsPacketOf, pass_view}
+use Rattle.lq_table.specs.Stops.{load_xoff_view}
 use Rattle.lq_table.specs.declared.shared.Cpu.{Cpu}
 use Rattle.lq_table.specs.declared.shared.Shared.{Shared}
 use Rattle.lq_table.specs.Views.{Setup, Known}
 use Rattle.lq_qdisc.specs.Calls.{ClearsMissedAlone, Dequeues, Finds, FindsNone, IsKeptInRun, IsServing, IsSettledSame, IsSlotOf, IsTakenOf, KeepsFates, Looks, SeesOneQueue, after_blocked, after_dequeue, laid_aside, with_back, looking_at}
 use Rattle.lq_qdisc.specs.Direct.{accepted_count, position_in_run}
 use Rattle.lq_qdisc.specs.Seats.{ServesStation}
-use Rattle.lq_qdisc.specs.Steps.{ClearsMissedBy, DequeuesBy, DequeuesFrom, LooksThrough, RunsBy, Scans, EndsBy, HandsBy}
+use Rattle.lq_qdisc.specs.Steps.{ClearsMaybe, DequeuesBy, DequeuesFrom, LooksThrough, RunsBy, Scans, EndsBy, HandsBy}
 use Rattle.lq_qdisc.specs.declared.answers.Ran.{Ran}
 use Rattle.lq_qdisc.specs.declared.answers.RunEnd.{RunEnd}
 use Rattle.lq_qdisc.specs.declared.answers.RunEnd.TheVariants.{Quota}
@@ -90,7 +91,7 @@ module _ {D : Type 0} where
     pub holder : (view a).holder ≡ laid_aside (position b) (view b).holder
     pub heard : (view a).whole.state ≡ with_back (position b) (view b).whole.state
     pub fates : IsSettledSame b a
-    pub stopped : ClearsMissedBy (setup t) queue (known b) (known a)
+    pub stopped : (again : ℕ) × (view a ≡ set_bit_view (load_xoff_view again (pass_view (view b)))) × ClearsMaybe (setup t) queue again (steps b) (steps a)
     pub sole : ClearsMissedAlone queue (set_bit_alone (view b)) (view b) (view a)
 
 -- A RUN

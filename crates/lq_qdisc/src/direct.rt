@@ -7,7 +7,7 @@ ghost use Rattle.lq_model.specs.declared.device.Tx.TheVariants.{SentHang};
 ghost use Rattle.lq_model.specs.declared.machine.Position.TheVariants.{Gate, StoreXoff, Xmit};
 ghost use Rattle.lq_table.specs.Sees.{view, setup, position, packet_at, IsSeatOf};
 ghost use Rattle.lq_ring.specs.Calls.{ChangesStation};
-ghost use Rattle.lq_qdisc.specs.Steps.{DirectsBy, OffersBy};
+ghost use Rattle.lq_qdisc.specs.Steps.{DirectsBy, StartXmit};
 ghost use Rattle.lq_qdisc.specs.Handing.{AsksDevice, MayRequeueBusy, MayRequeueStopped, MaySettleSent, MayStartXmit, MayStop, RequeuesBusy, RequeuesStopped, SettlesSent, StoresStops, XmitsBy};
 ghost use Rattle.lq_qdisc.specs.Seats.{CarriesDeviceWithRoom};
 ghost use Rattle.lq_qdisc.specs.Takes.{MayXmit};
@@ -132,7 +132,7 @@ fn start_xmit<'a, D: TxDevice>(
 ) -> Through
     requires seat { IsSeatOf shared.now cpu.old }
     requires may { MayStartXmit shared.now n queue cpu.old }
-    ensures { XmitsBy (Xmit (packet_at shared.now n)) result (λ b a. OffersBy (setup shared.now) result n queue b.steps b a) cpu.old cpu.new }
+    ensures { XmitsBy (Xmit (packet_at shared.now n)) result (λ b a. StartXmit (setup shared.now) result n queue b.steps b a) cpu.old cpu.new }
 {
     let (answer, fate) = ask_device(cpu, queue, n);
     if is_refusal(answer) {

@@ -5,7 +5,7 @@ ghost use Rattle.lq_model.specs.declared.machine.Position.TheVariants.{Check, Pu
 ghost use Rattle.lq_table.specs.Sees.{view, setup, packet_at, IsSeatOf};
 ghost use Rattle.lq_table.specs.Moves.{is_set};
 ghost use Rattle.lq_table.specs.States.{some_bit};
-ghost use Rattle.lq_qdisc.specs.Steps.{AttemptsBy, EnqueuesAndRunsBy, FollowsBy, GoesBy, GoesLockedBy, GoesThroughBy, PassesBandsBy, RunsToEndBy, TriesToPassBy};
+ghost use Rattle.lq_qdisc.specs.Steps.{QdiscRun, EnqueuesAndRunsBy, RunAfterBypass, XmitSkb, BypassLocked, EnqueueAndRun, XmitBypass, RunsToEndBy, TryBypass};
 ghost use Rattle.lq_qdisc.specs.Sends.{OwesRefused};
 ghost use Rattle.lq_qdisc.specs.Parts.{BringsBy, EndsCallBy, EnqueuesAs, IsFreeInside, IsUnlocked, MayBring, MayFollow, MayRun, MayServe, MayTryRun, RefusesAs};
 ghost use Rattle.lq_qdisc.specs.Takes.{MayXmit};
@@ -50,7 +50,7 @@ fn run_to_end<'a, D: TxDevice>(shared: &Shared<'a, D>, cpu: &mut Cpu<D>)
 pub(crate) fn qdisc_run<'a, D: TxDevice>(shared: &Shared<'a, D>, cpu: &mut Cpu<D>)
     requires seat { IsSeatOf shared.now cpu.old }
     requires may { MayTryRun cpu.old }
-    ensures { EndsCallBy (AttemptsBy (setup shared.now)) cpu.old cpu.new }
+    ensures { EndsCallBy (QdiscRun (setup shared.now)) cpu.old cpu.new }
 {
     if begin(shared, cpu) {
         run_to_end(shared, cpu);
@@ -88,7 +88,7 @@ fn enqueue_and_run<'a, D: TxDevice, R: Wait>(
 ) -> Sending
     requires seat { IsSeatOf shared.now cpu.old }
     requires may { MayBring shared.now n (Put (packet_at shared.now n) false) IsFreeInside cpu.old }
-    ensures { BringsBy shared.now.infos.now n result (GoesThroughBy (setup shared.now) n result) cpu.old cpu.new }
+    ensures { BringsBy shared.now.infos.now n result (EnqueueAndRun (setup shared.now) n result) cpu.old cpu.new }
 {
     let sending = enqueue(rt, shared, cpu, n);
     qdisc_run(shared, cpu);
@@ -116,7 +116,7 @@ fn enqueue_and_run_locked<'a, D: TxDevice, R: Wait>(
 fn run_after_bypass<'a, D: TxDevice>(shared: &Shared<'a, D>, cpu: &mut Cpu<D>, through: Through)
     requires seat { IsSeatOf shared.now cpu.old }
     requires may { MayFollow through cpu.old }
-    ensures { EndsCallBy (FollowsBy (setup shared.now) through) cpu.old cpu.new }
+    ensures { EndsCallBy (RunAfterBypass (setup shared.now) through) cpu.old cpu.new }
 {
     if through == Through::Yes && is_non_empty(shared.load_state(cpu)) {
         run_to_end(shared, cpu);
@@ -129,7 +129,7 @@ fn run_after_bypass<'a, D: TxDevice>(shared: &Shared<'a, D>, cpu: &mut Cpu<D>, t
 fn xmit_bypass<'a, D: TxDevice>(shared: &Shared<'a, D>, cpu: &mut Cpu<D>, n: u32)
     requires seat { IsSeatOf shared.now cpu.old }
     requires may { MayXmit shared.now n true cpu.old }
-    ensures { EndsCallBy (PassesBandsBy (setup shared.now) n) cpu.old cpu.new }
+    ensures { EndsCallBy (XmitBypass (setup shared.now) n) cpu.old cpu.new }
 {
     let through = direct_xmit(shared, cpu, n);
     run_after_bypass(shared, cpu, through);
@@ -145,7 +145,7 @@ fn bypass_locked<'a, D: TxDevice, R: Wait>(
 ) -> Sending
     requires seat { IsSeatOf shared.now cpu.old }
     requires may { MayBring shared.now n (Recheck (packet_at shared.now n)) (MayServe shared.now) cpu.old }
-    ensures { BringsBy shared.now.infos.now n result (GoesLockedBy (setup shared.now) n result) cpu.old cpu.new }
+    ensures { BringsBy shared.now.infos.now n result (BypassLocked (setup shared.now) n result) cpu.old cpu.new }
 {
     let state = shared.recheck(cpu, n);
     if is_non_empty(state) {
@@ -165,7 +165,7 @@ fn try_bypass<'a, D: TxDevice, R: Wait>(
 ) -> Sending
     requires seat { IsSeatOf shared.now cpu.old }
     requires may { MayBring shared.now n (Try1 (ToPass (packet_at shared.now n))) IsFreeInside cpu.old }
-    ensures { BringsBy shared.now.infos.now n result (TriesToPassBy (setup shared.now) n result) cpu.old cpu.new }
+    ensures { BringsBy shared.now.infos.now n result (TryBypass (setup shared.now) n result) cpu.old cpu.new }
 {
     if begin(shared, cpu) {
         bypass_locked(rt, shared, cpu, n)
@@ -196,7 +196,7 @@ pub(crate) fn xmit_skb<'a, D: TxDevice, R: Wait>(
 ) -> Sending
     requires seat { IsSeatOf shared.now cpu.old }
     requires may { MayBring shared.now n (Check (packet_at shared.now n)) IsFreeInside cpu.old }
-    ensures { BringsBy shared.now.infos.now n result (GoesBy (setup shared.now) n result) cpu.old cpu.new }
+    ensures { BringsBy shared.now.infos.now n result (XmitSkb (setup shared.now) n result) cpu.old cpu.new }
 {
     let state = shared.check(cpu, n);
     if is_deactivated(state) {

@@ -2,7 +2,7 @@ use Rattle.std.proofs.Common.{◌≡◌, rules, true, inl, sym, ap, ◌∙◌, s
 use Rattle.lq_table.specs.Sees.{known, setup, solo}
 use Rattle.lq_table.specs.Views.{View, Known}
 use Rattle.lq_table.specs.States.{some_bit}
-use Rattle.lq_qdisc.specs.Steps.{FollowsBy, RunsToEndBy, with_state_loaded}
+use Rattle.lq_qdisc.specs.Steps.{RunAfterBypass, RunsToEndBy, with_state_loaded}
 use Rattle.lq_qdisc.specs.declared.answers.Through.{Through}
 use Rattle.lq_qdisc.specs.declared.answers.Through.TheVariants.{Yes}
 use Rattle.lq_qdisc.proofs.SendLemmas.{LeavesTheRest, serves_then}
@@ -26,7 +26,7 @@ returns-then-is_non_empty g c =
       settled = ap (λ (x : View). x.settled) v;
     } in
     serves_then c.args.cpu.now c.load_state.new.cpu c.run_to_end.new.cpu calm c.run_to_end.ensures
-    (subst (λ (t : Through). FollowsBy k t (known c.args.cpu.now) (known c.run_to_end.new.cpu)) (sym is)
+    (subst (λ (t : Through). RunAfterBypass k t (known c.args.cpu.now) (known c.run_to_end.new.cpu)) (sym is)
     (state, l.sole, ap solo (sym l.view) ∙ l.step, inl (some_, subst (λ (x : Known). RunsToEndBy k x (known c.run_to_end.new.cpu)) e c.run_to_end.ensures.steps)))
 
 pub run_to_end-requires-clause-seat : goal.run_to_end-requires-clause-seat

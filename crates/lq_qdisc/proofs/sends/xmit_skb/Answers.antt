@@ -4,7 +4,7 @@ use Rattle.lq_table.specs.States.{some_bit, check_view_refused}
 use Rattle.lq_table.specs.Made.{Made, ◌⊳◌}
 use Rattle.lq_table.specs.Fates.{settle_log, settle_view_owed}
 use Rattle.lq_model.specs.Words.{word_of}
-use Rattle.lq_qdisc.specs.Steps.{GoesThroughBy, TriesToPassBy}
+use Rattle.lq_qdisc.specs.Steps.{EnqueueAndRun, TryBypass}
 use Rattle.lq_model.specs.declared.fate.Fate.TheVariants.{Refused}
 use Rattle.lq_table.specs.Views.{Setup, View, Known}
 use Rattle.lq_table.specs.Moves.{is_set}
@@ -86,7 +86,7 @@ returns-then-not-is_non_empty g c =
       sees = l.sole;
       first = l.first;
       refused = λ on. absurd (true≢false (sym on ∙ off));
-      past = λ _ _. subst (λ (x : Known). TriesToPassBy k c.args.n tried.result x (known tried.new.cpu)) e tried.ensures.steps;
+      past = λ _ _. subst (λ (x : Known). TryBypass k c.args.n tried.result x (known tried.new.cpu)) e tried.ensures.steps;
       through = λ _ not_. absurd (true≢false (sym may ∙ not_));
     })
 
@@ -106,7 +106,7 @@ returns g c =
       first = l.first;
       refused = λ on. absurd (true≢false (sym on ∙ off));
       past = λ _ may. absurd (true≢false (sym may ∙ may_not));
-      through = λ _ _. subst (λ (x : Known). GoesThroughBy k c.args.n s.result x (known s.new.cpu)) e s.ensures.steps;
+      through = λ _ _. subst (λ (x : Known). EnqueueAndRun k c.args.n s.result x (known s.new.cpu)) e s.ensures.steps;
     })
 
 pub try_bypass-requires-clause-may : goal.try_bypass-requires-clause-may

@@ -7,7 +7,7 @@ use Rattle.lq_table.specs.Turns.{give_turn_log, give_turn_view}
 use Rattle.lq_table.specs.Sees.{view, known, setup, solo}
 use Rattle.lq_qdisc.proofs.ViewRelations.{Goes}
 use Rattle.lq_qdisc.specs.Sends.{HasCome}
-use Rattle.lq_qdisc.specs.Steps.{GoesBy, transmit_begun}
+use Rattle.lq_qdisc.specs.Steps.{XmitSkb, transmit_begun}
 use Rattle.lq_qdisc.proofs.TransmitLemmas.{transmits_as}
 use Rattle.lq_qdisc.proofs.FirstLemmas.{refused_first}
 use Rattle.lq_qdisc.proofs.AloneCalls.{transmit_alone}
@@ -24,7 +24,7 @@ returns g c = record {
       let k = setup c.args.shared.now in let n = c.args.n in let answer = c.xmit_skb-sending.result in let v = view c.args.cpu.now in let owner = owner_in k.infos n in let rank = rank_in k.infos n in
       let v_is = c.enter.ensures.view ∙ ap (λ (x : View). enter_view x) c.in_default.ensures.turn.1 in let s_is = c.enter.ensures.made ∙ ap (λ (xs : List Made). xs ⊳ enter_log) c.in_default.ensures.made in
       let e : known c.enter.new.cpu ≡ transmit_begun n k (known c.args.cpu.now) = λ j. record { view = v_is j; steps = s_is j } in
-      let goes = subst (λ (x : Known). GoesBy k n answer x (known c.xmit_skb-sending.new.cpu)) e c.xmit_skb-sending.ensures.steps in
+      let goes = subst (λ (x : Known). XmitSkb k n answer x (known c.xmit_skb-sending.new.cpu)) e c.xmit_skb-sending.ensures.steps in
       let t = transmits_as k.infos k.bypass n answer v (view c.xmit_skb-sending.new.cpu) (view c.leave.new.cpu) (view c.give_turn.new.cpu)
       (subst (λ (x : View). HasCome k.infos n answer x (view c.xmit_skb-sending.new.cpu)) v_is c.xmit_skb-sending.ensures.came)
       (goes_view k n answer (transmit_begun n k (known c.args.cpu.now)) (known c.xmit_skb-sending.new.cpu) goes) c.leave.ensures.view c.leave.ensures.step c.give_turn.ensures.given in
