@@ -1,4 +1,6 @@
 """Libraries that nothing but a next build needs: once the program is built each is one file, an eighth of its size."""
+import contextlib
+import fcntl
 import filecmp
 import os
 import pathlib
@@ -40,6 +42,32 @@ def _unpack(library):
 def pack(libraries):
     with ThreadPoolExecutor(os.cpu_count()) as pool:
         list(pool.map(_pack, (it for it in libraries if it.is_dir() and not file_of(it).is_file())))
+
+
+@contextlib.contextmanager
+def _alone(folder):
+    """Whether nothing else works in a folder; meanwhile nothing else begins to."""
+    lock = os.open(folder, os.O_RDONLY)
+    try:
+        fcntl.flock(lock, fcntl.LOCK_EX | fcntl.LOCK_NB)
+        yield True
+    except BlockingIOError:
+        yield False
+    finally:
+        os.close(lock)
+
+
+def put_away(kept):
+    """Packs the libraries of a build that was ended, and removes what was being made: `rt ci` refuses a checkout in which `.rt` files or links lie about.
+    What a build that is under way has is left to it."""
+    for folder, left in (kept, kept.glob("unproved.*/")), (kept / "libraries", (kept / "libraries").glob("*.rlib/")):
+        if folder.is_dir():
+            with _alone(folder) as is_alone:
+                there = [it for it in left if it.is_dir() and not it.is_symlink()] if is_alone else []
+                whole = [it for it in there if it.with_suffix(".sum").is_file() and not file_of(it).is_file()]
+                for it in set(there) - set(whole):
+                    shutil.rmtree(it)
+                pack(whole)
 
 
 def unpack(libraries):
