@@ -1,5 +1,5 @@
 //! The command `trace`. The files of examples/schedules, without their comments: each ends with no packet held and nobody
-//! on the way, but for the two chases, which come back to where their round began. Step numbers and packets sent are counted by hand from
+//! on the way, but for the two chases, which come back to where their round began, and for a wake that hasn't scheduled yet. Step numbers and packets sent are counted by hand from
 //! the comments of the files.
 use crate::done::call_done;
 use lq_host::{HostCall, MemHost};
@@ -225,8 +225,20 @@ const STOPPED_CHASE: &str = "seats 2 len 8 bypass 0
 1 softirq
 ";
 
+/// `wake.schedule`
+const WAKE: &str = "seats 2 len 8 bypass 0
+0 send 1
+0 step 8
+0 stop
+0 step 8
+0 send 1
+0 step 11
+1 wake
+1 step 1
+";
+
 /// What each leaves.
-const DONE: [(&str, &str); 11] = [
+const DONE: [(&str, &str); 12] = [
     (
         SECOND_TRY,
         "steps 41\nstate 0 lock 0 xoff 0 inside 0\nheld 0 sent 2 full 0\nseat 0 idle\nseat 1 idle\n",
@@ -270,6 +282,10 @@ const DONE: [(&str, &str); 11] = [
     (
         STOPPED_CHASE,
         "steps 65\nstate 13 lock 1 xoff 1 inside 1\nheld 1 sent 1 full 0\nseat 0 deq\nseat 1 enter\n",
+    ),
+    (
+        WAKE,
+        "steps 29\nstate 8 lock 0 xoff 0 inside 0\nheld 1 sent 1 full 0\nseat 0 idle\nseat 1 sched\n",
     ),
 ];
 
