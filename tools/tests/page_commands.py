@@ -20,6 +20,7 @@ LEFT_OUT = {
     r"\^C|.*station\.0\.len=1\.\.550": "1,100 runs",
     r"cat hosts$|.* --sshloginfile ": "needs other hosts",
     r"tcpdump |zcat <all": "needs a capture, or an interface, of one's own",
+    r"tools/litmus .*--herd |tools/beside-linux ": "needs what isn't everywhere: herd7, an emulator and Debian's packages",
 }
 # commands inside of sentences
 INLINE = {"docs/USING.md": ["./lqtx gen 1 1000 out/g", "tools/show-run tap 4 1000 64 out/g out/t"], "docs/HISTORY.md": ["tools/show-schedule --mistakes"]}

@@ -37,6 +37,8 @@ class Search:
         self.events, self.fixed = None, None
 
     def add(self, execution):
+        if self.test.filter and not is_met(execution, self.test.filter):
+            return
         met = is_met(execution, self.test.condition)
         if (self.met if met else self.unmet) is not None:
             return
@@ -61,7 +63,7 @@ class Search:
 
 def rank(decided):
     """Of the forbidden executions that is shown whose axiom says most, and then whose cycle is shortest."""
-    return -("coherence", "atomicity", "happens-before", "propagation").index(decided.broken), len(decided.cycle)
+    return -("coherence", "atomicity", "happens-before", "propagation", "rcu").index(decided.broken), len(decided.cycle)
 
 
 def decide(test, without=()):
@@ -148,4 +150,6 @@ def shown_execution(execution):
 def shown_cycle(answer):
     names = names_of(answer.execution)
     (_, first), *rest = answer.cycle
+    if answer.axiom == "rcu":
+        return f"{names[first]} would come before itself, by a grace period"
     return names[first] + "".join(f" -{relation}-> {names[event]}" for relation, event in rest)

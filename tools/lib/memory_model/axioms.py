@@ -1,5 +1,5 @@
 """The axioms of the Linux kernel's memory model over one candidate execution: linux-kernel.cat of the kernel's tools/memory-model, without
-RCU and without plain accesses. A relation is a list: for each event the set of events that it leads to, as bits of a number.
+SRCU and without plain accesses. A relation is a list: for each event the set of events that it leads to, as bits of a number.
 
 The names of relations are those of linux-kernel.cat, so that each line here can be read beside the line there.
 """
@@ -131,7 +131,8 @@ class Fixed:
         fence = lambda kind: then(po, keep(self.members(lambda it: it.kind == "F" and it.order == kind)), po)
         memory, read, write = keep(accesses), keep(self.is_read), keep(self.is_write)
         returning = keep(self.is_read & ~ordered("noreturn"))
-        updates = keep(_or([row | 1 << at if row else 0 for at, row in enumerate(self.rmw)]))
+        # one that failed counts too: a barrier after it orders it, although it has no order of its own
+        updates = keep(_or([row | 1 << at if row else 0 for at, row in enumerate(self.rmw)]) | ordered("failed"))
         lock_write = keep(self.members(lambda it: it.kind == "W" and it.order == "lock"))
         mb = none(self.count) if "mb" in self.without else then(memory, fence("mb"), memory)
         self.mb = union(
@@ -146,6 +147,20 @@ class Fixed:
         self.wmb = then(write, fence("wmb"), write)
         self.acq_po = then(keep(self.is_read & ordered("acquire", "lock")), po, memory)
         self.po_rel = then(memory, po, keep(self.is_write & ordered("release", "unlock")))
+        self.grace = self.members(lambda it: it.kind == "F" and it.order == "sync-rcu")
+        self.gp = then(po, keep(self.grace), maybe(po))
+        self.sections = self.matched()
+
+    def matched(self):
+        """Each rcu_read_lock and the rcu_read_unlock that ends its section."""
+        found, begun = none(self.count), []
+        for at, it in enumerate(self.events):
+            begun = begun if at and self.events[at - 1].thread == it.thread else []
+            if it.kind == "F" and it.order == "rcu-lock":
+                begun.append(at)
+            elif it.kind == "F" and it.order == "rcu-unlock" and begun:
+                found[begun.pop()] |= 1 << at
+        return found
 
 
 class Decided:
@@ -180,14 +195,17 @@ class Decided:
         if cycle:
             return "happens-before", cycle
         cycle = cycle_in(self.pb)
-        return ("propagation", cycle) if cycle else (None, None)
+        if cycle:
+            return "propagation", cycle
+        at = self.rcu() if fixed.grace else None
+        return (None, None) if at is None else ("rcu", [at])
 
     def order(self):
         fixed, keep = self.fixed, self.fixed.only
         po, mb = fixed.po, fixed.mb
         rfe, rfi = both(self.rf, fixed.ext), both(self.rf, fixed.int)
         po_unlock_lock_po = then(po, keep(fixed.unlock), union(po, self.rf), keep(fixed.lock_read), po)
-        strong_fence = union(mb, then(keep(fixed.is_read | fixed.is_write), po_unlock_lock_po, fixed.after_unlock_lock))
+        strong_fence = union(mb, then(keep(fixed.is_read | fixed.is_write), po_unlock_lock_po, fixed.after_unlock_lock), fixed.gp)
         fence = union(strong_fence, fixed.po_rel, fixed.acq_po, fixed.wmb, fixed.rmb)
         dep = union(fixed.address, fixed.data)
         rwdep = then(union(dep, fixed.control), keep(fixed.is_write))
@@ -201,4 +219,19 @@ class Decided:
         prop = then(maybe(both(overwrite, fixed.ext)), any_times(cumul_fence), maybe(rfe))
         not_itself = [row & ~(1 << at) for at, row in enumerate(prop)]
         self.hb = union(ppo, rfe, both(not_itself, fixed.int))
-        self.pb = then(prop, strong_fence, any_times(self.hb))
+        self.prop, self.pb = prop, then(prop, strong_fence, any_times(self.hb))
+
+    def rcu(self):
+        """An event that would come before itself by grace periods and sections, or None: `irreflexive rb`."""
+        fixed, later = self.fixed, then(any_times(self.hb), any_times(self.pb))
+        grace, section = fixed.only(fixed.grace), inverse(fixed.sections)
+        link = then(maybe(fixed.po), later, self.prop, fixed.po)
+        order = union(grace, then(grace, link, section), then(section, link, grace))
+        while True:
+            between = then(link, order, link)
+            more = union(order, then(grace, between, section), then(section, between, grace), then(order, link, order))
+            if more == order:
+                break
+            order = more
+        before = then(self.prop, fixed.po, order, maybe(fixed.po), later)
+        return next((at for at, row in enumerate(before) if row >> at & 1), None)

@@ -5,8 +5,9 @@ from collections import namedtuple
 from .language import Address, Assign, Binary, Compare, Fence, If, Load, Lock, Malformed, Number, Register, Store, Unary, Update
 
 MOST_VALUES = 64
-# An access or a fence. kind: R, W, F; order: of an access once, acquire, release, noreturn, lock or unlock, of a fence its kind. The event
-# depends on the reads in `address`, `data` and `control` (numbers of events). A write that is half of a read-modify-write has the read's number.
+# An access or a fence. kind: R, W, F; order: of an access once, acquire, release, noreturn, failed (an exchange that didn't come about), lock or
+# unlock, of a fence its kind. The event depends on the reads in `address`, `data` and `control` (numbers of events). A write that is half of a
+# read-modify-write has the read's number.
 Event = namedtuple("Event", "thread kind place value order address data control read", defaults=(frozenset(), frozenset(), frozenset(), None))
 # What one thread did: its events in program order, and its registers at the end.
 Trace = namedtuple("Trace", "events registers")
@@ -108,10 +109,14 @@ class Runner:
         value, data = state.value(it.value)
         yield state.with_event("W", place, value, it.order, address=address, data=data)
 
-    def write_back(self, state, read, of, value, data, order):
-        """The write of a read-modify-write, whose read is there already."""
+    def write_back(self, state, read, of, value, data, order, computed=True):
+        """The write of a read-modify-write, whose read is there already. Where it isn't computed from what was read, as in an exchange, the
+        write comes after the read without being made from it."""
         place, address = self.place(state, of)
-        return state.with_event("W", place, value, order, address=address, data=data | {read}, read=read)
+        if computed:
+            return state.with_event("W", place, value, order, address=address, data=data | {read}, read=read)
+        after = state._replace(control=state.control | {read}).with_event("W", place, value, order, address=address, data=data, read=read)
+        return after._replace(control=state.control)
 
     def update(self, state, it):
         full = it.order == "mb"
@@ -120,24 +125,25 @@ class Runner:
         for after, old in self.found(before, it.place, it.order if it.order in ("acquire", "noreturn") else "once"):
             operand, data = state.value(it.operand)
             new = OPERATIONS[it.operation](old, operand)
-            end = self.write_back(after, read, it.place, new, data, "release" if it.order == "release" else "once")
+            end = self.write_back(after, read, it.place, new, data, "release" if it.order == "release" else "once", it.operation != "=")
             gives = {"old": old, "new": new, "is_zero": int(new == 0), "nothing": 0}[it.gives]
             yield (end.fence("mb") if full else end).with_register(it.register, gives, frozenset([read]))
 
     def compare(self, state, it):
-        """A compare-and-exchange that fails is a read without order."""
+        """A compare-and-exchange, or an addition unless a value is found. One that fails is a read without order of its own."""
         wanted, _ = state.value(it.old)
-        new, data = state.value(it.new)
-        for plain, old in self.found(state, it.place, "once"):
-            if old != wanted:
-                yield plain.with_register(it.register, old, frozenset([state.next()]))
+        for plain, old in self.found(state, it.place, "failed"):
+            if (old == wanted) == it.adds:
+                yield plain.with_register(it.register, 0 if it.adds else old, frozenset([state.next()]))
         full = it.order == "mb"
         before = state.fence("mb") if full else state
         read = before.next()
         for after, old in self.found(before, it.place, "acquire" if it.order == "acquire" else "once"):
-            if old == wanted:
-                end = self.write_back(after, read, it.place, new, data, "release" if it.order == "release" else "once")
-                yield (end.fence("mb") if full else end).with_register(it.register, old, frozenset([read]))
+            if (old == wanted) != it.adds:
+                new, data = state.value(it.new)
+                new = old + new if it.adds else new
+                end = self.write_back(after, read, it.place, new, data, "release" if it.order == "release" else "once", it.adds)
+                yield (end.fence("mb") if full else end).with_register(it.register, 1 if it.adds else old, frozenset([read]))
 
     def lock(self, state, it):
         """A lock that is got is an acquiring read-modify-write from 0 to 1; a try that finds it held is a read without order."""

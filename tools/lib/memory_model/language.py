@@ -7,13 +7,15 @@ class Malformed(Exception):
     """The text isn't a litmus test of the forms that are read here: the line and what is wrong."""
 
 
-# A test: its name, the first value of each shared variable, the body of each thread, and the condition on the end.
-Test = namedtuple("Test", "name first threads quantifier condition")
+# A test: its name, the first value of each shared variable, the body of each thread, and the condition on the end. An execution that doesn't meet
+# `filter`, another condition or None, isn't counted.
+Test = namedtuple("Test", "name first threads filter quantifier condition")
 # Statements. A place is an expression that gives a shared variable's address.
 Load = namedtuple("Load", "register place order")  # order: once, acquire
 Store = namedtuple("Store", "place value order")  # order: once, release, unlock
 Update = namedtuple("Update", "register place operation operand order gives")  # a read-modify-write; gives: nothing, old, new, or a test
-Compare = namedtuple("Compare", "register place old new order")  # cmpxchg; the register gets what was found
+# cmpxchg, whose register gets what was found; or where `adds`, an addition unless `old` is found, whose register gets whether it was made
+Compare = namedtuple("Compare", "register place old new order adds")
 Lock = namedtuple("Lock", "register place waits")  # spin_lock, spin_trylock
 Fence = namedtuple("Fence", "kind")
 Assign = namedtuple("Assign", "register value")
@@ -29,8 +31,7 @@ TOKEN = re.compile(r"\s+|//[^\n]*|(?P<token>[A-Za-z_]\w*|\d+|/\\|\\/|->|[-+*/%&|
 FENCES = {
     "smp_mb": "mb", "smp_rmb": "rmb", "smp_wmb": "wmb", "smp_mb__before_atomic": "before-atomic", "smp_mb__after_atomic": "after-atomic",
     "smp_mb__after_spinlock": "after-spinlock", "smp_mb__after_unlock_lock": "after-unlock-lock", "barrier": "barrier",
-    # without a grace period in the test these order nothing
-    "rcu_read_lock": "rcu", "rcu_read_unlock": "rcu",
+    "rcu_read_lock": "rcu-lock", "rcu_read_unlock": "rcu-unlock", "synchronize_rcu": "sync-rcu", "synchronize_rcu_expedited": "sync-rcu",
 }  # fmt: skip
 OPERATIONS = {"add": "+", "sub": "-", "and": "&", "or": "|", "xor": "^", "andnot": "&~"}
 ORDERS = ("relaxed", "acquire", "release")
@@ -139,6 +140,9 @@ class Thread:
     def simple(self):
         """An assignment, or a call whose answer isn't used."""
         reader = self.reader
+        if reader.peek(1) == "void":
+            for token in ("(", "void", ")"):
+                reader.expect(token)
         if reader.peek(1) == "=" and reader.peek() not in self.shared:
             name = reader.name()
             reader.expect("=")
@@ -260,7 +264,9 @@ def exchange_of(name, words, register):
     if stem in ("xchg", "atomic_xchg") and len(words) == 2:
         return [Update(register, words[0], "=", words[1], order, "old")]
     if stem in ("cmpxchg", "atomic_cmpxchg") and len(words) == 3:
-        return [Compare(register, words[0], words[1], words[2], order)]
+        return [Compare(register, words[0], words[1], words[2], order, False)]
+    if stem == "atomic_add_unless" and len(words) == 3:
+        return [Compare(register, words[0], words[2], words[1], order, True)]
     return None
 
 
@@ -387,17 +393,22 @@ def read(text):
         threads.append(Thread(reader, shared).block())
     for value in [it for it in first.values() if isinstance(it, str)]:
         first.setdefault(value, 0)
-    quantifier = condition_of(reader)
+    kept, quantifier = filter_of(reader), quantifier_of(reader)
     condition = Condition(reader).any()
     if reader.peek():
         reader.fail(f"nothing is expected after the condition, and {reader.peek()!r} is there")
-    return Test(words[1], first, threads, quantifier, condition)
+    return Test(words[1], first, threads, kept, quantifier, condition)
 
 
-def condition_of(reader):
+def filter_of(reader):
+    """The condition without which an execution isn't counted; before it may be names of variables that herd7 is to show."""
     if reader.accept("locations"):
         while reader.next() != "]":
             pass
+    return Condition(reader).any() if reader.accept("filter") else None
+
+
+def quantifier_of(reader):
     if reader.accept("~"):
         reader.expect("exists")
         return "~exists"
