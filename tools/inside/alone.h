@@ -3,7 +3,7 @@
 #include "follow.h"
 
 struct Alone { Machine m; uint8_t sends[MOST_SEATS], wakes, stops, busy; };
-struct Bounds { int sends, bands, wakes, stops, busy; };
+struct Bounds { int sends, total, bands, wakes, stops, busy; };
 static Bounds bounds;       // of the search, for the machine
 static Keys reached;        // the states of the machine to which the text came
 
@@ -45,9 +45,14 @@ class MachineSearch {
 		if (seen.add(key_of(next)))
 			states.push_back(next);
 	}
+	static bool may_send(const Alone &x, int t)
+	{
+		int begun = std::accumulate(x.sends, x.sends + seat_count, 0);
+		return x.sends[t] < bounds.sends && (!bounds.total || begun < bounds.total);
+	}
 	void begin(const Alone &x, int t)
 	{
-		for (int b = 0; b < bounds.bands && x.sends[t] < bounds.sends; b++) {
+		for (int b = 0; b < bounds.bands && may_send(x, t); b++) {
 			Alone next = x;
 			MachineSeat &s = next.m.seats[t];
 			s.at = AT_ENTER, s.packet = t * bounds.sends + next.sends[t]++, s.band = bounds.bands == 1 ? 1 : b;

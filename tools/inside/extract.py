@@ -120,6 +120,12 @@ def changed_text(wanted, text, changes):
     return text
 
 
+def of_world(names, changes):
+    """The changes that name a definition of a list of names."""
+    wanted = {it.name for it in read_names(names)[1]}
+    return tuple(it for it in changes if it.name in wanted)
+
+
 def cut(tree, names, changes=()):
     """All that is wanted of a tree, as one text to compile."""
     files, wanted = read_names(names)

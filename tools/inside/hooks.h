@@ -85,7 +85,8 @@ static void set_owner(const Op &o, int seat)
 static void took(const Op &o)
 {
 	set_owner(o, current);
-	if (world_alone() >= 0 && world_alone() != current && kind_of(o) == SHARED)
+	// noop_qdisc's lock is of no discipline that control changes
+	if (world_alone() >= 0 && world_alone() != current && kind_of(o) == SHARED && words[o.word].child >= 0)
 		broken = string("'") + words[o.word].name + "' is taken where one seat is to be alone";
 }
 

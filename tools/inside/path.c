@@ -39,8 +39,8 @@ static struct Qdisc_ops ops;
 
 /* options, and what they are when nothing is said */
 static struct { const char *name; long value; } options[] = {
-	{"sends", 1}, {"bypass", 1}, {"stops", 0}, {"wakes", 0}, {"busy", 0}, {"quota", 64}, {"bands", 1}, {"downs", 0}, {"lengths", 0}, {"waiting", 0}};
-enum { SENDS, BYPASS, STOPS, WAKES, BUSY_ANSWERS, QUOTA, BANDS, DOWNS, LENGTHS, WAITING, OPTIONS };
+	{"sends", 1}, {"bypass", 1}, {"stops", 0}, {"wakes", 0}, {"busy", 0}, {"quota", 64}, {"bands", 1}, {"downs", 0}, {"lengths", 0}, {"waiting", 0}, {"total", 0}, {"stopped", 0}};
+enum { SENDS, BYPASS, STOPS, WAKES, BUSY_ANSWERS, QUOTA, BANDS, DOWNS, LENGTHS, WAITING, TOTAL, STOPPED, OPTIONS };
 #define OPTION(n) options[n].value
 #define FIRST_WAITING (SEATS * (int)OPTION(SENDS)) /* the packets before it are the seats' */
 
@@ -228,11 +228,20 @@ void world_run(int seat, struct start it)
 	leave(seat);
 }
 
+PLAIN static int may_send(int seat)
+{
+	int begun = 0;
+
+	for (int t = 0; t < SEATS; t++)
+		begun += COUNTS->sends[t];
+	return COUNTS->sends[seat] < OPTION(SENDS) && (!OPTION(TOTAL) || begun < OPTION(TOTAL));
+}
+
 PLAIN int world_starts(int seat, struct start *starts)
 {
 	int n = 0, packet = seat * OPTION(SENDS) + COUNTS->sends[seat];
 
-	if (COUNTS->sends[seat] < OPTION(SENDS))
+	if (may_send(seat))
 		for (int queue = 0; queue < QUEUES; queue++)
 			for (int band = 0; band < OPTION(BANDS); band++)
 				starts[n++] = (struct start){TRANSMIT, packet, queue * 4 + (OPTION(BANDS) == 1 ? 1 : band)};

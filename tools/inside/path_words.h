@@ -59,6 +59,8 @@ PLAIN void world_init(void)
 	*COUNTS = first;
 	if (OPTION(WAITING))
 		init_waiting();
+	if (OPTION(STOPPED))
+		world.txq[0].state = BIT(__QUEUE_STATE_DRV_XOFF);
 }
 
 static const char *const state_bits[] = {"SCHED", "DEACTIVATED", "MISSED", "DRAINING", NULL};

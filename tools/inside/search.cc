@@ -25,7 +25,7 @@ static vector<Choice> path_to(uint32_t id, const Choice *last)
 }
 
 #ifdef WITH_MACHINE
-static bool has_schedule() { return path_children() == 1 && !path_has_bulk() && !path_has_control() && !path_option("waiting") && path_quota == 64 && options.model == SEQUENTIAL; }
+static bool has_schedule() { return path_children() == 1 && !path_has_bulk() && !path_has_control() && !path_option("waiting") && !path_option("stopped") && path_quota == 64 && options.model == SEQUENTIAL; }
 
 // Brings the machine to its end: each seat ends its call, soft interrupts and wakes come.
 static void finish_schedule()
@@ -56,7 +56,7 @@ static void finish_schedule()
 static void print_schedule(const vector<Choice> &path)
 {
 	if (!has_schedule()) {
-		printf("No schedule: it has one queue, one discipline, the quota of 64, no control, no packets at first, and sequentially consistent steps.\n");
+		printf("No schedule: it has one queue, one discipline, the quota of 64, no control, an open queue without packets at first, and sequentially consistent steps.\n");
 		return;
 	}
 	load(first_state);
@@ -289,7 +289,7 @@ int main(int count, char **arguments)
 #ifdef WITH_MACHINE
 	if (options.model || options.fine > 1 || path_has_bulk())
 		options.compare = 0;
-	bounds = {path_option("sends"), path_option("bands"), path_option("wakes"), path_option("stops"), path_option("busy")};
+	bounds = {path_option("sends"), path_option("total"), path_option("bands"), path_option("wakes"), path_option("stops"), path_option("busy")};
 	machine_init();
 #endif
 	make_seats();

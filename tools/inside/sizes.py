@@ -4,19 +4,20 @@ from typing import NamedTuple
 # what a text is compiled with, and its values when nothing is said
 COMPILED = {"seats": 2, "len": 2, "children": 1, "queues": 1, "new_len": 0}
 # what a search is given
-OPTIONS = {"sends": 1, "bypass": 1, "stops": 0, "wakes": 0, "busy": 0, "quota": 64, "bands": 1, "downs": 0, "lengths": 0, "waiting": 0}
+OPTIONS = {"sends": 1, "bypass": 1, "stops": 0, "wakes": 0, "busy": 0, "quota": 64, "bands": 1, "downs": 0, "lengths": 0, "waiting": 0, "total": 0, "stopped": 0}
 TAP_COMPILED = {"seats": 2, "len": 2, "new_len": 0}
 TAP_OPTIONS = {"puts": 2, "gets": 2, "batch": 2, "backs": 0, "resizes": 0}
-MOST = {"seats": 4, "len": 32, "children": 2, "queues": 2, "new_len": 32, "sends": 3, "bands": 3, "quota": 64, "bypass": 1, "puts": 3, "gets": 6, "batch": 3, "waiting": 32}
+MOST = {"seats": 4, "len": 32, "children": 2, "queues": 2, "new_len": 32, "sends": 3, "bands": 3, "quota": 64, "bypass": 1, "puts": 3, "gets": 6, "batch": 3, "waiting": 32, "total": 12}
 LEAST = {"seats": 1, "len": 1, "children": 1, "queues": 1, "sends": 1, "bands": 1, "quota": 1, "puts": 1, "gets": 1, "batch": 1}
 
 
 class Size(NamedTuple):
-    """What is searched: `world` is `path` or `tap`; `values` are those that differ from when nothing is said."""
+    """What is searched: `world` is `path` or `tap`; `values` are those that differ from when nothing is said; a search stops after `most` states."""
 
     text: str
     values: dict
     world: str = "path"
+    most: int = 500_000
 
     def compiled(self):
         named = TAP_COMPILED if self.world == "tap" else COMPILED
@@ -36,11 +37,15 @@ STANDARD = [
     Size("a stop and a wake", {"stops": 1, "wakes": 1}),
     Size("two transmits each, no bypass", {"sends": 2, "bypass": 0}),
     Size("two transmits each, no bypass, rings of 32", {"sends": 2, "bypass": 0, "len": 32}),
+    Size("three transmits, a busy answer", {"sends": 2, "total": 3, "busy": 1}, most=1_500_000),
+    Size("two transmits, of one seat or of both, to a queue that is stopped at first, a wake", {"sends": 2, "total": 2, "stopped": 1, "wakes": 1}, most=1_000_000),
+    Size("one transmit each to a queue that is stopped at first, a wake, quota 1, no bypass", {"stopped": 1, "wakes": 1, "quota": 1, "bypass": 0}),
     Size("32 packets wait in a ring of 32 slots, a wake, no bypass", {"len": 32, "waiting": 32, "wakes": 1, "bypass": 0}),
     Size("a deactivation and an activation", {"downs": 1}),
     Size("the same, with a stop and a wake, no bypass", {"downs": 1, "stops": 1, "wakes": 1, "bypass": 0}),
-    Size("the same, with a busy answer", {"downs": 1, "busy": 1}),
+    Size("the same, with two busy answers", {"downs": 1, "busy": 2}),
     Size("a change of the length from 2 to 1", {"lengths": 1, "new_len": 1}),
+    Size("the same, with a queue that is stopped at first, a wake, no bypass", {"lengths": 1, "new_len": 1, "stopped": 1, "wakes": 1, "bypass": 0}),
     Size("two queues on one discipline, a busy answer", {"queues": 2, "busy": 1}),
     Size("two queues on one discipline, a stop and a wake, no bypass", {"queues": 2, "stops": 1, "wakes": 1, "bypass": 0}),
     Size("two children with a queue each", {"queues": 2, "children": 2}),
@@ -90,6 +95,8 @@ def read(text):
         raise WrongSize("children=2 needs queues=2: each child has a queue")
     if values.get("waiting") and (size.compiled()["queues"] > 1 or values["waiting"] > size.compiled()["len"]):
         raise WrongSize("waiting is of one queue, and no more than its slots, len")
+    if values.get("stopped", 0) > 1:
+        raise WrongSize("stopped is 1 where the queue is stopped at first, or 0")
     if values.get("lengths") and not values.get("new_len"):
         raise WrongSize("lengths needs new_len, the new length")
     if values.get("resizes") and not values.get("new_len"):

@@ -1,6 +1,8 @@
 """How many states the machine of tools/lib/machine.py has within the bounds of a size: the number that the machine of inside/machine.h has to have."""
 from lib import machine
 
+MANY = 1000
+
 
 def applies(size):
     """Whether the machine is searched alone at this size: one discipline with one queue, no control, no packets at first, the quota of 64."""
@@ -22,7 +24,7 @@ def moves(state, values):
     for i, seat in enumerate(m.seats):
         name = seat.position[0]
         if name == "idle":
-            if sent[i] < values["sends"]:
+            if sent[i] < values["sends"] and sum(sent) < (values["total"] or MANY):
                 rest = (sent[:i] + (sent[i] + 1,) + sent[i + 1 :], wakes, stops, busy)
                 bands = [1] if values["bands"] == 1 else range(values["bands"])
                 yield from ((machine.begin(m, i, ("send", band), i * values["sends"] + sent[i]), i, rest) for band in bands)
@@ -61,7 +63,8 @@ def forgotten(m):
 def count(size):
     """The number of states; no ring is full within the bounds that it is asked for."""
     values = {**size.compiled(), **size.options()}
-    first = (machine.first_machine(values["seats"], values["len"], values["bypass"]), (0,) * values["seats"], values["wakes"], values["stops"], values["busy"])
+    start = machine.first_machine(values["seats"], values["len"], values["bypass"])
+    first = (start._replace(qdisc=start.qdisc._replace(xoff=values["stopped"])), (0,) * values["seats"], values["wakes"], values["stops"], values["busy"])
     seen, todo = {(forgotten(first[0]), *first[1:])}, [first]
     while todo:
         for m, i, rest in moves(todo.pop(), values):

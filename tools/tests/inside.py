@@ -1,10 +1,14 @@
 """The kernel's text under every order: what is cut out of a tree, and a search over a small protocol of this test's own."""
+import argparse
+import contextlib
+import io
 import os
 import shutil
 import subprocess
+import types
 
 from inside import changes, extract, sizes
-from tests.bench import HERE, ROOM, case, expect, expect_none, fault, run
+from tests.bench import HERE, ROOM, case, expect, expect_none, fault, load, run
 
 # a letter box: who puts a letter serves it, or leaves it to the one who holds the lock
 HEADER = """/* A letter box { not a brace. */
@@ -192,7 +196,17 @@ def inside_calls_words():
     expect("inside-calls, no such line", run(tool, "--source", "5.10"), 2, "5.10")
     expect("inside-calls, no such option", run(tool, ROOM, "--frob"), 2, "--frob")
     expect("inside-calls, no such break", run(tool, ROOM, "--breaks", "--named", "none"), 2, "second-try-left-out")
-    for size, text in {"sends=9": "sends is a number from 1 to 3", "frob=1": "no word of a size: 'frob'", "sends": "NAME=NUMBER", "lengths=1": "needs new_len", "waiting=3": "no more than its slots", "waiting=1,queues=2": "of one queue", "children=2": "needs queues=2",
+    # an option that a way of searching hasn't would be left out without a word
+    refused = {
+        ("--model", "x86", "--schedule", "x"): "--schedule doesn't go with --model", ("--model", "weak", "--large"): "--large doesn't go with --model",
+        ("--model", "x86", "--fine", "1"): "--fine doesn't go with --model", ("--breaks", "--size", "bypass=0"): "--size doesn't go with --breaks",
+        ("--breaks", "--change", "f", "a", "b"): "--change doesn't go with --breaks", ("--breaks", "--model", "x86"): "--model doesn't go with --breaks",
+        ("--named", "second-try-left-out"): "--named goes with --breaks", ("--seed", "3"): "--seed goes with --walks",
+        ("--walks", "3", "--machine"): "--machine doesn't go with --walks", ("--model", "weak", "--walks", "3"): "--walks with --model goes with --size or --change",
+    }  # fmt: skip
+    for words, text in refused.items():
+        expect(f"inside-calls {words}", run(tool, ROOM, *words), 2, text)
+    for size, text in {"sends=9": "sends is a number from 1 to 3", "frob=1": "no word of a size: 'frob'", "sends": "NAME=NUMBER", "lengths=1": "needs new_len", "waiting=3": "no more than its slots", "waiting=1,queues=2": "of one queue", "children=2": "needs queues=2", "stopped=2": "stopped is 1",
                        "tap,sends=1": "no word of a size: 'sends'"}.items():  # fmt: skip
         expect(f"inside-calls --size {size}", run(tool, ROOM, "--size", size), 2, text)
     expect("inside-calls, no folder", run(tool, ROOM / "none"), 3, "is no folder")
@@ -203,8 +217,12 @@ def inside_calls_words():
     if tree_file.read_text(encoding="utf-8") != "kept":
         fault("inside-calls: a file of the tree is overwritten")
     expect("inside-calls, an empty tree", run(tool, ROOM, "--folder", ROOM / "inside"), 3, "has no include/linux/netdevice.h, ")
-    if [it.is_found for it in changes.BREAKS].count(True) != 11 or len({it.name for it in changes.BREAKS}) != 15:
-        fault("inside-calls: there are other changes than the 15")
+    if [it.is_found for it in changes.BREAKS].count(True) != 19 or len({it.name for it in changes.BREAKS}) != 26:
+        fault("inside-calls: there are other changes than the 26")
+    standard = [it.values for it in sizes.STANDARD]
+    for it in changes.BREAKS:
+        if it.values not in standard:
+            fault(f"inside-calls: the size of {it.name} is no standard one, so that nobody finds such a change who names no size")
     if len({it.text for it in sizes.STANDARD + sizes.LARGE}) != len(sizes.STANDARD + sizes.LARGE):
         fault("inside-calls: two sizes have one name")
 
@@ -240,3 +258,25 @@ def inside_calls_search():
     expect("inside-calls, a text that isn't compiled", search(broken), 3, "isn't compiled", "frob")
     twice = search(tree("release", **{"box.c": POST.replace("\treturn 1;", "\tspin_unlock(&m->lock);\n\treturn 1;")}))
     expect("inside-calls, a lock that is released twice", twice, 1, "WRONG: 'the lock' is released by a seat that doesn't hold it")
+    # another seat is alone, as in a change of the length: a lock of no discipline may be taken beside it
+    expect("inside-calls, a lock of no discipline", search(tree("alone", **{"worlds/tap.c": WORLD.replace("return -1;", "return 0;")}), *MENDED), 0, "nothing goes wrong")
+    # on x86 the holder's release may come after its look, unless a barrier is between the two
+    held = [it.replace("if (!mailbox_empty(m)) goto", "smp_mb(); if (!mailbox_empty(m)) goto") for it in MENDED]
+    expect("inside-calls, mended, on x86", search(top, *MENDED, "--model", "x86"), 1, "memory x86", "WRONG: 1 packet is left in the box")
+    expect("inside-calls, mended with a barrier, on x86", search(top, *held, "--model", "x86"), 0, "nothing goes wrong", "memory x86, ")
+
+
+@case
+def inside_calls_changes():
+    """Of a change of the path the ring of a tap has nothing: its sizes are left out, and the others end well."""
+    top = tree("path", **{"worlds/path.names": NAMES + "function mailbox_long\n"})
+    expect("inside-calls, a size without the change", search(top, "--change", "mailbox_long", "a", "b"), 3, "not searched: its text has no definition that is changed", "no size has a definition")
+    expect("inside-calls, a change of nothing", search(top, "--change", "mailbox_gone_too", "a", "b"), 3, "a change names mailbox_gone_too, and no definition of that name is cut")
+    tool = load("inside-calls")
+    asked = argparse.Namespace(size=["bypass=0", "tap,backs=1"])
+    of_path = types.SimpleNamespace(changes_of=lambda size: ("change",) if size.world == "path" else None)
+    said = io.StringIO()
+    with contextlib.redirect_stdout(said):
+        code = tool.search_all(of_path, asked, lambda *_: tool.HOLDS, [])
+    if code != tool.HOLDS or "1 sizes of 2: 1 nothing goes wrong, 1 not searched" not in said.getvalue():
+        fault(f"inside-calls, a change of the path and the size of a tap: {code} {said.getvalue()}")
