@@ -12,7 +12,7 @@ MISTAKES = {
     "begin_gives_up_after_one_try": "a sender that found the run lock held sets MISSED and doesn't try again",
     "missed_cleared_after_the_second_look": "MISSED and DRAINING are cleared after the second look at the bands, and not before it",
     "draining_set_without_looking_again": "DRAINING is set with no second look at the stop word",
-    "soft_interrupt_gives_up_when_deactivated": "a soft interrupt that loaded DEACTIVATED clears SCHED and leaves",
+    "soft_interrupt_gives_up_when_deactivated": "a soft interrupt that loaded DEACTIVATED clears SCHED and leaves, and no deactivation waits for it, as Linux's does (--waits 1)",
 }
 MOST = 18446744073709551615
 QUOTA = 64

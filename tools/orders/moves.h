@@ -46,19 +46,19 @@ static int begins(struct qdisc *q, struct seat *s, int control, int kind)
 {
     if (s->at != IDLE) return 0;
     if (kind >= DOWNS_) {
-        if (!control || q->DEACTIVATED) return 0;
+        if (!control || q->DEACTIVATED || s->raised) return 0;
         if (kind == DOWNS_ ? !q->downs : !q->swaps) return 0;
         if (kind == DOWNS_) q->downs--; else q->swaps--;
         s->how = kind == SWAPS_ ? SWAPPER : QUEUED;
         return to(s, DOWN, kind == SWAPS_ ? "begins to swap the device" : "begins to deactivate");
     }
-    if (control) return 0;
     if (kind == SOFTIRQ) {
         if (!s->raised) return 0;
         s->raised = 0;
         s->how = INTERRUPT;
         return to(s, ENTER, "a soft interrupt comes");
     }
+    if (control) return 0;
     if (kind < SENDS_) {
         s->queue = kind - WAKES;
 #ifndef WALK
@@ -136,10 +136,11 @@ static int is_open(const struct state *x)
     for (int i = 0; i < QUEUES; i++) if (x->q.xoff[i]) return 0;
     return 1;
 }
-/* no seat is in a call, and none is scheduled */
+/* no seat is in a call, and none is scheduled, control's processor neither */
 static int seats_rest(const struct state *x)
 {
-    for (int i = 0; i < SEATS; i++) if (x->s[i].at != IDLE || x->s[i].raised) return 0;
+    for (int i = 0; i < SEATS; i++) if (x->s[i].at != IDLE) return 0;
+    for (int i = 0; i < PLACES; i++) if (x->s[i].raised) return 0;
 #ifdef PLAIN_STORES
     for (int i = 0; i < SEATS; i++) if (x->b[i].many) return 0;
 #endif

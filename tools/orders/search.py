@@ -45,7 +45,9 @@ class Size(NamedTuple):
         said += [f"a quota of {self.quota}"] * (self.quota <= self.seats * self.sends)
         may = [(self.stops, "stop"), (self.hangs, "hang"), (self.busys, "busy answer"), (self.downs, "deactivation"), (self.swaps, "swap of the device")]
         said += [f"at most {many(count, name)}" for count, name in may if count]
-        return ", ".join(said) + ", a deactivation waits until SCHED is clear" * self.waits
+        how = "which waits until SCHED is clear, as Linux's" if self.waits else "which doesn't wait until SCHED is clear"
+        said += [how] * bool(self.downs + self.swaps)
+        return ", ".join(said)
 
 
 LIMITS = {
@@ -61,7 +63,8 @@ LIMITS = {
     "busys": (0, 7, "how often it answers NETDEV_TX_BUSY"),
     "downs": (0, 3, "how often the device is deactivated and activated, in steps"),
     "swaps": (0, 3, "how often it is exchanged for another, in steps"),
-    "waits": (0, 1, "1: a deactivation waits until the lock is free and SCHED is clear, as the kernel's does; the proved machine's needn't"),
+    "waits": (0, 1, "1: a deactivation as Linux's, which waits until the lock is free and SCHED is clear; there a soft interrupt that finds DEACTIVATED leaves, and a "
+              "wake looks up its qdisc, which may be noop_qdisc. The proved machine needs no such wait"),  # fmt: skip
 }
 
 # what is searched where no size is given: together some seconds
@@ -71,6 +74,7 @@ STANDARD = (
     Size(sends=3, bypass=1, quota=1, stops=1),
     Size(seats=1, bypass=1, quota=2, stops=1, busys=1),
     Size(sends=1, bypass=1, stops=1, busys=1, downs=1),
+    Size(sends=1, bypass=1, stops=1, busys=1, downs=1, waits=1),
     Size(sends=1, bypass=1, stops=1, hangs=1, swaps=1),
     Size(queues=2, bypass=1, stops=1, busys=1),
     Size(seats=3),

@@ -2,7 +2,7 @@
  *
  * A value that no later step reads is 0, so that states which go on alike are one state. Sizes come from the compiler's command line
  * (tools/explore has them as words): SEATS, SENDS of each, BANDS that senders use, LEN of a ring, QUEUES, BYPASS, QUOTA (0: more than
- * all packets), WAITS. */
+ * all packets), WAITS (1: a deactivation as Linux's, whose steps the proved machine needn't have). */
 #define POSITIONS(P) \
     P(IDLE, "idle") P(ENTER, "enter") P(CHECK, "check") P(PUT, "put") P(TRY1, "try1") P(MISS, "miss") P(TRY2, "try2") P(RECHECK, "recheck") \
     P(GATE, "gate") P(XMIT, "xmit") P(STOP, "stop") P(AGAIN, "again") P(POST, "post") P(DEQ, "deq") P(SCAN0, "scan 0") P(SCAN1, "scan 1") \
@@ -10,7 +10,8 @@
     P(CDRAIN, "cdrain") P(OVER, "quota") P(UNLOCK, "unlock") P(TAIL, "tail") P(SCHEDULE, "sched") P(LEAVE, "leave") P(SOFT, "soft") \
     P(SCLEAR, "sclear") P(LATE, "late") P(WAKE, "wake") P(DOWN, "down") P(QUIET, "quiet") P(GRAB, "grab") P(PSLOT, "purge slot") \
     P(PBAND, "purge band") P(PMISSED, "purge missed") P(PDRAINING, "purge draining") P(RELEASE, "release") P(RUNNING, "running") \
-    P(SCHEDULED, "scheduled") P(REGRAB, "regrab") P(OPEN, "open") P(RERELEASE, "rerelease") P(UP, "up")
+    P(SCHEDULED, "scheduled") P(REGRAB, "regrab") P(OPEN, "open") P(RERELEASE, "rerelease") P(UP, "up") \
+    P(LOOKUP, "lookup") P(DETACH, "detach") P(ATTACH, "attach") P(RESUME, "resume")
 #define AS_CONSTANT(name, text) name,
 enum { POSITIONS(AS_CONSTANT) POSITION_COUNT };
 enum { QUEUED, DIRECT, INTERRUPT, WAKER, SWAPPER };     /* why a seat is in a call */
@@ -35,6 +36,7 @@ struct qdisc {
     unsigned gso_skb : 1, gso_queue : 2;        /* a packet in the requeue slot, and its queue */
     unsigned hand : 1;                  /* a packet in the hand of who has the run lock: no step looks at it */
     unsigned listed : 1;                /* the qdisc is on an output queue: no step looks at it */
+    unsigned noop : 1;                  /* the queue has noop_qdisc in place of this one: with WAITS */
     unsigned stops : 3, hangs : 2, busys : 3, downs : 2, swaps : 2;     /* how often these may still come */
     unsigned char xoff[QUEUES];         /* __QUEUE_STATE_DRV_XOFF of each queue: 0 open, 1 stopped, 2 hung */
     struct ring ring[3];

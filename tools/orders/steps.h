@@ -40,7 +40,7 @@ static int ends_run(struct qdisc *q, struct seat *s, const char *words)
 }
 static int ends_call(struct seat *s, const char *words)
 {
-    int at = s->how == WAKER ? IDLE : LEAVE;
+    int at = s->how == WAKER && !WAITS ? IDLE : LEAVE;
     forget(s);
     return to(s, at, words);
 }
@@ -57,7 +57,7 @@ static int after_sent(struct qdisc *q, struct seat *s, const char *words)
 }
 static int requeues(struct qdisc *q, struct seat *s, const char *words)
 {
-    if (q->gso_skb) return lost("the requeue slot was full: its packet is lost");
+    if (q->gso_skb) return lost("a second packet is requeued: the slot has room for one; Linux's gso_skb is a list, which loses none, but their order");
     slot_put(q, s);
     q->hand = 0;
     forget(s);
@@ -77,9 +77,10 @@ static int step(struct qdisc *q, struct seat *s, int answer)
     case ENTER:         /* counts the call as inside: rcu_read_lock_bh(), or a soft interrupt begins */
         q->inside = q->inside + 1;
         if (s->how == INTERRUPT) return to(s, SOFT, "comes in");
+        if (q->noop) { forget(s); return to(s, LEAVE, "finds noop_qdisc, which drops the packet"); }
         return to(s, CHECK, "comes in");
     case CHECK:         /* loads the state: nolock_qdisc_is_empty(q) */
-        if (q->DEACTIVATED) { forget(s); return to(s, LEAVE, "loads the state: deactivated, the packet is refused"); }
+        if (q->DEACTIVATED && !WAITS) { forget(s); return to(s, LEAVE, "loads the state: deactivated, the packet is refused"); }
         if (BYPASS && !NON_EMPTY(q)) { s->how = DIRECT; return to(s, TRY1, "loads the state: both bits clear"); }
         return to(s, PUT, "loads the state: the packet goes to its band");
     case PUT:           /* puts the packet into its band: pfifo_fast_enqueue(), ptr_ring_produce() */
@@ -222,6 +223,7 @@ static int step(struct qdisc *q, struct seat *s, int answer)
         return to(s, SCLEAR, s->was ? "loads the state: DEACTIVATED" : "loads the state: active");
     case SCLEAR:        /* clears SCHED: clear_bit(__QDISC_STATE_SCHED, &q->state) */
         q->SCHED = q->listed = 0;
+        if (s->was && WAITS) { forget(s); return to(s, LEAVE, "clears SCHED, and gives up"); }
         if (s->was) { s->was = 0; return to(s, LATE, "clears SCHED"); }
         return to(s, TRY1, "clears SCHED");
     case LATE:          /* loads DEACTIVATED again: (own) */
@@ -233,12 +235,21 @@ static int step(struct qdisc *q, struct seat *s, int answer)
         if (q->xoff[s->queue] != 1) { forget(s); return to(s, IDLE, "finds the queue open"); }
         q->xoff[s->queue] = 0;
         s->queue = 0;
+        if (WAITS) return to(s, LOOKUP, "opens the queue");
         return to(s, SCHEDULE, "opens the queue");
+    case LOOKUP:        /* looks up the queue's qdisc, and is inside from here on: rcu_dereference(dev_queue->qdisc), in netif_tx_wake_queue() */
+        if (q->noop) { forget(s); return to(s, IDLE, "finds noop_qdisc, and schedules that"); }
+        q->inside = q->inside + 1;
+        return to(s, SCHEDULE, "finds the qdisc");
 
     /* ---- dev_deactivate_many(), net/sched/sch_generic.c: on a processor of its own ---- */
     case DOWN:          /* sets DEACTIVATED: set_bit(__QDISC_STATE_DEACTIVATED, &qdisc->state), in dev_deactivate_queue() */
         q->DEACTIVATED = 1;
+        if (WAITS) return to(s, DETACH, "sets DEACTIVATED");
         return to(s, QUIET, "sets DEACTIVATED");
+    case DETACH:        /* stores noop_qdisc: rcu_assign_pointer(dev_queue->qdisc, &noop_qdisc), in dev_deactivate_queue() */
+        q->noop = 1;
+        return to(s, QUIET, "stores noop_qdisc as the queue's");
     case QUIET:         /* waits until no call is inside: synchronize_net() */
         if (q->inside) return 0;
         return to(s, GRAB, "finds no call inside");
@@ -290,7 +301,11 @@ static int step(struct qdisc *q, struct seat *s, int answer)
     case UP:            /* clears DEACTIVATED: clear_bit(__QDISC_STATE_DEACTIVATED, &new_qdisc->state), in transition_one_qdisc() */
         q->DEACTIVATED = 0;
         forget(s);
+        if (WAITS) return to(s, ATTACH, "clears DEACTIVATED");
         return to(s, IDLE, "clears DEACTIVATED");
+    case ATTACH:        /* stores the qdisc: rcu_assign_pointer(dev_queue->qdisc, new_qdisc), in transition_one_qdisc() */
+        q->noop = 0;
+        return to(s, IDLE, "stores the qdisc as the queue's");
     }
     return 0;
 }

@@ -118,7 +118,7 @@ def leads_of(block: str, functions: Dict[str, str], known: Dict[str, str], words
             found += [Lead(known[it], text) for it in re.findall(r"\b[A-Z][A-Z0-9]+\b", arguments.partition('"')[0]) if it in known for text in said]
         elif name in functions:
             found += [it for text in said for it in leads_of(functions[name], functions, known, text)]
-    if re.search(r"int at = s->how == WAKER \? IDLE : LEAVE", block):
+    if re.search(r"int at = s->how == WAKER .*\? IDLE : LEAVE", block):
         found += [Lead(known[it], words) for it in ("IDLE", "LEAVE")]
     return list(dict.fromkeys(found))
 

@@ -37,7 +37,7 @@ def explore_mistakes():
     expect("explore, for ever", said, 1, "an order goes on for ever while a packet is held", "11 moves to a round of 1", "from here on, over and over:\n   12  seat 1   try2")
     expect("the round, on the right machine", run(HERE / "show-schedule", found), 0, "held 0: nothing is left")
     said = run(EXPLORE, "--edit", "bypass_without_looking_under_the_lock", "--bypass", 1, "--busys", 2, "--quick")
-    expect("explore, lost", said, 1, "goes wrong: the requeue slot was full: its packet is lost")
+    expect("explore, lost", said, 1, "goes wrong: a second packet is requeued: the slot has room for one; Linux's gso_skb is a list, which loses none, but their order")
 
 
 @case
@@ -49,6 +49,29 @@ def explore_deactivation():
     if "# here control deactivates the station" not in found.read_text(encoding="utf-8"):
         fault("explore: the schedule doesn't say where control deactivates")
     expect("the order with a deactivation, with the mistake", run(HERE / "show-schedule", "--mistake", edit, found), 0, "held 1, nobody comes: packet 1 in the requeue slot")
+
+
+# a deactivation as Linux's (--waits 1): what its soft interrupt does is right there, a wake's call is inside, and what each later kernel made of it
+DOWN = ("--sends", 1, "--bypass", 1, "--stops", 1, "--busys", 1, "--downs", 1, "--waits", 1)
+LINUX = {
+    "soft_interrupt_gives_up_when_deactivated": None,
+    "soft_interrupt_leaves_sched_set": "a deactivation waits for what nobody will do",
+    "deactivation_waits_for_nobody": "a packet is left, and nobody comes: held 1; 48 moves",
+    "deactivation_keeps_the_packets": "a packet is left, and nobody comes: held 1; 25 moves",
+    "kept_packets_scheduled": None,
+    "kept_packets_scheduled_as_in_7_3": None,
+    "kept_packets_scheduled_and_seen_late": "a packet is left, and nobody comes: held 1; 39 moves",
+}
+
+
+@case
+def explore_linux_deactivation():
+    for edit, wrong in LINUX.items():
+        said = run(EXPLORE, *DOWN, "--edit", edit, "--quick")
+        expect(f"explore {edit}", said, 1 if wrong else 0, "which waits until SCHED is clear, as Linux's", wrong or "no packet is left or lost")
+    # with one seat nothing but the wake is lost: it finds noop_qdisc
+    wake = run(EXPLORE, "--edit", "deactivation_keeps_the_packets", "--seats", 1, "--stops", 1, "--downs", 1, "--waits", 1, "--quick")
+    expect("explore, a wake alone", wake, 1, "held 1; 40 moves", "finds noop_qdisc, and schedules that", "netif_tx_wake_queue(): rcu_dereference(dev_queue->qdisc)")
 
 
 @case
