@@ -1,8 +1,10 @@
 """Captures as the program reads them, classic pcap and pcapng: where each packet stands, its length, and its class (docs/RULES.md)."""
+import os
 import struct
 from array import array
 from functools import cached_property
 
+from lib import ways_out
 from lib.words import Failed
 
 # As in docs/RULES.md, 'Classification'.
@@ -15,8 +17,15 @@ BLOCK = b"\x0a\x0d\x0d\x0a"
 IPV4, TAG = b"\x08\x00", b"\x81\x00"
 
 
+STANDARD_INPUT = "a dash isn't standard input here, /dev/stdin is; a capture is read more than once, so keep it in a file: cat >capture.pcap"
+
+
 class Broken(Failed):
-    """Why bytes are no capture."""
+    """Why bytes are no capture, with the number of the reason that the program has for it (docs/FORMATS.md)."""
+
+    def __init__(self, line, reason):
+        super().__init__(line)
+        self.reason = reason
 
 
 class Capture:
@@ -36,8 +45,10 @@ class Capture:
             self.read_blocks()
         elif data[:4] in CLASSIC:
             self.read_records(CLASSIC[data[:4]])
+        elif len(data) < 24:
+            raise Broken("its header is cut off", 1)
         else:
-            raise Broken("it is neither a pcap nor a pcapng file")
+            raise Broken("it is neither a pcap nor a pcapng file", 2)
 
     def __len__(self):
         return len(self.lengths)
@@ -53,7 +64,7 @@ class Capture:
     def read_records(self, order):
         data, size = self.data, len(self.data)
         if size < 24:
-            raise Broken("its header is cut off")
+            raise Broken("its header is cut off", 1)
         link, two = struct.unpack_from(order + "I", data, 20)[0], struct.Struct(order + "II").unpack_from
         self.order, self.links = order, [link]
         self.head.append(bytes(data[:24]))
@@ -81,14 +92,14 @@ class Capture:
         except (struct.error, IndexError):
             at = size + 1
         if at != size:
-            raise Broken(f"a record is cut off at {self.starts[-1] if self.starts else 24}")
+            raise Broken(f"a record is cut off at {self.starts[-1] if self.starts else 24}", 6)
         self.ends = self.starts[1:] + array("Q", [size] * bool(self.starts))
 
     def read_blocks(self):
         data, size = self.data, len(self.data)
         order = {b"\x4d\x3c\x2b\x1a": "<", b"\x1a\x2b\x3c\x4d": ">"}.get(bytes(data[8:12]))
         if order is None:
-            raise Broken("it doesn't show its byte order")
+            raise Broken("it doesn't show its byte order", 12)
         two, three = struct.Struct(order + "II").unpack_from, struct.Struct(order + "III").unpack_from
         self.order = order
         links, cuts, add, at = self.links, [], self.adder(), 0
@@ -111,16 +122,19 @@ class Capture:
                     at = end
                     continue
             if at + 12 > size:
-                raise Broken(f"a block is cut off at {at}")
+                raise Broken(f"a block is cut off at {at}", 10)
             kind, total = two(data, at)
             end = at + total
+            # the type of such a block is the same in either byte order, and its length isn't
+            if at and data[at : at + 4] == BLOCK:
+                raise Broken(f"a second section begins at {at}", 15)
             if total < 12 or total % 4 or end > size:
-                raise Broken(f"a block is cut off at {at}")
+                raise Broken(f"a block is cut off at {at}", 10)
             if kind == 6:
                 interface, _, _ = three(data, at + 8)
                 captured, length = two(data, at + 20)
                 if interface >= len(links):
-                    raise Broken(f"the block at {at} has no interface")
+                    raise Broken(f"the block at {at} has no interface", 13)
                 add(links[interface], at, end, at + 28, captured, length)
             elif kind == 3:
                 length = two(data, at + 8)[0]
@@ -133,8 +147,6 @@ class Capture:
                 self.head.append(bytes(data[at:end]))
             elif at == 0:
                 self.head.append(bytes(data[:16]) + b"\xff" * 8 + bytes(data[24:end]))
-            elif data[at : at + 4] == BLOCK:
-                raise Broken(f"a second section begins at {at}")
             at = end
 
     def adder(self):
@@ -171,16 +183,39 @@ class Capture:
         return b"".join([*self.head, *(data[self.starts[n] : self.ends[n]] for n in numbers)])
 
 
+def interface_at(capture, at):
+    """The interface of the packet whose block begins there."""
+    kind, _, interface = struct.unpack_from(capture.order + "III", capture.data, at)
+    return interface if kind == 6 else 0
+
+
+def kinds_of_blocks(capture):
+    """The type of each block."""
+    at, unpack = 0, struct.Struct(capture.order + "II").unpack_from
+    while at < len(capture.data):
+        kind, total = unpack(capture.data, at)
+        yield kind
+        at += total
+
+
+def way_out_of(name, fault):
+    """Why a file is no capture, and what mends it; a pipe is read already, and can't be mended."""
+    if not os.path.isfile(name):
+        return str(fault)
+    said = ways_out.way_out(fault.reason, str(name))
+    return said if fault.reason < 3 else f"{fault}: {said}"
+
+
 def read(name, code=1):
-    """The capture of a file; ends with a line, and this exit code, where it is none."""
+    """The capture of a file; ends with a line that says what mends it, and this exit code, where it is none."""
+    if str(name) == "-":
+        raise Failed(STANDARD_INPUT, code)
     with open(name, "rb") as it:
         data = it.read()
     try:
-        if data[:2] == b"\x1f\x8b":
-            raise Broken("it is compressed: zcat makes it readable")
         return Capture(data)
     except Broken as fault:
-        raise Failed(f"{name}: {fault}", code) from None
+        raise Failed(f"{name}: {way_out_of(name, fault)}", code) from None
 
 
 def ethernet(frames, times=None):

@@ -21,6 +21,7 @@ ETHERNET_HEADER = 14
 HEADER = {1: ETHERNET_HEADER, 113: 16, 276: 20, 0: 4, 108: 4, 101: 0, 228: 0, 229: 0}
 TAGS = (b"\x81\x00", b"\x88\xa8", b"\x91\x00")
 IPV4, IPV6 = b"\x08\x00", b"\x86\xdd"
+PPPOE, MPLS = b"\x88\x64", (b"\x88\x47", b"\x88\x48")
 # of IPv6: hop by hop, routing, fragment, destination
 EXTENSIONS = frozenset((0, 43, 44, 60))
 
@@ -43,6 +44,17 @@ def seconds(time, digits):
     return f"{whole}.{part:09d}" if digits == 9 else f"{whole}.{part // 1000:06d}"
 
 
+def behind(data, kind, head):
+    """Where IP would begin behind a type of Ethernet: behind the header of PPPoE, or the last label of MPLS; None where it doesn't."""
+    if data[kind : kind + 2] == PPPOE:
+        return head + 8
+    if data[kind : kind + 2] in MPLS:
+        while head + 4 < len(data) and not data[head + 2] & 1:
+            head += 4
+        return head + 4
+    return head if data[kind : kind + 2] in (IPV4, IPV6) else None
+
+
 def header_of_frame(data, link, at, until):
     """Where the header of IP begins in a frame, and its version; None where there is none."""
     if link not in HEADER:
@@ -52,7 +64,8 @@ def header_of_frame(data, link, at, until):
         kind = at + TYPE_AT[link]
         while link == 1 and data[kind : kind + 2] in TAGS:
             kind, head = kind + 4, head + 4
-        if data[kind : kind + 2] not in (IPV4, IPV6):
+        head = behind(data, kind, head)
+        if head is None:
             return None
     version = data[head] >> 4 if head < until else 0
     if version == 4 and head + 20 <= until or version == 6 and head + 40 <= until:

@@ -41,6 +41,7 @@ CALLS = [
     ("show-run", "{plan} {capture} run --html {out}", ".html", "capture plan fates"),
     ("show-run", "{plan} {capture} run --marked {out}", ".pcapng", "capture plan fates"),
     ("show-run", "tap 1 4 4 {capture} run {out}", ".svg", "capture fates"),
+    ("check-capture", "{capture} --ip {out}", ".pcap", "capture"),
     ("gate-cost", "--to {out} {program}", ".json", "program"),
 ]
 # the tools that write files besides, and where: none of these names is the caller's

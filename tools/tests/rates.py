@@ -42,7 +42,7 @@ def at_rate():
         expect(f"at-rate {' '.join(words)}", said, 2)
     expect("at-rate, an empty capture", of([], "100mbit"), 1, "no packets")
     expect("at-rate, without times", of([(5, 60), (5, 60)], "100mbit"), 1, "no times")
-    expect("at-rate, no capture", run(HERE / "at-rate", TOP / "README.md", "100mbit"), 1, "neither a pcap nor a pcapng file")
+    expect("at-rate, no capture", run(HERE / "at-rate", TOP / "README.md", "100mbit"), 1, "neither pcap nor pcapng")
     expect("at-rate, no file", run(HERE / "at-rate", room / "none", "100mbit"), 1, "No such file")
 
 

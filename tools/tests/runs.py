@@ -72,7 +72,7 @@ def show_run():
     for words, code, why in [
         ([drops, capture, room / "none"], 1, "none.fates: No such file"),
         ([room / "none.toml", capture, room / "drops"], 1, "none.toml: No such file"),
-        ([drops, drops, room / "drops"], 1, "drops.toml: it is neither a pcap nor a pcapng file"),
+        ([drops, drops, room / "drops"], 1, "drops.toml: it is neither pcap nor pcapng"),
         ([drops, capture, room / "drops", room / "none/a.svg"], 1, "a.svg: No such file"),
         ([drops, capture, room / "drops", room / "a.png"], 2, "a.png: a picture is written as SVG"),
         ([drops, capture, room / "drops", "--table", room / "a.xlsx"], 2, "a.xlsx: its name ends in .csv, .json or .jsonl"),
