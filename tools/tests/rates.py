@@ -3,7 +3,7 @@ import struct
 import subprocess
 
 from lib import by_time, captures, plans
-from tests.bench import HERE, ROOM, TOP, case, expect, fault, frame, run
+from tests.bench import HERE, ROOM, TOP, case, expect, expect_none, fault, frame, is_equal, run
 
 
 def capture_at(frames, link=1):
@@ -36,7 +36,20 @@ def at_rate():
     expect("at-rate, of short frames", of([(0, 34), (9, 60)], "100mbit"), 0, "84 bytes of the wire, which are 6.72 microseconds", "irq_us = 7\n", "96 Mbit/s of mean frames, since a plan")
     expect("at-rate, of different frames", of([(0, 60), (9, 1514)], "0.1Gbit"), 0, "811 bytes", "irq_us = 65\n", "The shortest ones, of 84", "bytes, go at 10.34 Mbit/s", "1538", "189.3 Mbit/s")
     expect("at-rate, of raw IP", of([(0, 1500), (9, 1500)], "100mbit", link=101), 0, "1538 bytes")
-    expect("at-rate, quicker than a microsecond", of([(0, 34), (9, 34)], "10gbit"), 0, "irq_us = 1\n", "672 Mbit/s of mean frames, since", "--coalesce 2, which")
+    # 84 bytes take 0.0672 microseconds at 10 Gbit/s, 1,538 bytes 1.23, and at 100 Gbit/s 0.123: no whole microsecond is near
+    for name, frames, rate, parts in (
+        ("short frames", [(0, 34), (9, 34)], "10gbit", ["0.0672 microseconds", "would be 672 Mbit/s", "--coalesce 1, which takes 15 frames"]), ("40gbit", whole, "40gbit", ["0.3076 microseconds", "--coalesce 4, which takes 13"]),
+        ("100gbit", whole, "100gbit", ["0.123 microseconds", "would be 12.3 Gbit/s", "--coalesce 5, which takes 41"]), ("10gbit", whole, "10gbit", ["1.23 microseconds", "would be 12.3 Gbit/s", "--coalesce 11, which takes 9"]),
+        ("absurd", whole, "99999999999999999999gbit", ["would be 12.3 Gbit/s"]), ("slow", whole, "1bit", ["takes 12304 s, and a plan has at most a second"]),
+    ):  # fmt: skip
+        said = of(frames, rate)
+        expect(f"at-rate, {name}", said, 1, f"at-rate: {rate}: the mean frame takes", *parts)
+        is_equal(f"at-rate, {name}: what is printed", said[1], "")
+    expect_none("at-rate, absurd", of(whole, "99999999999999999999gbit"), "--coalesce")
+    expect("at-rate, a card that is far off", of(whole, "100mbit", "--coalesce", "180"), 1, "one frame each 180 would be 68.36 Mbit/s")
+    expect("at-rate, a card of too many frames", of(whole, "99999999999999999999gbit", "--coalesce", "9"), 1, "frames at once, and a device takes at most 1,000,000")
+    for rate, coalesce, period, burst in (("100gbit", 5, 5, 41), ("40gbit", 4, 4, 13), ("10gbit", 11, 11, 9)):
+        expect(f"at-rate {rate} --coalesce {coalesce}", of(whole, rate, "--coalesce", str(coalesce)), 0, f"irq_us = {period}\n", f"burst = {burst}\n")
     for words in (("100",), ("0mbit",), ("fast",), ("100mbit", "--len", "0"), ("100mbit", "--len", "65537"), ("100mbit", "--coalesce", "0"), ("100mbit", "--coalesce", "many"), ("100mbit", "--coalesce", "122"), ("100mbit", "more"), ()):
         said = of(whole, *words)
         expect(f"at-rate {' '.join(words)}", said, 2)
