@@ -45,7 +45,7 @@ def say(tool: str, line: object) -> None:
 
 def usage_of(about: str) -> str:
     """The lines of a tool's text that show how it is called, or else its first."""
-    shown = [it for it in about.splitlines() if it.startswith("    tools/")]
+    shown = [it for it in about.splitlines() if it.startswith(("    tools/", "    lqtx-"))]
     return "\n".join(shown) if shown else about.partition("\n")[0]
 
 

@@ -1,0 +1,97 @@
+"""What tools/install puts: it works in any folder, without the repository, and goes away again."""
+import os
+import shutil
+import subprocess
+
+from tests.bench import HERE, ROOM, TOP, case, expect, fault, is_equal, repository, run
+
+NAMES = ["lqtx", *(f"lqtx-{it}" for it in ("at-rate", "check-capture", "check-plan", "show-run", "show-schedule", "sweep"))]
+
+
+def installed(prefix):
+    """Installs with a stand-in for the program; the words of the call that it ends by."""
+    program = ROOM / "stand-in"
+    program.write_text(f"#!/bin/sh\nexec {TOP}/tools/tests/by_the_rules.py \"$@\"\n", encoding="utf-8")
+    program.chmod(0o755)
+    return run(HERE / "install", "--prefix", prefix, "--program", program)
+
+
+def files_below(folder):
+    return sorted(str(it.relative_to(folder)) for it in folder.rglob("*") if not it.is_dir())
+
+
+@case
+def installed_tools_work_anywhere():
+    """The commands of docs/INSTALLED.md, in a folder that isn't the repository, by their names alone."""
+    prefix, room = ROOM / "prefix", ROOM / "anywhere"
+    room.mkdir()
+    expect("install", installed(prefix), 0, "6 tools are in", "export PATH=")
+    shutil.copy(TOP / "examples/link.pcap", room / "all.pcap")
+    env = os.environ | {"PATH": f"{prefix}/bin:{os.environ['PATH']}"}
+    page = (prefix / "lib/lqtx/INSTALLED.md").read_text(encoding="utf-8")
+    commands = [it.strip() for it in page.splitlines() if it.startswith("    lqtx")]
+    is_equal("INSTALLED.md: commands", [it.split()[0] for it in commands], ["lqtx-check-capture", "lqtx-at-rate", "lqtx", "lqtx-show-run", "lqtx-sweep"])
+    for it in commands:
+        said = subprocess.run(it, shell=True, cwd=room, env=env, capture_output=True, text=True, timeout=300)
+        if said.returncode not in ((0, 1) if "check-capture" in it else (0,)):
+            fault(f"INSTALLED.md: {it}: ends with {said.returncode}: {said.stderr[-300:]}")
+    is_equal("INSTALLED.md: outputs", files_below(room), sorted(["all.pcap", "plan.toml", "out/o.0.pcap", "out/o.fates", "out/o.svg", "out/waiting.svg", "out/len.csv", "out/len.svg"]))
+    for it in NAMES[1:]:
+        expect(f"{it} --help", subprocess_of([it, "--help"], room, env), 0, f"    {it} ")
+        expect(f"{it}, wrong words", subprocess_of([it, "--no-such"], room, env), 2)
+    for it in files_below(prefix):
+        if "/program" not in it and (str(TOP) in (prefix / it).read_text(encoding="utf-8") or "tools/sweep" in (prefix / it).read_text(encoding="utf-8")):
+            fault(f"{it} speaks of the repository")
+
+
+def subprocess_of(words, cwd, env):
+    said = subprocess.run(words, cwd=cwd, env=env, capture_output=True, text=True, timeout=100)
+    return said.returncode, said.stdout, said.stderr
+
+
+@case
+def installed_program():
+    """It keeps its inputs, says what is wrong with them, and ends as the program does."""
+    prefix, room = ROOM / "prefix-2", ROOM / "kept"
+    room.mkdir()
+    installed(prefix)
+    shutil.copy(TOP / "examples/loopback.pcap", room / "part.0.pcap")
+    plan, lqtx = TOP / "examples/drops.toml", prefix / "bin/lqtx"
+    for out in ("part", "new/../part"):
+        expect(f"installed, over its input by {out}", run(lqtx, "run", plan, "part.0.pcap", out, cwd=room), 2, "is an input")
+    is_equal("installed: the input stays", (room / "part.0.pcap").read_bytes(), (TOP / "examples/loopback.pcap").read_bytes())
+    (room / "wrong.toml").write_text("[[station]]\nlne = 4\n", encoding="utf-8")
+    expect("installed, a wrong plan", run(lqtx, "run", "wrong.toml", "part.0.pcap", "o", cwd=room), 3, "did you mean `len`?")
+    expect("installed, exchanged", run(lqtx, "run", "part.0.pcap", plan, "o", cwd=room), 3, "they are exchanged")
+
+
+@case
+def install_and_uninstall():
+    prefix = ROOM / "prefix-3"
+    (prefix / "bin").mkdir(parents=True)
+    (prefix / "bin/other").write_text("", encoding="utf-8")
+    expect("uninstall, where nothing is", run(HERE / "install", "--prefix", prefix, "--uninstall"), 0)
+    installed(prefix)
+    expect("install, once more", installed(prefix), 0)
+    is_equal("install: bin", sorted(it.name for it in (prefix / "bin").iterdir()), sorted([*NAMES, "other"]))
+    is_equal("install: manual", sorted(it.name for it in (prefix / "share/man/man1").iterdir()), sorted(f"{it}.1" for it in NAMES))
+    for page in sorted((prefix / "share/man/man1").iterdir()) if shutil.which("mandoc") else []:
+        said = run("mandoc", "-T", "lint", "-W", "error", page)
+        if said[0]:
+            fault(f"{page.name}: {said[1][:300]}")
+    expect("uninstall", run(HERE / "install", "--prefix", prefix, "--uninstall"), 0)
+    is_equal("uninstall: what stays", files_below(prefix), ["bin/other"])
+    (prefix / "bin/lqtx-sweep").write_text("a user's own", encoding="utf-8")
+    expect("install, over another file", installed(prefix), 1, "there are other files", "bin/lqtx-sweep")
+    is_equal("install, over another file: what stays", files_below(prefix), ["bin/lqtx-sweep", "bin/other"])
+
+
+@case
+def install_before_the_proof():
+    """In a repository whose program isn't built it says so, installs the tools, and begins no proof."""
+    top = repository("to-install", {"crates.txt": "lqtx:\n", "docs/lqtx.1": ".Dd x\n", "docs/INSTALLED.md": "# x\n", "crates/lqtx/src/main.rt": ""})
+    shutil.copytree(HERE / "orders", top / "tools/orders")
+    said = run(top / "tools/install", "--prefix", top / "prefix")
+    expect("install before the proof", said, 1, "there is no proved program yet", "6 tools are in")
+    expect("a tool before the proof", run(top / "prefix/bin/lqtx-check-plan", TOP / "examples/drops.toml"), 0, "accepted")
+    expect("the program before the proof", run(top / "prefix/bin/lqtx", "gen", "1", "5", top / "g"), 1, "the proved program wasn't there when this was installed")
