@@ -1,5 +1,5 @@
 //! The end of a station, once all its seats are joined.
-ghost use Rattle.std.specs.Prelude.{◌≡◌, ◌<◌, true, false, length, if◌then◌else◌};
+ghost use Rattle.std.specs.Prelude.{◌≡◌, ◌<◌, None, true, false, length, if◌then◌else◌};
 ghost use Rattle.lq_model.specs.declared.machine.Phase.TheVariants.{Active};
 ghost use Rattle.lq_model.specs.declared.machine.Position.TheVariants.{Idle, Control};
 ghost use Rattle.lq_table.specs.Sees.{view, known, setup, position, IsSeatOf, IsElseSame, IsSole};
@@ -64,6 +64,7 @@ fn send_all_left<'a, D: TxDevice, R: Wait>(rt: &R, shared: &Shared<'a, D>, cpu: 
 fn are_stops<'a, D: TxDevice>(shared: &Shared<'a, D>, cpu: &mut Cpu<D>, word: u64) -> bool
     requires seat { IsSeatOf shared.now cpu.old }
     requires at { position cpu.old ≡ Control false }
+    requires station { cpu.old.station ≡ None }
     ensures { LooksAtStopWords shared.now word result cpu.old cpu.new }
 {
     for queue in 0..shared.queues() {

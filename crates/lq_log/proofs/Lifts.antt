@@ -20,8 +20,8 @@ module _ {S V : Type 0} (holds : table.State S V → Type 0) where
       → Allows (OfViews holds) slots id m i f (Noted made_of t s m)
   lifts slots id m i f made_of t step all s r deep here small =
       let z = all (viewed s) r deep (at_map (λ (m : WithSteps V). m.view) s.views id m.0 here) small in
-      let w : WithSteps V = record { view = z.0; steps = made_of step (slice_index s.words i) ∷ m.0.steps } in
-      (w, z.1, z.2, after id i s _ _ w z.3, record { told = z.4; noted = refl })
+      let w : WithSteps V = record { view = z.0; steps = made_of step (slice_index s.words i) ∷ m.0.steps; depth = m.0.depth } in
+      (w, z.1, z.2, after id i s _ _ w z.3, record { told = z.4; noted = refl; depth = refl })
 
   -- of each operation
   pub lifts_load : (slots id : ℕ) (m : Me S (WithSteps V)) (i : ℕ) (made_of : Step S → ℕ → Made) (t : Step S → Me S V → ℕ → Me S V → Type 0) (s : Step S) → Allows holds slots id (seen m) i (λ x. x) (t s (seen m)) → Allows (OfViews holds) slots id m i (λ x. x) (Noted made_of t s m)
@@ -50,8 +50,8 @@ module _ {S V : Type 0} (holds : table.State S V → Type 0) where
       → Allows (OfViews holds) slots id m i (λ _. new) (λ _. Noted made_of t s m new)
   lifts_store slots id m i new made_of t step all s r deep here small =
       let z = all (viewed s) r deep (at_map (λ (m : WithSteps V). m.view) s.views id m.0 here) small in
-      let w : WithSteps V = record { view = z.0; steps = made_of step new ∷ m.0.steps } in
-      (w, z.1, z.2, after id i s _ _ w z.3, record { told = z.4; noted = refl })
+      let w : WithSteps V = record { view = z.0; steps = made_of step new ∷ m.0.steps; depth = m.0.depth } in
+      (w, z.1, z.2, after id i s _ _ w z.3, record { told = z.4; noted = refl; depth = refl })
 
   -- a seat is cut in two
   pub lifts_split : (id : ℕ) (v left right : WithSteps V) → Splits holds id v.view left.view right.view → Splits (OfViews holds) id v left right

@@ -1,5 +1,5 @@
 -- The steps that a seat made on a table's words, and what it knows with them.
-use Rattle.std.specs.Prelude.{◌≡◌, ℕ, Bool, not, List, [], ◌∷◌, map, ◌==◌, bit_and}
+use Rattle.std.specs.Prelude.{◌≡◌, ℕ, ◌+◌, Bool, not, List, [], ◌∷◌, ◌++◌, length, map, ◌==◌, bit_and}
 use Rattle.atomic_table.specs.Table as table
 use Rattle.atomic_table.specs.Table.{Step, Me}
 
@@ -20,6 +20,10 @@ pub data Made : Type 0 where
   -- the word, and how much it rose, or fell
   rise : ℕ → ℕ → Made
   fall : ℕ → ℕ → Made
+  -- a load of word 0, with which another seat was cut off
+  cut : Made
+  -- a load of word 0, with which another seat was taken in, and how many steps that seat had made
+  join : ℕ → Made
 
 -- a list of steps with one more: it reads in the order in which they were made
 infixl 55 ◌⊳◌
@@ -53,15 +57,33 @@ module _ {S : Type 0} where
   abbrev pub falls : Step S → ℕ → Made
   falls s _ = fall s.word s.first
 
--- WHAT A SEAT KNOWS: its view, and the steps that it made, the latest first
+-- a list once a seat with that list was taken in: its steps come behind the join, before those made until then
+abbrev pub joined : List Made → List Made → List Made
+joined from into = join (length from) ∷ (from ++ into)
+
+-- WHAT A SEAT KNOWS: its view, the steps that it made, the latest first, and how many cuts lead to it from the table's first seat
 
 pub record WithSteps (V : Type 0) : Type 0 where
   pub view : V
   pub steps : List Made
+  pub depth : ℕ
 
 module _ {V : Type 0} where
+  -- the table's first seat, at the start
   abbrev pub made_nothing : V → WithSteps V
-  made_nothing v = record { view = v; steps = [] }
+  made_nothing v = record { view = v; steps = []; depth = 0 }
+
+  -- a seat is cut in two: it keeps this view,
+  abbrev pub having_cut : (V → V) → WithSteps V → WithSteps V
+  having_cut left m = record { view = left m.view; steps = m.steps ⊳ cut; depth = m.depth }
+
+  -- and the other has this one, and made no step
+  abbrev pub cut_off : (V → V) → WithSteps V → WithSteps V
+  cut_off right m = record { view = right m.view; steps = []; depth = m.depth + 1 }
+
+  -- it takes in another
+  abbrev pub having_joined : (V → V → V) → WithSteps V → WithSteps V → WithSteps V
+  having_joined both m other = record { view = both m.view other.view; steps = joined other.steps m.steps; depth = m.depth }
 
   abbrev pub views_of : List (WithSteps V) → List V
   views_of ms = map (λ (m : WithSteps V). m.view) ms
@@ -87,3 +109,4 @@ module _ {S V : Type 0} where
   pub record Noted (made_of : Step S → ℕ → Made) (told_of : Step S → Me S V → ℕ → Me S V → Type 0) (s : Step S) (m : Me S (WithSteps V)) (found : ℕ) (m' : Me S (WithSteps V)) : Type 0 where
     pub told : told_of s (seen m) found (seen m')
     pub noted : m'.0.steps ≡ made_of s found ∷ m.0.steps
+    pub depth : m'.0.depth ≡ m.0.depth

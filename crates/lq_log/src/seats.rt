@@ -1,7 +1,7 @@
 //! Cutting a seat in two, joining two, and what lies in the slot that a seat took.
 ghost use Rattle.std.specs.Prelude.{◌≡◌, ◌<◌, [], ◌∷◌};
 ghost use Rattle.atomic_table.specs.Table.{Joins, Splits};
-ghost use Rattle.lq_log.specs.Made.{made_nothing};
+ghost use Rattle.lq_log.specs.Made.{made_nothing, having_cut, cut_off, having_joined};
 
 use crate::known::Knows;
 use crate::logged::Logged;
@@ -16,9 +16,9 @@ pub(crate) struct CutBy<M> {
 }
 
 impl<V, M: Cuts<V>> Split<Knows<V>> for CutBy<M> {
-    ghost left = { λ m. record m { view = M.left m.view } };
+    ghost left = { having_cut M.left };
 
-    ghost right = { λ m. made_nothing (M.right m.view) };
+    ghost right = { cut_off M.right };
 }
 
 pub(crate) struct JoinedBy<M> {
@@ -26,14 +26,13 @@ pub(crate) struct JoinedBy<M> {
 }
 
 impl<V, M: Join<V>> Join<Knows<V>> for JoinedBy<M> {
-    ghost both = { λ m n. record m { view = M.both m.view n.view } };
+    ghost both = { having_joined M.both };
 
     ghost spent = { made_nothing M.spent };
 }
 
 impl<S, V, K, P: TableRule<S, V, K>, A: Allocator> Logged<S, V, K, P, A> {
-    /// Cuts the seat in two, as `M` cuts its view. It keeps its list, and the new seat made no step. The load that this costs is in
-    /// no list.
+    /// Cuts the seat in two, as `M` cuts its view, and appends `cut` to its list. The new seat made no step.
     pub fn split_seat<M: Cuts<V>, X>(
         &self,
         seat: &mut Seat<S, Knows<V>>,
@@ -42,21 +41,21 @@ impl<S, V, K, P: TableRule<S, V, K>, A: Allocator> Logged<S, V, K, P, A> {
         requires { (seat.old.table_id ≡ self.now.kit.shared.table_id) × (0 < self.now.kit.shared.table_id.words)
             × Splits (P.holds self.now.kit.shared.key) seat.old.id seat.old.me.0.view (M.left seat.old.me.0.view) (M.right seat.old.me.0.view) }
         ensures { (seat.new.table_id ≡ seat.old.table_id) × (seat.new.id ≡ seat.old.id)
-            × (seat.new.me ≡ (record seat.old.me.0 { view = M.left seat.old.me.0.view }, seat.old.me.1))
-            × (result.table_id ≡ seat.old.table_id) × (result.me ≡ (made_nothing (M.right seat.old.me.0.view), [])) }
+            × (seat.new.me ≡ (having_cut M.left seat.old.me.0, seat.old.me.1))
+            × (result.table_id ≡ seat.old.table_id) × (result.me ≡ (cut_off M.right seat.old.me.0, [])) }
     {
         self.kit.shared.split_seat::<CutBy<M>>(seat)
     }
 
-    /// The seat takes in another, which holds no slot, as `M` joins their views. It keeps its list, and the other's list goes with the
-    /// other. The load that this costs is in no list.
+    /// The seat takes in another, which holds no slot, as `M` joins their views. The other's steps are appended to its list, and then
+    /// `join`.
     pub fn join_seat<M: Join<V>>(&self, seat: &mut Seat<S, Knows<V>>, other: Seat<S, Knows<V>>)
         requires { (seat.old.table_id ≡ self.now.kit.shared.table_id) × (other.table_id ≡ self.now.kit.shared.table_id) × (other.me.1 ≡ [])
             × (0 < self.now.kit.shared.table_id.words)
             × Joins (P.holds self.now.kit.shared.key) seat.old.id seat.old.me.0.view other.id other.me.0.view
             (M.both seat.old.me.0.view other.me.0.view) M.spent }
         ensures { (seat.new.table_id ≡ seat.old.table_id) × (seat.new.id ≡ seat.old.id)
-            × (seat.new.me ≡ (record seat.old.me.0 { view = M.both seat.old.me.0.view other.me.0.view }, seat.old.me.1)) }
+            × (seat.new.me ≡ (having_joined M.both seat.old.me.0 other.me.0, seat.old.me.1)) }
     {
         self.kit.shared.join_seat::<JoinedBy<M>>(seat, other);
     }

@@ -1,7 +1,7 @@
 -- What a look through the bands leaves.
 use Rattle.std.proofs.Common.{◌≡◌, ◌≢◌, ℕ, zero, suc, ◌+◌, ◌<◌, ◌==◌, Bool, true, false, refl, sym, ap, ◌∙◌, subst, arith, List, [], ◌∷◌, Option, None, Some, inr, is_some, if◌then◌else◌}
 use Rattle.std.proofs.lemmas.Bool.{ne_eqb, true≢false}
-use Rattle.std.specs.Option.{option_map}
+use Rattle.std.specs.Option.{option_map, unwrap_or}
 use Rattle.std.specs.Prelude.{slice_get, slice_index, MatchOption}
 use Rattle.lq_model.specs.Account.{Account, Event, Empty, Take, after_all, held_in}
 use Rattle.lq_model.specs.Machine.{Qdisc, band_at}
@@ -15,13 +15,14 @@ use Rattle.lq_model.specs.declared.machine.Blocked.{Blocked}
 use Rattle.lq_model.specs.Positions.{holds_lock}
 use Rattle.lq_model.specs.declared.machine.Seat.{Seat}
 use Rattle.lq_ring.specs.Take.{consuming}
-use Rattle.lq_table.specs.Views.{View, HolderPart, SharePart, State, machine_packet, first_account}
+use Rattle.lq_device.specs.Station.{StationState, with_slot}
+use Rattle.lq_table.specs.Views.{View, HolderPart, SharePart, State, machine_packet, first_account, no_station}
 use Rattle.lq_table.specs.Stops.{load_xoff_view, load_xoff_view_from, picking, slot_begins, SeesXoff}
 use Rattle.lq_table.specs.Moves.{pass_view, seen_by}
 use Rattle.lq_table.specs.Consumers.{seen_band, head_slot_view_empty}
 use Rattle.lq_table.specs.States.{set_bit_view, set_bit_alone}
 use Rattle.lq_table.specs.Rule.{shown, IsResting}
-use Rattle.lq_table.specs.Sees.{view, position, slot, IsElseSame, IsSeatOf, IsSameSeat, IsSole, account_of}
+use Rattle.lq_table.specs.Sees.{view, position, slot, CarriesSlot, IsElseSame, IsSeatOf, IsSameSeat, IsSole, account_of}
 use Rattle.lq_table.specs.declared.shared.Cpu.{Cpu}
 use Rattle.lq_table.specs.declared.shared.Shared.{Shared}
 use Rattle.lq_qdisc.specs.Calls.{IsKeptInRun, IsServing, IsSettledSame, after_blocked, AreNone, Dequeues, Finds, ClearsMissedAlone, FindsNone, FindsPacket, FindsStopped, IsStopFor, Looks, Picks, finding_stopped, found_empty, laid_aside, looking_at, with_back}
@@ -103,6 +104,10 @@ maybe_cleared b x v w at is = let r = over b (x == 0) in (r.0, is ∙ (ap (λ (p
 -- a load of the stop word where a dequeue begins, with this in the requeue slot: the queue is open, or stopped
 pub opened_at_dequeue : (x : ℕ) (o : Option ℕ) (v w : View) → w ≡ load_xoff_view x v → v.place.position ≡ Deq → v.holder.slot ≡ o → x ≡ 0 → w ≡ picking o (standing (slot_begins (option_map (machine_packet v.share.about.infos) o)) v)
 opened_at_dequeue x o v w is at slot_is zero_ = is ∙ (λ j. load_xoff_view_from (at j) (slot_is j) (zero_ j) v)
+
+-- what the seat knows of the requeue slot once a queue was found stopped and its stop word is loaded again
+pub blocked_slot : (blocked : Blocked) (found : ℕ) (v : View) → v.place.position ≡ BlockedClear blocked → (load_xoff_view found (pass_view v)).holder.slot ≡ v.holder.slot
+blocked_slot blocked found v here = ap (λ (at : Position). (load_xoff_view found (pass_view (record v { place = record v.place { position = at } }))).holder.slot) here
 
 pub stopped_at_dequeue : (x : ℕ) (o : Option ℕ) (v w : View) → w ≡ load_xoff_view x v → v.place.position ≡ Deq → v.holder.slot ≡ o → x ≢ 0 → w ≡ standing (BlockedClear (NoneTaken (queue_of_slot (option_map (machine_packet v.share.about.infos) o)))) v
 stopped_at_dequeue x o v w is at slot_is some_ =
@@ -191,6 +196,17 @@ module _ {D : Type 0} where
   pub serving_same : (b a : Cpu D) → slot a ≡ slot b → a.station ≡ b.station → (view a).holder ≡ (view b).holder → (view a).locks ≡ (view b).locks → IsServing b → IsServing a
   serving_same b a slot_is station_is holder locks s =
       serving_with b a (view b).holder.slot (view b).holder.hand slot_is (station_is ∙ (s.0.1 ∙ ap (λ (h : HolderPart). Some (shown h)) (sym holder))) holder locks s
+
+  -- the requeue slot of the station that a seat carries
+  pub carries_slot : (c : Cpu D) → IsServing c → CarriesSlot c
+  carries_slot c s st is = ap (λ (o : Option StationState). (unwrap_or o no_station).slot) (sym is ∙ s.0.1)
+
+  pub carries_still : (b a : Cpu D) → a.station ≡ b.station → (view a).holder.slot ≡ (view b).holder.slot → CarriesSlot b → CarriesSlot a
+  carries_still b a station slot_is old st is = old st (sym station ∙ is) ∙ sym slot_is
+
+  -- where the packet n was laid into it
+  pub carries_filled : (n : ℕ) (st : StationState) (a : Cpu D) → a.station ≡ Some (with_slot st (Some n)) → (view a).holder.slot ≡ Some n → CarriesSlot a
+  carries_filled n st a station slot_is other is = ap (λ (o : Option StationState). (unwrap_or o no_station).slot) (sym is ∙ station) ∙ sym slot_is
 
   pub run_none : (b : ℕ) (second : Bool) (m a : Cpu D) → position m ≡ Scan b second → view a ≡ head_slot_view_empty b (view m) → (view a).place.run ≡ (view m).place.run
   run_none b second m a here is = ap (λ (x : View). x.place.run) is ∙ (seat_kept (seen_band b []) b second (view m) here).0

@@ -4,7 +4,7 @@ ghost use Rattle.lq_model.specs.Plan.{queue_in};
 ghost use Rattle.lq_model.specs.Steps.{queue_of_blocked};
 ghost use Rattle.lq_model.specs.declared.machine.Blocked.{Blocked};
 ghost use Rattle.lq_model.specs.declared.machine.Position.TheVariants.{BlockedClear, Scan, Test, ClearMissed, Deq, Unlock};
-ghost use Rattle.lq_table.specs.Sees.{view, setup, position, slot, IsSeatOf, IsSole, solo};
+ghost use Rattle.lq_table.specs.Sees.{view, setup, position, slot, CarriesSlot, IsSeatOf, IsSole, solo};
 ghost use Rattle.lq_table.specs.Moves.{IsPacketOf};
 ghost use Rattle.lq_device.specs.Station.{StationState, with_slot};
 ghost use Rattle.lq_table.specs.Rule.{shown};
@@ -162,6 +162,7 @@ pub(crate) fn maybe_clear_missed<'a, D: TxDevice>(
     requires seat { IsSeatOf shared.now cpu.old }
     requires at { (b : Blocked) × (position cpu.old ≡ BlockedClear b) × (queue_of_blocked b ≡ queue) }
     requires queue { queue < shared.now.queues }
+    requires slot { CarriesSlot cpu.old }
     requires shut { (view cpu.old).holder.shut ≡ None }
     ensures { ClearsAtStop shared.now queue cpu.old cpu.new }
 {

@@ -12,6 +12,7 @@ use Rattle.lq_table.specs.Made.{◌⊳◌}
 use Rattle.lq_table.specs.Resizes.{clear_slot_log, out_of, is_member}
 use Rattle.lq_table.specs.Rule.{IsResting, shown}
 use Rattle.lq_table.specs.Sees.{view, known, steps, setup, position, slot, packet_at, ends_at, lock_at, IsSameSeat, IsElseSame, Brings, IsSole, account_of, heard, solo}
+use Rattle.lq_table.specs.Consumers.{CarriesEndsBeforeTake}
 use Rattle.lq_table.specs.Producers.{SeesEnd, with_lock_at}
 use Rattle.lq_table.specs.Moves.{IsPacketOf}
 use Rattle.lq_table.specs.Views.{View, HolderPart, Work}
@@ -21,7 +22,7 @@ use Rattle.lq_ring.specs.Changes.{LocksAll, PurgesBand, PurgesOneOrNone, Resizes
 use Rattle.lq_ring.specs.Purged.{PassesBand, PurgesFirst}
 use Rattle.lq_ring.specs.Put.{HearsPut, no_locks, dropping_full, putting}
 use Rattle.lq_ring.specs.Resized.{having_locks}
-use Rattle.lq_ring.specs.Seats.{HasJustLocked, CarriesEndsBeforeTake, GoesOnFromPut, GoesOnFromScan, HasBandToPurge, HasRingToPurge, KeepsSeatAndView, MayResize, TurnsAllBands, TurnsAndSets}
+use Rattle.lq_ring.specs.Seats.{HasJustLocked, GoesOnFromPut, GoesOnFromScan, HasBandToPurge, HasRingToPurge, KeepsSeatAndView, MayResize, TurnsAllBands, TurnsAndSets}
 use Rattle.lq_ring.specs.Steps.{EmptiesBatch, LocksProducer, PutsAtBy, zeroed, FindsSlotEmpty, Takes, FindsFull, Puts}
 use Rattle.lq_ring.specs.Take.{CarriesStation, KnowsEnds, having_emptied, batch_length}
 use Rattle.lq_ring.specs.Work.{ArePacketsOf, HasDroppedFrom, IsTurner, IsWorkBegun, back_in, event_of_work, work_at, working, IsWorkDone, having_turned}

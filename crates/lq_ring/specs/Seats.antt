@@ -51,10 +51,6 @@ module _ {D : Type 0} where
   HasBatchToEmpty band tail head c = (ends_at band c ≡ record { head = head; tail = tail; edge = head }) × (tail < head) × (head ≤ (view c).holder.size)
       × (is_emptying (view c).holder.size (ends_at band c) ≡ true)
 
-  -- the station that it carries has the band's ends as they were before the packet at the head was taken
-  abbrev pub CarriesEndsBeforeTake : ℕ → Cpu D → Type 0
-  CarriesEndsBeforeTake band c = (st : StationState) × (c.station ≡ Some st) × (slice_index st.heads band + 1 ≡ (ends_at band c).head) × (slice_index st.tails band ≡ (ends_at band c).tail)
-
   -- from the scan of the band it goes on to the next where it found nothing, and with a packet to the gate
   abbrev pub GoesOnFromScan : ℕ → Option ℕ → Cpu D → Cpu D → Type 0
   GoesOnFromScan band found b a = MatchOption found ((second : Bool) → position b ≡ Scan band second → position a ≡ after_band band second)

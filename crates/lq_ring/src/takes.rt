@@ -1,6 +1,7 @@
 //! Takes by the holder of the run lock, which waits for nobody.
 ghost use Rattle.std.specs.Prelude.{◌≡◌, ◌<◌, ◌≤◌, Some, slice_index};
 ghost use Rattle.lq_device.specs.Station.{StationState, with_ends};
+ghost use Rattle.lq_table.specs.Consumers.{CarriesEndsBeforeTake};
 ghost use Rattle.lq_table.specs.Sees.{IsSeatOf};
 ghost use Rattle.lq_ring.specs.Seats.{HasBatchToEmpty, HoldsRings};
 ghost use Rattle.lq_ring.specs.Calls.{ChangesStation, DiscardsOne, EmptiesTail, MayConsume, MayDiscard, TakesFrom};
@@ -44,6 +45,7 @@ fn zero_tail<'a, D: TxDevice>(
     requires band { band < 3 }
     requires holder { HoldsRings shared.now cpu.old }
     requires ends { HasBatchToEmpty band tail head cpu.old }
+    requires before { CarriesEndsBeforeTake band cpu.old }
     ensures { EmptiesTail shared.now band tail head cpu.old cpu.new }
 {
     for n in 0..head - tail {

@@ -15,7 +15,7 @@ use Rattle.lq_plan.specs.Limits.{IsKindWithin}
 use Rattle.lq_qdisc.specs.Alone.{Does}
 use Rattle.lq_seat.specs.State.{HasServed, SeatState, first_account, latest_unit, no_device, solo_of, station_count, times, units_of}
 use Rattle.lq_seat.specs.Steps.{ControlsBy, DoesInterrupts, LooksAtStops, Makes, MakesAndServes, SwapsBy, Transmits}
-use Rattle.lq_table.specs.Made.{◌⊳◌, load_base_log}
+use Rattle.lq_table.specs.Made.{◌⊳◌, cut, joined, load_base_log}
 pub use Rattle.lq_table.specs.Seats.{with_turns, without}
 
 -- for a seat that has the table alone and whose device tells, the station is just as after this step of the run of one sender
@@ -122,7 +122,7 @@ pub record DoesSwap (plan : Plan) (event : ℕ) (params : Params) (came went : D
 
 -- the seat without one share and this owner
 abbrev pub keeping_seat : ℕ → SeatState → SeatState
-keeping_seat o s = record s { shares = s.shares - 1; owners = without o s.owners }
+keeping_seat o s = record s { shares = s.shares - 1; owners = without o s.owners; steps = s.steps ⊳ cut }
 
 -- a new seat of the same table, with one share and this owner
 abbrev pub offspring_seat : ℕ → SeatState → SeatState
@@ -146,6 +146,6 @@ Joins old other new = new ≡ record old {
   steps = new.steps;
 }
 
--- by one load, of the table's base word
-abbrev pub LoadsBase : SeatState → SeatState → Type 0
-LoadsBase old new = (found : ℕ) × (new.steps ≡ old.steps ⊳ load_base_log found)
+-- with that seat's steps, and one load more, of the table's base word
+abbrev pub LoadsBase : SeatState → SeatState → SeatState → Type 0
+LoadsBase old other new = (found : ℕ) × (new.steps ≡ joined other.steps old.steps ⊳ load_base_log found)

@@ -164,7 +164,7 @@ impl<D: TxDevice> Seat<D> {
         requires first { self.old.first ≡ true }
         requires beside { IsBeside self.old other }
         ensures joins { Joins self.old other self.new }
-        ensures loads { LoadsBase self.old self.new }
+        ensures loads { LoadsBase self.old other self.new }
     {
         let Seat { cpu } = other;
         table.shared.join(&mut self.cpu, cpu);

@@ -2,6 +2,7 @@
 use Rattle.std.specs.Prelude.{false, ℕ, List, [], ◌∷◌, slice_set, ◌≡◌, None, true, slice_index, is_some, Some, ◌-◌, slice_get, ◌==◌, if◌then◌else◌, ◌+◌}
 use Rattle.lq_band_laws.specs.Ring.{is_emptying, taken_on, emptied_on}
 use Rattle.lq_band_laws.specs.Three.{at, put}
+use Rattle.lq_device.specs.Station.{StationState}
 use Rattle.lq_model.specs.Account.{Empty, Take, held_in}
 use Rattle.lq_model.specs.Machine.{Qdisc, first_qdisc}
 use Rattle.lq_model.specs.declared.machine.Answer.TheVariants.{Plain}
@@ -45,6 +46,10 @@ module _ {D : Type 0} where
   -- slots of the band are to be emptied, and the slot i is the next of them
   abbrev pub IsNextToEmpty : ℕ → ℕ → Cpu D → Type 0
   IsNextToEmpty band i c = (is_emptying (view c).holder.size (ends_at band c) ≡ true) × (i + 1 ≡ (ends_at band c).edge)
+
+  -- the station that it carries has the band's ends as they were before the packet at the head was taken
+  abbrev pub CarriesEndsBeforeTake : ℕ → Cpu D → Type 0
+  CarriesEndsBeforeTake band c = (st : StationState) × (c.station ≡ Some st) × (slice_index st.heads band + 1 ≡ (ends_at band c).head) × (slice_index st.tails band ≡ (ends_at band c).tail)
 
 -- the slot below the edge was emptied
 abbrev pub zero_slot_view : ℕ → View → View

@@ -3,7 +3,7 @@ use Rattle.std.specs.Prelude.{ℕ, List, [], ◌∷◌, if◌then◌else◌, eqb
 use Rattle.lq_band_laws.specs.Ring.{unlocked}
 use Rattle.lq_band_laws.specs.Three.{all_three}
 use Rattle.lq_model.specs.Machine.{idle_seat, Qdisc}
-use Rattle.lq_table.specs.Sees.{view, slot}
+use Rattle.lq_table.specs.Sees.{view, slot, steps}
 use Rattle.lq_table.specs.Views.{View, no_packets, not_first, not_holding, State}
 use Rattle.lq_table.specs.declared.shared.Cpu.{Cpu}
 
@@ -38,7 +38,11 @@ module _ {D : Type 0} where
   abbrev pub IsSplitOff : ℕ → Cpu D → Cpu D → Type 0
   IsSplitOff owner from c = (c.known.seat.table_id ≡ from.known.seat.table_id) × (c.station ≡ None) × (slot c ≡ []) × (view c ≡ split_view_new owner (view from))
 
--- join: the first seat gets all that the other has, and learns the whole state by a load of word 0 (`load_base_log`).
+  -- it made no step, and was cut off this seat itself
+  abbrev pub IsCutOff : Cpu D → Cpu D → Type 0
+  IsCutOff from c = (steps c ≡ []) × (c.known.seat.me.0.depth ≡ from.known.seat.me.0.depth + 1)
+
+-- join: the first seat gets all that the other has, its steps too, and learns the whole state by a load of word 0 (`load_base_log`).
 
 -- turn words with those of these owners as other turn words have them
 abbrev pub with_turns : List ℕ → List ℕ → List ℕ → List ℕ

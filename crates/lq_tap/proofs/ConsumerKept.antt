@@ -103,8 +103,8 @@ kept_or_none Return false batch = inr refl
 
 -- what a step of the reader leaves alone
 module _ (k : Setup) (s : table.State Consumer View) (r : Rule k s) (id : ℕ) (v : View) (here : get_elem? s.views id ≡ some v) (reads : v.reader.reads ≡ true) where
-  pub seat_of : (q : ReaderPart) → q.reads ≡ true → IsSeat k v.about v.sender q
-  seat_of q yes_ = let is = r.parts.seats.known id v here in record {
+  pub seat_of : (q : ReaderPart) (l : Lock) → q.reads ≡ true → IsSeat k v.about v.sender q l
+  seat_of q l yes_ = let is = r.parts.seats.known id v here in record {
     reader_about = λ _. is.reader_about reads;
     sender_about = is.sender_about;
     sender = λ e. absurd (true≢false (sym reads ∙ ap (λ (x : ReaderPart). x.reads) (is.sender e)));
@@ -127,7 +127,7 @@ module _ (k : Setup) (s : table.State Consumer View) (r : Rule k s) (id : ℕ) (
       → Parts k (record W { consumer = x; slots = ys }) home (set s.views id (stepping q l)) (record r.state { passed = passed; ends = ends })
   own_parts q l x ys home passed ends yes_ seatless out knows ring lends =
       let p = r.parts in let g = r.state in let w : View = stepping q l in record {
-        seats = seats_same k s.views id v w here W.ended p.seats refl (ap (λ (os : List ℕ). if v.sender.going then v.sender.next % k.senders ∷ os else os) seatless) (yes_ ∙ sym reads) out (seat_of q yes_);
+        seats = seats_same k s.views id v w here W.ended p.seats refl (ap (λ (os : List ℕ). if v.sender.going then v.sender.next % k.senders ∷ os else os) seatless) (yes_ ∙ sym reads) out (seat_of q l yes_);
         puts = puts_same k s.views id v w here g.line g.full p.puts refl seatless;
         reads = reads_step k s.views id v w here W.ended g.line g.passed passed g.ends ends p.seats.one_reader reads p.reads knows;
         ring = ring;

@@ -23,7 +23,7 @@ reads_alone views id j v u one here there apart mine yours =
 module _ (k : Setup) (views : List View) (id : ℕ) (v w : View) (here : get_elem? views id ≡ some v) where
   -- SEATS
 
-  pub seats_same : (ended : ℕ) → Seats k ended views → w.sender.sends ≡ v.sender.sends → open_in k.senders w ≡ open_in k.senders v → w.reader.reads ≡ v.reader.reads → w.reader.out ≡ v.reader.out → IsSeat k w.about w.sender w.reader → Seats k ended (set views id w)
+  pub seats_same : (ended : ℕ) → Seats k ended views → w.sender.sends ≡ v.sender.sends → open_in k.senders w ≡ open_in k.senders v → w.reader.reads ≡ v.reader.reads → w.reader.out ≡ v.reader.out → IsSeat k w.about w.sender w.reader w.lock → Seats k ended (set views id w)
   seats_same ended s sends opens reads out is =
       let still : total sending (set views id w) ≡ total sending views = total_same sending views id v w here (ap one_if sends) in record {
         one_reader = total_same reading views id v w here (ap one_if reads) ∙ s.one_reader;
@@ -31,7 +31,7 @@ module _ (k : Setup) (views : List View) (id : ℕ) (v w : View) (here : get_ele
             (λ r. out ∙ (s.out_is id v here (sym reads ∙ r) ∙ sym still)) (λ j u apart e h r. h r ∙ sym still);
         ended_is = let t = total_same (λ u. length (open_in k.senders u)) views id v w here (ap length opens) in let e = s.ended_is in omega arith;
         once = λ o. let t = total_same (λ u. times o (open_in k.senders u)) views id v w here (ap (times o) opens) in let e = s.once o in omega arith;
-        known = each_same (λ u. IsSeat k u.about u.sender u.reader) views id w s.known is;
+        known = each_same (λ u. IsSeat k u.about u.sender u.reader u.lock) views id w s.known is;
       }
 
   -- PUTS

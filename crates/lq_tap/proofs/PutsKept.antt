@@ -155,14 +155,30 @@ loads_any k slots id m i t s r deep here small = (m.0, keeps, tt, rule_same k s 
 
 -- THE PRODUCER LOCK
 
+-- it is the reader's or a sender's
+abbrev IsLive : View → Type 0
+IsLive v = v.reader.reads ≡ false → v.sender.sends ≡ false → ⊥
+
 module _ (k : Setup) where
+  -- so is a seat of the tap
+  about_live : (v : View) → 0 < k.len → IsSeat k v.about v.sender v.reader v.lock → v.about ≡ k → IsLive v
+  about_live v some_slot is about =
+      λ no_ no_'. let none_ = (is.nothing no_ no_').3 in let e = ap (λ (x : Setup). x.len) about in absurd (omega arith)
+
+  -- and one that has the lock
+  locks_live : (v : View) → IsSeat k v.about v.sender v.reader v.lock → v.lock.holds ≡ true → IsLive v
+  locks_live v is has = λ no_ no_'. true≢false (sym has ∙ ap (λ (l : Lock). l.holds) (is.nothing no_ no_').2)
+
+  live_seat : (v : View) (l : Lock) → IsSeat k v.about v.sender v.reader v.lock → IsLive v → IsSeat k v.about v.sender v.reader l
+  live_seat v l q live = record { reader_about = q.reader_about; sender_about = q.sender_about; sender = q.sender; going = q.going; nothing = λ no_ no_'. absurd (live no_ no_') }
+
   -- the producer word, and what the seat knows of it, change
-  lock_step : (s : table.State Consumer View) (r : Rule k s) (id x : ℕ) (v : View) (l : Lock) → get_elem? s.views id ≡ some v
+  lock_step : (s : table.State Consumer View) (r : Rule k s) (id x : ℕ) (v : View) (l : Lock) → get_elem? s.views id ≡ some v → IsLive v
       → HoldsBand k.len (words_of s.words).slots x (set (locks_of s.views) id l) (band_of r.state) r.state.ends → Rule k record { words = set s.words 8 x; homes = s.homes; views = set s.views id (with_lock l v) }
-  lock_step s r id x v l here ring =
+  lock_step s r id x v l here live ring =
       let p = r.parts in let g = r.state in let W = words_of s.words in let w : View = with_lock l v in
       rule_after k s r 8 x id s.homes r.home w (record W { producer = x }) g r.deep (set_producer s.words x (let wide = r.wide in omega arith)) record {
-        seats = seats_same k s.views id v w here W.ended p.seats refl refl refl refl (p.seats.known id v here);
+        seats = seats_same k s.views id v w here W.ended p.seats refl refl refl refl (live_seat v l (p.seats.known id v here) live);
         puts = puts_same k s.views id v w here g.line g.full p.puts refl refl;
         reads = reads_same k s.views id v w here W.ended g.line g.passed g.ends p.reads refl;
         ring = ring_step k s.views id v w here W.slots x g ring;
@@ -181,7 +197,7 @@ module _ (k : Setup) where
         keeps,
         tt,
         subst (λ c. Rule k (stepped s 8 (either c (found + 1) (get_or s.words 8 0)) id m.1 w keeps)) (sym (eq-eqb _ _ is))
-            (lock_step s r id (found + 1) v (locked_at i) here (subst (λ (x : ℕ). HoldsBand k.len W.slots (x + 1) (set (locks_of s.views) id (locked_at i)) (band_of r.state) r.state.ends) is ring)),
+            (lock_step s r id (found + 1) v (locked_at i) here (about_live v r.limits.some_slot (p.seats.known id v here) about) (subst (λ (x : ℕ). HoldsBand k.len W.slots (x + 1) (set (locks_of s.views) id (locked_at i)) (band_of r.state) r.state.ends) is ring)),
         ((λ _. (refl, subst (λ (x : Setup). i < x.len) (sym about) (let a = p.ring.index_within in let b = p.ring.word_is in let c = p.ring.one in omega arith))), λ no_. absurd (no_ is)),
       ))
       (λ no_. (
@@ -200,7 +216,7 @@ module _ (k : Setup) where
         w,
         keeps,
         tt,
-        lock_step s r id (2 * i) v unlocked here (subst (λ (x : ℕ). HoldsBand k.len W.slots (2 * x) (set (locks_of s.views) id unlocked) (band_of r.state) r.state.ends) (sym is) ring),
+        lock_step s r id (2 * i) v unlocked here (locks_live v (p.seats.known id v here) has) (subst (λ (x : ℕ). HoldsBand k.len W.slots (2 * x) (set (locks_of s.views) id unlocked) (band_of r.state) r.state.ends) (sym is) ring),
         refl,
       )
 
@@ -218,7 +234,7 @@ module _ (k : Setup) where
         keeps,
         tt,
         rule_load k s r (slot_word i) id w g record {
-          seats = seats_same k s.views id v w here W.ended p.seats refl refl refl refl (p.seats.known id v here);
+          seats = seats_same k s.views id v w here W.ended p.seats refl refl refl refl (live_seat v (with_room v.lock) (p.seats.known id v here) (locks_live v (p.seats.known id v here) has));
           puts = puts_same k s.views id v w here g.line g.full p.puts refl refl;
           reads = reads_same k s.views id v w here W.ended g.line g.passed g.ends p.reads refl;
           ring = ring_step k s.views id v w here W.slots W.producer g ring;
@@ -326,7 +342,7 @@ module _ (k : Setup) where
                     (λ x. p.seats.out_is id v here x ∙ sym still) (λ j u apart e h x. h x ∙ sym still);
                 ended_is = omega arith;
                 once = λ o. let fewer = total_set (λ u. times o (open_in k.senders u)) s.views id v w here in let q = ap (times o) open_here in let l = times_later o (v.sender.next % k.senders) v.reader.seatless in let e = p.seats.once o in omega arith;
-                known = each_same (λ u. IsSeat k u.about u.sender u.reader) s.views id w p.seats.known
+                known = each_same (λ u. IsSeat k u.about u.sender u.reader u.lock) s.views id w p.seats.known
                     (let q = p.seats.known id v here in record { reader_about = q.reader_about; sender_about = q.sender_about; sender = q.sender; going = λ e. absurd (cc); nothing = λ no_ no_'. absurd (true≢false (sym (q.going going) ∙ no_')) });
               };
               puts = record {

@@ -77,8 +77,8 @@ module _ (k : Setup) where
                 let d = ap (λ (os : List ℕ). length os) mine in let e = ap (λ (os : List ℕ). length os) left in let f = ap (λ (os : List ℕ). length os) right in let o = length_omitting sender v.reader.seatless has in omega arith;
             once = λ o. let a = total_snoc (λ u. times o (open_in k.senders u)) views x in let b = total_set (λ u. times o (open_in k.senders u)) s.views id v w here in let c = p.seats.once o in
                 let d = ap (times o) mine in let e = ap (times o) left in let f = ap (times o) right in let q = times_omitting sender o v.reader.seatless has in omega arith;
-            known = each_snoc (λ u. IsSeat k u.about u.sender u.reader) views x
-                (each_same (λ u. IsSeat k u.about u.sender u.reader) s.views id w p.seats.known
+            known = each_snoc (λ u. IsSeat k u.about u.sender u.reader u.lock) views x
+                (each_same (λ u. IsSeat k u.about u.sender u.reader u.lock) s.views id w p.seats.known
                 (let q = p.seats.known id v here in record { reader_about = q.reader_about; sender_about = q.sender_about; sender = λ e. absurd (true≢false (sym e ∙ no_sends)); going = q.going; nothing = q.nothing }))
                 record { reader_about = λ e. absurd (cc); sender_about = λ _. about; sender = λ _. refl; going = λ _. refl; nothing = λ _ e. absurd (cc) };
           };
@@ -139,10 +139,10 @@ module _ (k : Setup) where
                 (λ e. absurd (true≢false (sym e)));
             ended_is = let a = total_set (λ u. length (open_in k.senders u)) views other x spent_view there in let b = total_same (λ u. length (open_in k.senders u)) s.views id v w here refl in let c = p.seats.ended_is in let d = ap (λ (os : List ℕ). length os) closed in omega arith;
             once = λ o. let a = total_set (λ u. times o (open_in k.senders u)) views other x spent_view there in let b = total_same (λ u. times o (open_in k.senders u)) s.views id v w here refl in let c = p.seats.once o in let d = ap (times o) closed in omega arith;
-            known = each_same (λ u. IsSeat k u.about u.sender u.reader) views other spent_view
-                (each_same (λ u. IsSeat k u.about u.sender u.reader) s.views id w p.seats.known
+            known = each_same (λ u. IsSeat k u.about u.sender u.reader u.lock) views other spent_view
+                (each_same (λ u. IsSeat k u.about u.sender u.reader u.lock) s.views id w p.seats.known
                 record { reader_about = q.reader_about; sender_about = q.sender_about; sender = λ e. absurd (true≢false (sym reads ∙ ap (λ (z : ReaderPart). z.reads) (q.sender e))); going = q.going; nothing = λ none_. absurd (true≢false (sym reads ∙ none_)) })
-                record { reader_about = λ e. absurd (cc); sender_about = λ e. absurd (cc); sender = λ e. absurd (cc); going = λ e. absurd (cc); nothing = λ _ _. (refl, refl) };
+                record { reader_about = λ e. absurd (cc); sender_about = λ e. absurd (cc); sender = λ e. absurd (cc); going = λ e. absurd (cc); nothing = λ _ _. (refl, refl, refl, refl) };
           };
           puts = record {
             put_once = λ n. let a = total_set (λ u. times n u.sender.puts) views other x spent_view there in let b = total_set (λ u. times n u.sender.puts) s.views id v w here in let c = p.puts.put_once n in let d = times_append n v.sender.puts x.sender.puts in omega arith;
@@ -183,18 +183,18 @@ module _ (k : Setup) (s : table.State Consumer View) (r : Rule k s) (id : ℕ) (
   g = r.state
 
   -- every other seat is spent
-  alone : (j : ℕ) (u : View) → j ≢ id → get_elem? s.views j ≡ some u → (u.sender.puts ≡ []) × (u.sender.fulls ≡ [])
+  alone : (j : ℕ) (u : View) → j ≢ id → get_elem? s.views j ≡ some u → u.sender.puts ≡ []
   alone j u apart there =
       let not_reader : u.reader.reads ≡ false = ⊎_elim (λ yours. absurd (reads_alone s.views id j v u r.parts.seats.one_reader here there apart reads yours)) (λ e. e) (cases_Bool u.reader.reads) in
       let none_ = total_one sending s.views j u there in let out = r.parts.seats.out_is id v here reads in
       let not_sender : u.sender.sends ≡ false = ⊎_elim (λ (yours : u.sender.sends ≡ true). absurd (let a : sending u ≡ 1 = ap one_if yours in omega arith)) (λ e. e) (cases_Bool u.sender.sends) in
-      (r.parts.seats.known j u there).nothing not_reader not_sender
+      ((r.parts.seats.known j u there).nothing not_reader not_sender).0
 
   put_all : (n : ℕ) → times n v.sender.puts ≡ times n r.state.line
-  put_all n = sym (total_only (λ u. times n u.sender.puts) s.views id v here (λ j u apart there. ap (times n) (alone j u apart there).0)) ∙ r.parts.puts.put_once n
+  put_all n = sym (total_only (λ u. times n u.sender.puts) s.views id v here (λ j u apart there. ap (times n) (alone j u apart there))) ∙ r.parts.puts.put_once n
 
   long : length v.sender.puts ≡ length r.state.line
-  long = sym (total_only (λ u. length u.sender.puts) s.views id v here (λ j u apart there. ap (λ (ns : List ℕ). length ns) (alone j u apart there).0)) ∙ r.parts.puts.count
+  long = sym (total_only (λ u. length u.sender.puts) s.views id v here (λ j u apart there. ap (λ (ns : List ℕ). length ns) (alone j u apart there))) ∙ r.parts.puts.count
 
   pub settled : IsSettled v
   settled =

@@ -79,7 +79,7 @@ starts k home limits is =
           out_is = each_one (λ u. u.reader.reads ≡ true → u.reader.out ≡ total sending (v ∷ [])) v (λ _. refl);
           ended_is = let a = zero_at 24 in let b = length_counting 0 k.senders in omega arith;
           once = λ o. let a = once_counting o 0 k.senders in omega arith;
-          known = each_one (λ u. IsSeat k u.about u.sender u.reader) v record { reader_about = λ _. refl; sender_about = λ e. absurd (cc); sender = λ e. absurd (cc); going = λ e. absurd (cc); nothing = λ _ _. (refl, refl) };
+          known = each_one (λ u. IsSeat k u.about u.sender u.reader u.lock) v record { reader_about = λ _. refl; sender_about = λ e. absurd (cc); sender = λ e. absurd (cc); going = λ e. absurd (cc); nothing = λ e. absurd (cc) };
         };
         puts = record {
           put_once = λ n. refl;

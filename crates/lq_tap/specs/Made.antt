@@ -1,7 +1,7 @@
 -- The steps of a seat on the tap's words, by name.
 use Rattle.std.specs.Prelude.{ℕ, ◌+◌, ◌*◌, Bool}
 use Rattle.lq_log.specs.Made.{load, store, exchange, rise}
-pub use Rattle.lq_log.specs.Made.{Made, ◌⊳◌}
+pub use Rattle.lq_log.specs.Made.{Made, ◌⊳◌, cut, joined}
 
 -- THE WORDS, which stand so far apart that no two of these share a cache line of 64 bytes with each other or with a slot
 
@@ -50,6 +50,6 @@ did_load_ended found = load ended_word found
 abbrev pub did_end : Made
 did_end = rise ended_word 1
 
--- the load of word 0, which ends a join
+-- the load of word 0 that follows a join, by which the reader learns what is so then
 abbrev pub did_load_base : ℕ → Made
 did_load_base found = load 0 found

@@ -7,7 +7,7 @@ use Rattle.atomic_table.specs.Table as table
 use Rattle.lq_model.specs.Band.{Band}
 use Rattle.lq_band_laws.specs.Seats.{total, Each}
 use Rattle.lq_band_laws.specs.Times.{times}
-use Rattle.lq_band_laws.specs.Ring.{Ends, Lock, IsAtRest, HoldsBand}
+use Rattle.lq_band_laws.specs.Ring.{Ends, Lock, unlocked, IsAtRest, HoldsBand}
 use Rattle.lq_tap.specs.Views.{View, Setup, SenderPart, ReaderPart, no_reader}
 use Rattle.lq_tap.specs.Made.{producer_word, consumer_word, ended_word, slot_word}
 use Rattle.lq_tap.specs.Settled.{ComesBefore}
@@ -62,12 +62,13 @@ sending v = one_if v.sender.sends
 abbrev pub open_in : ℕ → View → List ℕ
 open_in senders v = if v.sender.going then (v.sender.next % senders) ∷ v.reader.seatless else v.reader.seatless
 
-pub record IsSeat (k : Setup) (about : Setup) (s : SenderPart) (r : ReaderPart) : Type 0 where
+pub record IsSeat (k : Setup) (about : Setup) (s : SenderPart) (r : ReaderPart) (l : Lock) : Type 0 where
   pub reader_about : r.reads ≡ true → about ≡ k
   pub sender_about : s.sends ≡ true → about ≡ k
   pub sender : s.sends ≡ true → r ≡ no_reader
   pub going : s.going ≡ true → s.sends ≡ true
-  pub nothing : r.reads ≡ false → s.sends ≡ false → (s.puts ≡ []) × (s.fulls ≡ [])
+  -- a seat that was joined into another has nothing, no lock either, and is of no tap
+  pub nothing : r.reads ≡ false → s.sends ≡ false → (s.puts ≡ []) × (s.fulls ≡ []) × (l ≡ unlocked) × (about.len ≡ 0)
 
 -- one seat is the reader's and knows how many others there are; each sender that has not ended is one seat's
 pub record Seats (k : Setup) (ended : ℕ) (views : List View) : Type 0 where
@@ -75,7 +76,7 @@ pub record Seats (k : Setup) (ended : ℕ) (views : List View) : Type 0 where
   pub out_is : Each (λ v. v.reader.reads ≡ true → v.reader.out ≡ total sending views) views
   pub ended_is : ended + total (λ v. length (open_in k.senders v)) views ≡ k.senders
   pub once : (o : ℕ) → total (λ v. times o (open_in k.senders v)) views ≤ 1
-  pub known : Each (λ v. IsSeat k v.about v.sender v.reader) views
+  pub known : Each (λ v. IsSeat k v.about v.sender v.reader v.lock) views
 
 -- PUTS
 

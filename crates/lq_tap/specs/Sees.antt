@@ -1,5 +1,5 @@
 -- What a clause says of a tap and its seats.
-use Rattle.std.specs.Prelude.{◌≡◌, ℕ, ◌<◌, true, false, List, [], ◌∷◌}
+use Rattle.std.specs.Prelude.{◌≡◌, ℕ, ◌+◌, ◌<◌, true, false, List, [], ◌∷◌}
 use Rattle.lq_ring_core.specs.Ring.{place_before}
 use Rattle.lq_band_laws.specs.Ring.{unlocked, IsAtRest}
 use Rattle.lq_tap.specs.Views.{View, Setup}
@@ -18,6 +18,10 @@ view c = c.seat.me.0.view
 -- the steps that it made, the latest first
 abbrev pub steps : TapSeat → List Made
 steps c = c.seat.me.0.steps
+
+-- a new seat, which made no step, and was cut off this one
+abbrev pub IsCutOff : TapSeat → TapSeat → Type 0
+IsCutOff from c = (steps c ≡ []) × (c.seat.me.0.depth ≡ from.seat.me.0.depth + 1)
 
 -- the slot that has the consumer's ends, where it has the consumer lock
 abbrev pub slot : TapSeat → List (ℕ × Consumer)

@@ -1,11 +1,11 @@
 //! Making a sender's seat, and taking one in.
-ghost use Rattle.std.specs.Prelude.{◌≡◌, ◌<◌, ℕ, true, false, []};
+ghost use Rattle.std.specs.Prelude.{◌≡◌, ◌<◌, ℕ, true, false};
 ghost use Rattle.lq_band_laws.specs.Times.{times};
 ghost use Rattle.lq_tap.specs.Views.{sender_view, spent_view};
 ghost use Rattle.lq_tap.specs.Told.{having_split, having_joined};
 ghost use Rattle.lq_tap.specs.Settled.{IsSettled};
-ghost use Rattle.lq_tap.specs.Sees.{view, steps, setup, IsReaderOf, IsSenderOf};
-ghost use Rattle.lq_tap.specs.Made.{◌⊳◌, did_load_base};
+ghost use Rattle.lq_tap.specs.Sees.{view, steps, setup, IsReaderOf, IsSenderOf, IsCutOff};
+ghost use Rattle.lq_tap.specs.Made.{◌⊳◌, cut, joined, did_load_base};
 
 use crate::shared::{Tap, TapSeat};
 use crate::view::Knowledge;
@@ -28,8 +28,8 @@ impl Tap {
         requires sender { (sender < self.now.senders) × (0 < times sender (view seat.old).reader.seatless) }
         ensures seat { IsReaderOf self.now seat.new }
         ensures view { view seat.new ≡ having_split sender (view seat.old) }
-        ensures steps { steps seat.new ≡ steps seat.old }
-        ensures other { IsSenderOf self.now result × (view result ≡ sender_view (setup self.now) sender) × (steps result ≡ []) }
+        ensures steps { steps seat.new ≡ steps seat.old ⊳ cut }
+        ensures other { IsSenderOf self.now result × (view result ≡ sender_view (setup self.now) sender) × IsCutOff seat.old result }
     {
         TapSeat {
             seat: self.table.split_seat::<Brand, _>(&mut seat.seat, &sender),
@@ -43,7 +43,7 @@ impl Tap {
         requires other { IsSenderOf self.now from × ((view from).sender.going ≡ false) }
         ensures seat { IsReaderOf self.now into.new }
         ensures view { view into.new ≡ having_joined (view from) (view into.old) }
-        ensures steps { (found : ℕ) × (steps into.new ≡ steps into.old ⊳ did_load_base found) }
+        ensures steps { (found : ℕ) × (steps into.new ≡ joined (steps from) (steps into.old) ⊳ did_load_base found) }
         ensures settled { (view into.new).reader.out ≡ 0 → (view into.new).reader.drained ≡ true → IsSettled (view into.new) }
     {
         let TapSeat { seat } = from;

@@ -1,5 +1,6 @@
 //! The whole run: its memory is taken first, then the senders and the reader run side by side, and then their seats are joined.
-ghost use Rattle.std.specs.Prelude.{◌≡◌, ◌+◌, ◌<◌, ◌≤◌, ◌-◌, ℕ, [], IfOk, length, vec_capacity, vec_len};
+ghost use Rattle.std.specs.Prelude.{◌≡◌, ◌+◌, ◌<◌, ◌≤◌, ◌-◌, ℕ, [], IfOk, length, replicate, vec_capacity, vec_len};
+ghost use Rattle.lq_tap.specs.Made.{cut};
 ghost use Rattle.lq_tap.specs.Sees.{IsMadeFor, IsReaderOf, setup, steps, view};
 ghost use Rattle.lq_tap.specs.Settled.{IsSettled};
 ghost use Rattle.lq_tap.specs.Views.{first_view};
@@ -8,7 +9,7 @@ ghost use Rattle.lq_tap_run.specs.Lanes.{AreDone, AreReady, CanPut};
 ghost use Rattle.lq_tap_run.specs.Marks.{AreMarkedFull};
 ghost use Rattle.lq_tap_run.specs.Reads.{CanRead, HasRead, HasReadAll, IsReaderDone, KeepsReads};
 ghost use Rattle.lq_tap_run.specs.Rounds.{JoinsSeats, ReadsByHalves};
-ghost use Rattle.lq_tap_run.specs.Runs.{AreSplit, HasJoined};
+ghost use Rattle.lq_tap_run.specs.Runs.{AreSplit, HasJoined, IsReaderOfFates};
 
 use crate::fates::{mark_full, mark_read, unknown};
 use crate::lanes::{Lane, all_put};
@@ -56,11 +57,11 @@ fn make_lanes(
 ) -> Result<Vec<Lane>, NoMemory>
     requires made { (len : ℕ) × IsMadeFor packets len senders tap.now }
     requires few { (packets ≤ 1000000) × (0 < senders) × (senders ≤ 8) }
-    requires seat { IsReaderOf tap.now seat.old × (view seat.old ≡ first_view (setup tap.now)) }
+    requires seat { IsReaderOf tap.now seat.old × (view seat.old ≡ first_view (setup tap.now)) × (steps seat.old ≡ []) }
     ensures ready { IfOk result (λ lanes. AreReady tap.now packets senders lanes.items × (length lanes.items ≡ senders)) }
     ensures split { IfOk result (λ _. AreSplit tap.now senders senders seat.new) }
     ensures fresh { IfOk result (λ _. ((view seat.new).reader.taken ≡ []) × ((view seat.new).reader.destroyed ≡ [])) }
-    ensures steps { IfOk result (λ _. steps seat.new ≡ steps seat.old) }
+    ensures steps { IfOk result (λ _. steps seat.new ≡ replicate senders cut) }
 {
     senders_in_order();
     let room = packets as usize / senders as usize + 1;
@@ -175,6 +176,7 @@ fn decide<'r, G: Gate>(
     requires fates { AreMarkedFull run.now.packets [] fates.items }
     ensures run { IsTapRun run.now.packets run.now.senders run.now.tap.now.len result.fates.items result.read.items }
     ensures reader { (result.read.items ≡ reader.read.items) × JoinsSeats (steps reader.seat) (steps result.seat) }
+    ensures ring { IsReaderOfFates run.now.packets run.now.senders run.now.tap.now.len result.fates.items result.seat }
 {
     let Reader {
         mut seat,
@@ -205,6 +207,8 @@ pub fn tap_all<R: Threads + Wait + Sync, G: Gate>(
     // The reader's steps: each batch was asked for with BATCH places, its second half was given back, and it went on until a batch was empty
     // behind a look at which all senders had ended.
     ensures reader { IfOk result (λ tapped. ReadsByHalves len senders batch tapped.read.items tapped.seat) }
+    // The reader's seat is one of the ring whose fates these are.
+    ensures ring { IfOk result (λ tapped. IsReaderOfFates packets senders len tapped.fates.items tapped.seat) }
 {
     let fates = unknown(on.alloc, packets)?;
     let (tap, mut seat) = Tap::make(on.alloc, packets, len, senders)?;

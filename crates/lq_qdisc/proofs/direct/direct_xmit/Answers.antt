@@ -6,6 +6,7 @@ use Rattle.lq_qdisc.specs.declared.answers.Through.TheVariants.{Back}
 use Rattle.lq_qdisc.specs.declared.answers.Why.TheVariants.{Stopped}
 use Rattle.lq_qdisc.proofs.OfferLemmas.{offers_directs}
 use Rattle.lq_qdisc.proofs.DirectLemmas.{lays_aside, sees_open}
+use Rattle.lq_qdisc.proofs.TakeLemmas.{carries_slot}
 use Rattle.lq_qdisc.proofs.direct.direct_xmit.Goals as goal
 
 pub returns-then-load_xoff-ne0 : goal.returns-then-load_xoff-ne0
@@ -55,3 +56,6 @@ start_xmit-requires-clause-may g c κs within = record {
   running = search rules;
   is_open = sees_open c.queue_of-queue.result c.load_xoff.result (packet_at c.args.shared.now c.args.n) c.requires.may.0 c.args.cpu.now c.load_xoff.new.cpu c.if-load_xoff-ne0.false c.requires.may.1.at c.requires.may.1.serving.3 c.load_xoff.ensures.view c.load_xoff.ensures.sole;
 }
+
+pub load_xoff-requires-clause-slot : goal.load_xoff-requires-clause-slot
+load_xoff-requires-clause-slot g c _ _ = carries_slot c.args.cpu.now c.requires.may.1.serving

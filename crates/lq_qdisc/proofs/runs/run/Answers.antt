@@ -7,7 +7,7 @@ use Rattle.lq_table.specs.Views.{View}
 use Rattle.lq_qdisc.specs.Steps.{RunsBy, SendsBy}
 use Rattle.lq_qdisc.proofs.StepLemmas.{sends_more_by}
 use Rattle.lq_qdisc.proofs.ViewLemmas.{runs_view}
-use Rattle.lq_qdisc.proofs.TakeLemmas.{kept_moved, kept_then, seat_in, serving_same}
+use Rattle.lq_qdisc.proofs.TakeLemmas.{carries_slot, kept_moved, kept_then, seat_in, serving_same}
 use Rattle.lq_qdisc.proofs.RunLemmas.{count, fates_then, laid_at_quota, over_at_quota, set_at_quota}
 use Rattle.lq_qdisc.specs.declared.answers.Ran.{Ran}
 use Rattle.lq_qdisc.specs.declared.answers.RunEnd.TheVariants.{Quota}
@@ -87,3 +87,6 @@ returns g c =
           runs_alone k c.args.shared.now.infos.now (view c.args.cpu.now) c.requires.seat.2 sender active (λ other. accounts_slot (view c.args.cpu.now) (knows other)) ran (view c.set_missed.new.cpu)
           (runs_view k ran (known c.args.cpu.now) (known c.set_missed.new.cpu) ran_);
     }
+
+pub set_missed-requires-clause-slot : goal.set_missed-requires-clause-slot
+set_missed-requires-clause-slot g c _ _ = carries_slot c.loop-sent.cpu c.loop-sent.invariant.serving

@@ -9,7 +9,7 @@ use Rattle.lq_table.specs.Sees.{view, known, steps, setup}
 use Rattle.lq_table.specs.Moves.{pass_view}
 use Rattle.lq_table.specs.States.{set_bit_view}
 use Rattle.lq_qdisc.specs.Calls.{FindsStopped, laid_aside}
-use Rattle.lq_qdisc.proofs.TakeLemmas.{finds_stopped, kept_moved, kept_then, looks_dequeue, looks_from, open_for, opened_at_dequeue, serving_same, stop_is, stopped_at_dequeue}
+use Rattle.lq_qdisc.proofs.TakeLemmas.{carries_slot, carries_still, finds_stopped, kept_moved, kept_then, looks_dequeue, looks_from, open_for, opened_at_dequeue, serving_same, stop_is, stopped_at_dequeue}
 use Rattle.lq_qdisc.specs.Steps.{ClearsMaybe, LooksThrough, found_open}
 use Rattle.lq_model.specs.declared.machine.Blocked.TheVariants.{NoneTaken}
 use Rattle.lq_qdisc.proofs.takes.dequeue_open.Goals as goal
@@ -90,3 +90,12 @@ returns-then-load_xoff-ne0 g c = record {
         ),
   );
 }
+
+pub load_xoff-requires-clause-slot : goal.load_xoff-requires-clause-slot
+load_xoff-requires-clause-slot g c _ _ = carries_slot c.args.cpu.now c.requires.may.serving
+
+pub maybe_clear_missed-requires-clause-slot : goal.maybe_clear_missed-requires-clause-slot
+maybe_clear_missed-requires-clause-slot g c κs within =
+    let l = c.load_xoff.ensures in
+    let e = stopped_at_dequeue c.load_xoff.result None (view c.args.cpu.now) (view c.load_xoff.new.cpu) l.view c.requires.may.at c.requires.may.empty c.if-load_xoff-ne0.true in
+    carries_still c.args.cpu.now c.load_xoff.new.cpu l.same.1 (ap (λ (v : View). v.holder.slot) e) (carries_slot c.args.cpu.now c.requires.may.serving)

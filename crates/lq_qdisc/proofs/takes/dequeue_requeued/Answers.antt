@@ -11,7 +11,7 @@ use Rattle.lq_table.specs.Sees.{view, known, steps, setup, account_of, solo}
 use Rattle.lq_table.specs.Moves.{pass_view}
 use Rattle.lq_table.specs.States.{set_bit_view}
 use Rattle.lq_qdisc.specs.Calls.{FindsPacket, FindsStopped, Picks, laid_aside}
-use Rattle.lq_qdisc.proofs.TakeLemmas.{finds_stopped, kept_moved, kept_then, opened_at_dequeue, serving_same, serving_with, stop_is, stopped_at_dequeue}
+use Rattle.lq_qdisc.proofs.TakeLemmas.{carries_slot, carries_still, finds_stopped, kept_moved, kept_then, opened_at_dequeue, serving_same, serving_with, stop_is, stopped_at_dequeue}
 use Rattle.lq_qdisc.specs.Steps.{ClearsMaybe, FindsStopWord}
 use Rattle.lq_model.specs.Plan.{queue_in}
 use Rattle.lq_model.specs.declared.machine.Blocked.TheVariants.{NoneTaken}
@@ -100,3 +100,12 @@ returns g c = record {
         ),
   );
 }
+
+pub load_xoff-requires-clause-slot : goal.load_xoff-requires-clause-slot
+load_xoff-requires-clause-slot g c _ _ = carries_slot c.args.cpu.now c.requires.serving
+
+pub maybe_clear_missed-requires-clause-slot : goal.maybe_clear_missed-requires-clause-slot
+maybe_clear_missed-requires-clause-slot g c κs within =
+    let l = c.load_xoff.ensures in
+    let e = stopped_at_dequeue c.load_xoff.result (Some c.args.n) (view c.args.cpu.now) (view c.load_xoff.new.cpu) l.view c.requires.at c.requires.slot.0 c.if-load_xoff-ne0.true in
+    carries_still c.args.cpu.now c.load_xoff.new.cpu l.same.1 (ap (λ (v : View). v.holder.slot) e) (carries_slot c.args.cpu.now c.requires.serving)

@@ -1,9 +1,10 @@
 use Rattle.std.proofs.Common.{rules, ◌≡◌, List, inl, inr, sym, ap, ◌∙◌}
 use Rattle.lq_table.specs.Made.{Made, ◌⊳◌}
 use Rattle.lq_table.specs.States.{clear_missed_log, set_draining_log, set_missed_log}
-use Rattle.lq_table.specs.Stops.{load_xoff_log}
+use Rattle.lq_table.specs.Stops.{load_xoff_log, load_xoff_view}
+use Rattle.lq_table.specs.Views.{View}
 use Rattle.lq_table.specs.Sees.{view, setup, steps}
-use Rattle.lq_qdisc.proofs.TakeLemmas.{LeavesBlocked, leaves_blocked, stop_loaded_again}
+use Rattle.lq_qdisc.proofs.TakeLemmas.{LeavesBlocked, blocked_slot, carries_still, leaves_blocked, stop_loaded_again}
 use Rattle.lq_qdisc.proofs.takes.maybe_clear_missed.Goals as goal
 use Rattle.lq_qdisc.proofs.takes.maybe_clear_missed.Goals.{After-load_xoff, After-set_draining, After-set_missed}
 
@@ -61,3 +62,14 @@ returns-else-load_xoff-eq0 g c = record {
       (c.load_xoff.result, (stopped g c).is, inr (c.if-load_xoff-eq0.false, made.0, all));
   sole = search rules;
 }
+
+-- the requeue slot is as it was
+pub load_xoff-requires-clause-slot : goal.load_xoff-requires-clause-slot
+load_xoff-requires-clause-slot g c _ _ =
+    let a = c.clear_missed.ensures in carries_still c.args.cpu.now c.clear_missed.new.cpu a.same.1 (ap (λ (v : View). v.holder.slot) a.view) c.requires.slot
+
+pub set_missed-requires-clause-slot : goal.set_missed-requires-clause-slot
+set_missed-requires-clause-slot g c _ _ =
+    let a = c.clear_missed.ensures in let l = c.load_xoff.ensures in let at_ = c.requires.at in
+    carries_still c.args.cpu.now c.load_xoff.new.cpu (l.same.1 ∙ a.same.1)
+    (ap (λ (v : View). v.holder.slot) (l.view ∙ ap (load_xoff_view c.load_xoff.result) a.view) ∙ blocked_slot at_.0 c.load_xoff.result (view c.args.cpu.now) at_.1) c.requires.slot

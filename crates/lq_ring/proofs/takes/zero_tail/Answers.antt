@@ -1,7 +1,8 @@
-use Rattle.std.proofs.Common.{◌≡◌, ℕ, suc, ◌+◌, ◌-◌, ◌<◌, List, sym, ap, ◌∙◌, subst, arith}
+use Rattle.std.proofs.Common.{◌≡◌, ℕ, suc, ◌+◌, ◌-◌, ◌<◌, List, refl, sym, ap, ◌∙◌, subst, arith}
 use Rattle.lq_band_laws.specs.Three.{at}
 use Rattle.lq_band_laws.specs.Ring.{Ends, emptied_down}
-use Rattle.lq_band_laws.proofs.Kept.{down_more}
+use Rattle.lq_band_laws.proofs.Kept.{down_here, down_more}
+use Rattle.lq_band_laws.proofs.Three.{at_put_same}
 use Rattle.lq_table.specs.Consumers.{zero_slot_view}
 use Rattle.lq_table.specs.Sees.{view, steps, setup, ends_at}
 use Rattle.lq_table.specs.Views.{View}
@@ -9,7 +10,7 @@ use Rattle.lq_table.specs.Made.{Made, ◌⊳◌}
 use Rattle.lq_table.specs.Producers.{store_slot_log}
 use Rattle.lq_ring.specs.Steps.{zeroed}
 use Rattle.lq_ring.specs.Take.{having_ends, emptied_times}
-use Rattle.lq_ring.proofs.TakeSteps.{emptying_having}
+use Rattle.lq_ring.proofs.TakeSteps.{emptying_having, having_same}
 use Rattle.lq_ring.proofs.takes.zero_tail.Goals as goal
 
 pub loop-n-preserved : goal.loop-n-preserved
@@ -28,3 +29,25 @@ loop-n-preserved g c =
       view_is = is;
       made = c.zero_slot.ensures.made ∙ ap (λ (xs : List Made). xs ⊳ store_slot_log (setup c.args.shared.now) b (c.args.head - 1 - n) 0) old.made ∙ ap (λ (m : ℕ). zeroed (setup c.args.shared.now) b c.args.head m (steps c.args.cpu.now)) (sym one);
     }
+
+pub loop-n-init : goal.loop-n-init
+loop-n-init g c =
+    let b = c.args.band in let v = view c.args.cpu.now in let size = v.holder.size in let own : Ends = ends_at b c.args.cpu.now in let ends = c.requires.ends in let inside = ends.1 in
+    let head : own.head ≡ c.args.head = ap (λ (e : Ends). e.head) ends.0 in let tail : own.tail ≡ c.args.tail = ap (λ (e : Ends). e.tail) ends.0 in
+    let edge : own.edge ≡ c.args.head = ap (λ (e : Ends). e.edge) ends.0 in let first : own.head - 0 ≡ own.edge = omega arith in
+    let none : emptied_down size own 0 ≡ own = down_here size own 0 (omega arith) ∙ (λ j. record { head = own.head; tail = own.tail; edge = first j }) in record {
+      seat = c.requires.seat;
+      same = ((refl, refl), refl, refl, refl);
+      view_is = sym (ap (λ (e : Ends). having_ends b e (at b v.whole.state.ends) v) none ∙ having_same b v);
+      made = refl;
+    }
+
+-- the head and the tail are as they were while a slot is still to be emptied
+pub zero_slot-requires-clause-ends : goal.zero_slot-requires-clause-ends
+zero_slot-requires-clause-ends g c κs within_ =
+    let b = c.args.band in let v = view c.args.cpu.now in let n = c.loop-n.n in let old = c.loop-n.invariant in let size = v.holder.size in
+    let own : Ends = ends_at b c.args.cpu.now in let ends = c.requires.ends in let before = c.requires.before in let more = c.loop-n-test.true in let inside = ends.1 in
+    let head : own.head ≡ c.args.head = ap (λ (e : Ends). e.head) ends.0 in let tail : own.tail ≡ c.args.tail = ap (λ (e : Ends). e.tail) ends.0 in
+    let is : ends_at b c.loop-n.cpu ≡ record { head = own.head; tail = own.tail; edge = own.head - n } =
+    ap (λ (x : View). at b x.holder.ends) old.view_is ∙ (at_put_same b (emptied_down size own n) v.holder.ends ∙ down_here size own n (omega arith)) in
+    (before.0, old.same.1 ∙ before.1, before.2 ∙ sym (ap (λ (e : Ends). e.head) is), before.3 ∙ sym (ap (λ (e : Ends). e.tail) is))

@@ -37,3 +37,12 @@ returns-clause-run g c =
     is_run _ _ _ _ _ (ends g (goal.at.returns-clause-run g c).After-join_all) fates
     (subst (λ (xs : List ℕ). AreMarked count fulls xs fates) c.deref.ensures.value
     (c.mark_read.ensures count fulls c.join_all.ensures.fates))
+
+pub returns-clause-ring : goal.returns-clause-ring
+returns-clause-ring g c =
+    let run = c.args.run.now in let count = run.packets in let seat = c.join_all.new.seat in let fulls = (view seat).sender.fulls in let fates = c.mark_read.new.fates.items in
+    let made = run.may.made in let joined = c.join_all.ensures.joined in record {
+      about = joined.0.reader.0.1 ∙ (λ j. record { packets = made.0 j; len = run.tap.now.len; senders = made.2 j });
+      settled = joined.1;
+      fates = subst (λ (xs : List ℕ). AreMarked count fulls xs fates) (c.deref.ensures.value ∙ sym (c.join_all.ensures.reader.0 ∙ c.requires.read.taken)) (c.mark_read.ensures count fulls c.join_all.ensures.fates);
+    }

@@ -74,7 +74,7 @@ loop-lane-preserved g c =
       destroyed = ap (λ (v : View). v.reader.destroyed) is ∙ inv.destroyed;
       marked = subst (λ (fs : List (ℕ × ℕ)). AreMarkedFull c.args.run.now.packets fs c.mark_full.new.fates.items) (sym fulls) (c.mark_full.ensures c.args.run.now.packets old.sender.fulls inv.marked);
       steps_are = subst (λ (made : List Made). JoinsSeats (steps c.args.seat.now) made) (sym c.join.ensures.steps.1)
-          (one_joined c.join.ensures.steps.0 (steps c.loop-lane.seat) inv.steps_are);
+          (one_joined c.join.ensures.steps.0 (steps lane.seat) (steps c.loop-lane.seat) inv.steps_are);
       lanes = rest_done c.args.run.now.tap.now c.args.run.now.packets c.args.run.now.senders c.loop-lane.lanes.items rest lane inv.lanes c.in-Some.ensures.items;
       few = (let few = inv.few in omega arith);
     }

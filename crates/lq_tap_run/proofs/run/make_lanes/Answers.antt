@@ -1,4 +1,6 @@
-use Rattle.std.proofs.Common.{◌≡◌, ◌<◌, ◌∙◌, ◌+◌, ◌-◌, suc, List, length, vec_len, ap, sym, subst, arith}
+use Rattle.std.proofs.Common.{◌≡◌, ◌<◌, ◌∙◌, ◌+◌, ◌-◌, ℕ, suc, List, length, vec_len, ap, sym, subst, arith}
+use Rattle.std.specs.Prelude.{replicate}
+use Rattle.lq_tap.specs.Made.{Made, ◌⊳◌, cut}
 use Rattle.lq_tap.specs.Told.{omitting}
 use Rattle.lq_tap.specs.Views.{View, counting}
 use Rattle.lq_tap_run.specs.Lanes.{AreReady, IsLaneReady}
@@ -35,7 +37,7 @@ loop-sender-preserved c =
         taken = ap (λ (v : View). v.reader.taken) is ∙ was.taken;
         destroyed = ap (λ (v : View). v.reader.destroyed) is ∙ was.destroyed;
       };
-      steps_are = c.split.ensures.steps ∙ inv.steps_are;
+      steps_are = c.split.ensures.steps ∙ (ap (λ (made : List Made). made ⊳ cut) inv.steps_are ∙ ap (λ (n : ℕ). replicate n cut) (let one : suc sender ≡ sender + 1 = omega arith in one));
       ready = subst (λ (ls : List Lane). AreReady c.args.tap.now c.args.packets senders ls) (sym c.push_reserved.ensures.items)
           (one_more_ready c.args.tap.now c.args.packets senders lanes lane inv.ready (subst (λ k. IsLaneReady c.args.tap.now c.args.packets senders k lane) long ready));
       long = (let more = c.push_reserved.ensures.len in omega arith);
