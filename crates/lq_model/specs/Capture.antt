@@ -1,6 +1,6 @@
 -- Captures: files in the classic libpcap format 2.4 (pcap-savefile). A capture is a file header of 24 bytes and then
 -- packet records to the end of the file. All numbers of a file have one byte order, which the magic number shows.
-use Rattle.std.specs.Prelude.{ℕ, zero, suc, ◌+◌, ◌*◌, Bool, ◌||◌, not, nat_lt, nat_le, ◌==◌, if◌then◌else◌, List, ◌++◌, length, take, drop, map, slice_range, Option, Some, None, Result, Ok, Err}
+use Rattle.std.specs.Prelude.{ℕ, zero, suc, ◌+◌, ◌-◌, ◌*◌, Bool, ◌&&◌, ◌||◌, not, nat_lt, nat_le, ◌==◌, if◌then◌else◌, List, ◌++◌, length, take, drop, map, filter, slice_get, slice_range, Option, Some, None, Result, Ok, Err}
 use Rattle.std.specs.Int.{w16, w32, from_le_bytes, from_be_bytes}
 use Rattle.std.specs.List.{flat_map}
 use Rattle.std.specs.Option.{option_map_or}
@@ -48,12 +48,16 @@ major_version bytes = short_number_at bytes 4
 --       0      4  seconds since the start of 1970
 --       4      4  microseconds or nanoseconds after that
 --       8      4  captured length, at most 262,144
---      12      4  length on the wire, not interpreted
+--      12      4  length on the wire
 --      16         the captured bytes of the packet
 
 -- the captured length of the record that begins at a place
 abbrev pub captured_length : List ℕ → ℕ → ℕ
 captured_length bytes place = number_at bytes (place + 8)
+
+-- its length on the wire
+abbrev pub wire_length : List ℕ → ℕ → ℕ
+wire_length bytes place = number_at bytes (place + 12)
 
 -- where that record ends
 abbrev pub end_of : List ℕ → ℕ → ℕ
@@ -135,12 +139,20 @@ abbrev pub capture_text : Capture → List ℕ → List ℕ
 capture_text c packets = header_of c ++ flat_map (record_of c) packets
 
 -- THE PACKETS OF A CAPTURE, in whatever format: how many there are, and of each by its number its link type, its captured
--- bytes and its time in nanoseconds
+-- bytes, its time in nanoseconds and its length on the wire, which may be more than was captured
 pub record Packets : Type 0 where
   pub count : ℕ
   pub link : ℕ → ℕ
   pub frame : ℕ → List ℕ
   pub time : ℕ → ℕ
+  pub length : ℕ → ℕ
 
 abbrev pub packets_of : Capture → Packets
-packets_of c = record { count = c.count; link = λ i. link_of c; frame = frame_of c; time = time_of c }
+packets_of c = record { count = c.count; link = λ i. link_of c; frame = frame_of c; time = time_of c; length = λ i. wire_length c.bytes (place_of c.bytes i) }
+
+-- the first packet whose time is before that of the packet before it, if there is one
+abbrev pub goes_back : Packets → ℕ → Bool
+goes_back packets n = nat_lt 0 n && nat_lt (packets.time n) (packets.time (n - 1))
+
+abbrev pub first_back : Packets → Option ℕ
+first_back packets = slice_get (filter (goes_back packets) (first_numbers packets.count)) 0

@@ -36,6 +36,8 @@ pub mod Complete
 pub mod Openings
 -- the run of one sender
 pub mod Alone
+-- a card on a wire: when the queue of its station is opened, and when each frame leaves
+pub mod Wire
 -- small runs of one sender
 pub mod Runs
 -- THE MACHINE OF THE RUN LOCK

@@ -1,8 +1,11 @@
--- How often the stopped queues are opened after a packet: by the number of packets that its sender has sent, or by the capture's time.
+-- How often the stopped queues are opened after a packet: by the number of packets that its sender has sent, by the capture's time, or as a card
+-- on a wire has room.
 use Rattle.std.specs.Prelude.{ℕ, ◌+◌, ◌-◌, ◌*◌, ◌/◌, ◌%◌, min, nat_lt, ◌==◌, if◌then◌else◌, count_by}
 use Rattle.lq_model.specs.Capture.{Packets}
 use Rattle.lq_model.specs.Numbers.{first_numbers}
-use Rattle.lq_model.specs.Plan.{Plan, owner_of}
+use Rattle.std.specs.Option.{option_map_or}
+use Rattle.lq_model.specs.Plan.{Plan, card_of, infos_of, owner_of}
+use Rattle.lq_model.specs.Wire.{openings_of_card}
 use Rattle.lq_model.specs.declared.plan.Irq.{Irq}
 use Rattle.lq_model.specs.declared.plan.Irq.TheVariants.{Every, Period}
 
@@ -21,5 +24,7 @@ openings_by (Every count) plan packets n = if number_among_own plan packets n % 
 openings_by (Period microseconds) plan packets n =
     if nat_lt (n + 1) packets.count then min 65535 (multiples_between (microseconds * 1000) (packets.time n) (packets.time (n + 1))) else 0
 
+-- of a plan with a card, as often as the card opens its station's queue; of every other plan as it says
 abbrev pub openings : Plan → Packets → ℕ → ℕ
-openings plan packets n = openings_by plan.irq plan packets n
+openings plan packets n =
+    option_map_or (λ card. openings_of_card card plan packets (infos_of plan packets) n) (card_of plan) (openings_by plan.irq plan packets n)

@@ -1,11 +1,14 @@
 -- Plans, and what each packet of a capture is to the rules.
-use Rattle.std.specs.Prelude.{◌≡◌, ◌<◌, ℕ, ◌+◌, ◌/◌, ◌%◌, Bool, true, false, ◌&&◌, ◌==◌, nat_le, nat_lt, if◌then◌else◌, List, [], ◌∷◌, length, take, map, sum, count_by, slice_get}
-use Rattle.std.specs.Option.{option_map_or}
+use Rattle.std.specs.Prelude.{◌≡◌, ◌<◌, ℕ, ◌+◌, ◌/◌, ◌%◌, Bool, true, false, ◌&&◌, ◌==◌, nat_le, nat_lt, if◌then◌else◌, List, [], ◌∷◌, length, take, map, sum, count_by, Option, slice_get}
+use Rattle.std.specs.Option.{option_and_then, option_map_or}
 use Rattle.lq_model.specs.Flow.{flow_of}
 use Rattle.lq_model.specs.Numbers.{first_numbers}
 use Rattle.lq_model.specs.Capture.{Packets}
 use Rattle.lq_model.specs.Class.{priority_of, band_of, source_byte_of, route_byte_of}
 use Rattle.lq_model.specs.declared.fate.Info.{Info}
+use Rattle.lq_model.specs.declared.plan.Card.{Card}
+use Rattle.lq_model.specs.declared.plan.Classify.{Classify}
+use Rattle.lq_model.specs.declared.plan.Classify.TheVariants as classify
 use Rattle.lq_model.specs.declared.plan.EventKind.{EventKind}
 use Rattle.lq_model.specs.declared.plan.EventKind.TheVariants.{Swap}
 use Rattle.lq_model.specs.declared.plan.EventPlan.{EventPlan}
@@ -26,6 +29,8 @@ pub record Plan : Type 0 where
   pub split : Split
   -- by what each packet's station, queue and child are chosen
   pub spread : Spread
+  -- how each packet gets its priority
+  pub classify : Classify
   -- when the stopped queues are opened
   pub irq : Irq
   -- the stations, group by group; and how many of them each group has
@@ -37,6 +42,10 @@ pub record Plan : Type 0 where
 -- whether the times of a capture are read
 abbrev pub reads_times : Plan → Bool
 reads_times plan = nat_le 4 plan.version
+
+-- the card that opens its one station's queue, if one does
+abbrev pub card_of : Plan → Option Card
+card_of plan = option_and_then (λ s. s.card) (slice_get plan.stations 0)
 
 -- UNITS
 --
@@ -123,11 +132,16 @@ abbrev pub rank_of : Plan → Packets → ℕ → ℕ
 rank_of plan packets n =
     count_by (λ m. (owner_of plan packets m == owner_of plan packets n) && (station_of plan packets m == station_of plan packets n)) (first_numbers n)
 
+-- its priority, which chooses its band
+abbrev pub priority_by : Classify → Packets → ℕ → ℕ
+priority_by classify.Tos packets n = priority_of (packets.link n) (packets.frame n)
+priority_by classify.Never packets n = 0
+
 abbrev pub info_of : Plan → Packets → ℕ → Info
 info_of plan packets n = record {
   owner = owner_of plan packets n;
   station = station_of plan packets n;
-  band = band_of (priority_of (packets.link n) (packets.frame n));
+  band = band_of (priority_by plan.classify packets n);
   queue = queue_of plan packets n;
   rank = rank_of plan packets n;
 }

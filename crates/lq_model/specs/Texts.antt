@@ -1,8 +1,10 @@
 -- The lines that tell what became of the packets.
-use Rattle.std.specs.Prelude.{ℕ, Bool, true, false, ◌&&◌, ◌==◌, List, [], ◌∷◌, ◌++◌, length, count_by, codes}
+use Rattle.std.specs.Prelude.{ℕ, ◌/◌, Bool, true, false, ◌&&◌, ◌==◌, List, [], ◌∷◌, ◌++◌, length, count_by, codes}
 use Rattle.std.specs.List.{enumerate_from, flat_map, zip}
 use Rattle.std.specs.Fmt.{decimal}
 pub use Rattle.lq_model.specs.Numbers.{first_numbers}
+use Rattle.lq_model.specs.Wire.{Flight}
+use Rattle.lq_model.specs.declared.plan.Card.{Card}
 use Rattle.lq_model.specs.declared.fate.Info.{Info}
 use Rattle.lq_model.specs.declared.fate.Cause.TheVariants.{Event, Hung}
 use Rattle.lq_model.specs.declared.fate.Fate.{Fate}
@@ -71,3 +73,13 @@ total_line fates =
 unfoldable pub counts_text : List Fate → List Info → ℕ → ℕ → List ℕ
 counts_text fates infos stations units =
     flat_map (unit_line fates) (first_numbers units) ++ flat_map (station_line fates infos) (first_numbers stations) ++ total_line fates
+
+-- TIMES
+
+-- a line for each packet that a card accepted, in that order: its number, when it was accepted, and when its frame ended, in nanoseconds rounded down
+abbrev pub time_line : Card → Flight → List ℕ
+time_line card flight =
+    decimal flight.number ++ (codes " " ++ (decimal (flight.accepted / card.rate_kbit) ++ (codes " " ++ (decimal (flight.ends / card.rate_kbit) ++ 10 ∷ []))))
+
+unfoldable pub times_text : Card → List Flight → List ℕ
+times_text card flights = flat_map (time_line card) flights

@@ -31,4 +31,6 @@ pub enum CaptureReason {
     BlockBody,
     /// A second section header block.
     SecondSection,
+    /// A packet whose time is before that of the packet before it.
+    TimeBack,
 }

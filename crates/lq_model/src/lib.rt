@@ -19,7 +19,9 @@ pub use fate::{Cause, Fate, Info};
 pub use machine::{
     Answer, Attempt, Beginning, Blocked, Call, ControlStep, Packet, Phase, Position, Seat,
 };
-pub use plan::{EventKind, EventPlan, Irq, PlanReason, Split, Spread, StationPlan};
+pub use plan::{
+    Card, Classify, EventKind, EventPlan, Irq, Limit, PlanReason, Split, Spread, StationPlan,
+};
 pub use words::{fate_word, fate_written_again, one_fate_a_word, word_fate, word_read_again};
 
 /// Want of memory.

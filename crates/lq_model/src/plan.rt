@@ -21,6 +21,15 @@ pub enum Spread {
     Flow,
 }
 
+/// How a packet gets its priority, by which its band is chosen.
+#[derive(Clone, Copy, Debug, PartialEq, Eq)]
+pub enum Classify {
+    /// By its type of service (`rt_tos2priority`), as `ip_forward` of net/ipv4/ip_forward.c does and the sockets of a host do.
+    Tos,
+    /// Not at all: it keeps priority 0, as a frame does that a bridge forwards.
+    Never,
+}
+
 /// When the stopped queues are opened, as a driver's interrupt does it.
 #[derive(Clone, Copy, Debug, PartialEq, Eq)]
 pub enum Irq {
@@ -43,6 +52,32 @@ pub struct StationPlan {
     pub params: Params,
     /// How many transmit queues of its device share its rings.
     pub queues: u32,
+    /// The card that opens its queue, if one does.
+    pub card: Option<Card>,
+}
+
+/// A network card with its driver and the wire of its link.
+#[derive(Clone, Copy, Debug, PartialEq, Eq)]
+pub struct Card {
+    /// How many thousand bits a second the wire carries.
+    pub rate_kbit: u32,
+    /// When the driver takes no packet more.
+    pub limit: Limit,
+    /// How many microseconds after a frame has left comes the interrupt that tells it.
+    pub coalesce_us: u32,
+    /// How many bytes come with each frame on the wire.
+    pub overhead: u32,
+    /// How many bytes of the wire a frame takes at least, with those.
+    pub mpu: u32,
+}
+
+/// What a driver has room for. A packet that it accepted takes room until an interrupt tells that its frame has left.
+#[derive(Clone, Copy, Debug, PartialEq, Eq)]
+pub enum Limit {
+    /// So many descriptors, one for a packet.
+    Ring { descriptors: u32 },
+    /// One packet more while no more than so many bytes are out (byte queue limits).
+    Bql { bytes: u32 },
 }
 
 /// What an event does to its station.
@@ -90,4 +125,8 @@ pub enum PlanReason {
     EventOrder,
     /// More than 65,536 bytes, whatever they are.
     TooLong = 8,
+    /// A card with both limits, of descriptors and of bytes.
+    TwoLimits,
+    /// A card in a plan of several stations, or at a station with several queues or children.
+    OneLink,
 }

@@ -1,7 +1,8 @@
 //! Small runs of one sender, worked out: each clause is computed from the definition of the run.
-ghost use Rattle.std.specs.Prelude.{[], ◌∷◌, true, false};
-ghost use Rattle.lq_model.specs.Runs.{packets_in_bands, packets_on, packets_to, station, plan_of_stations, group_of_two, group_event_at, one_station, no_rules, with_burst, event_at, HaveFates, HaveFatesBy, HasOpenings};
+ghost use Rattle.std.specs.Prelude.{[], ◌∷◌, ◌++◌, codes, true, false};
+ghost use Rattle.lq_model.specs.Runs.{packets_in_bands, packets_on, packets_to, station, plan_of_stations, group_of_two, group_event_at, one_station, no_rules, with_burst, event_at, HaveFates, HaveFatesBy, HasOpenings, HaveEnds, HaveTimesText, Pass, card_at, card_with, carded};
 ghost use Rattle.lq_model.specs.declared.plan.Irq.TheVariants.{Period};
+ghost use Rattle.lq_model.specs.declared.plan.Limit.TheVariants.{Ring, Bql};
 ghost use Rattle.lq_model.specs.declared.fate.Fate.TheVariants.{Sent, Full, Shrunk, Purged, Refused};
 ghost use Rattle.lq_model.specs.declared.fate.Cause.TheVariants.{Event, Hung};
 ghost use Rattle.lq_model.specs.declared.plan.EventKind.TheVariants as kind;
@@ -124,4 +125,96 @@ pub fn each_multiple_opens_once()
     ensures { HaveFatesBy (0 ∷ 1000 ∷ 2000 ∷ 3000 ∷ 33000 ∷ 34000 ∷ []) (record (one_station 1 1 true (with_burst 1) []) { irq = Period 10 })
         (packets_in_bands (1 ∷ 1 ∷ 1 ∷ 1 ∷ 1 ∷ 1 ∷ []))
         (Sent 0 0 ∷ Sent 0 1 ∷ Sent 0 2 ∷ Full 2 ∷ Sent 0 3 ∷ Sent 0 4 ∷ []) }
+{}
+
+/// A card on a wire on which a frame of 76 bytes takes 100 microseconds, and one of 1,476 bytes 1,500. With one descriptor it sends a frame at a
+/// time: the interrupt at 100 comes before the packet of that moment, and packet 4 finds the queue open. A long frame keeps the short ones waiting.
+/// With three descriptors three packets are taken at once, and the wire takes one after the other. A frame of 14 bytes takes what 84 bytes take.
+#[tactic(auto, unfolding(crate::specs::Wire::openings_of_card, crate::specs::Wire::flights_of_card))]
+pub fn frames_take_the_time_of_their_bytes()
+    ensures one_descriptor { Pass (card_with (Ring 1) 0) (carded 1000 true []) (1 ∷ 1 ∷ 1 ∷ 1 ∷ 1 ∷ [])
+        (0 ∷ 50 ∷ 100 ∷ 150 ∷ 900 ∷ []) (76 ∷ 76 ∷ 76 ∷ 76 ∷ 76 ∷ [])
+        ((0, (0, 100)) ∷ (1, (100, 200)) ∷ (2, (200, 300)) ∷ (3, (300, 400)) ∷ (4, (900, 1000)) ∷ []) (0 ∷ 1 ∷ 0 ∷ 3 ∷ 0 ∷ []) }
+    ensures long_frame { Pass (card_with (Ring 1) 0) (carded 1000 true []) (1 ∷ 1 ∷ 1 ∷ [])
+        (0 ∷ 10 ∷ 20 ∷ []) (1476 ∷ 76 ∷ 76 ∷ [])
+        ((0, (0, 1500)) ∷ (1, (1500, 1600)) ∷ (2, (1600, 1700)) ∷ []) (0 ∷ 0 ∷ 0 ∷ []) }
+    ensures three_descriptors { Pass (card_with (Ring 3) 0) (carded 1000 true []) (1 ∷ 1 ∷ 1 ∷ 1 ∷ [])
+        (0 ∷ 0 ∷ 0 ∷ 0 ∷ []) (76 ∷ 76 ∷ 76 ∷ 76 ∷ [])
+        ((0, (0, 100)) ∷ (1, (0, 200)) ∷ (2, (0, 300)) ∷ (3, (100, 400)) ∷ []) (1 ∷ 1 ∷ 0 ∷ 0 ∷ []) }
+    ensures least { Pass (card_with (Ring 1) 0) (carded 1000 true []) (1 ∷ 1 ∷ [])
+        (0 ∷ 0 ∷ []) (14 ∷ 14 ∷ [])
+        ((0, (0, 84)) ∷ (1, (84, 168)) ∷ []) (0 ∷ 0 ∷ []) }
+{}
+
+/// With 100 bytes at most, 76 that are out leave room and 152 don't; 152 are within 152; with 150, two frames are out until 100, and then one more is
+/// taken at each end of a frame. An interrupt that leaves 1,476 bytes out opens nothing.
+#[tactic(auto, unfolding(crate::specs::Wire::openings_of_card, crate::specs::Wire::flights_of_card))]
+pub fn bytes_that_are_out_are_limited()
+    ensures one_more { Pass (card_with (Bql 100) 0) (carded 1000 true []) (1 ∷ 1 ∷ 1 ∷ [])
+        (0 ∷ 0 ∷ 0 ∷ []) (76 ∷ 76 ∷ 76 ∷ [])
+        ((0, (0, 100)) ∷ (1, (0, 200)) ∷ (2, (100, 300)) ∷ []) (1 ∷ 0 ∷ 0 ∷ []) }
+    ensures just_within { Pass (card_with (Bql 152) 0) (carded 1000 true []) (1 ∷ 1 ∷ 1 ∷ 1 ∷ [])
+        (0 ∷ 0 ∷ 0 ∷ 0 ∷ []) (76 ∷ 76 ∷ 76 ∷ 76 ∷ [])
+        ((0, (0, 100)) ∷ (1, (0, 200)) ∷ (2, (0, 300)) ∷ (3, (100, 400)) ∷ []) (1 ∷ 1 ∷ 0 ∷ 0 ∷ []) }
+    ensures at_each_end { Pass (card_with (Bql 150) 0) (carded 1000 true []) (1 ∷ 1 ∷ 1 ∷ 1 ∷ [])
+        (0 ∷ 0 ∷ 0 ∷ 0 ∷ []) (76 ∷ 76 ∷ 76 ∷ 76 ∷ [])
+        ((0, (0, 100)) ∷ (1, (0, 200)) ∷ (2, (100, 300)) ∷ (3, (200, 400)) ∷ []) (1 ∷ 0 ∷ 0 ∷ 0 ∷ []) }
+    ensures still_too_many { Pass (card_with (Bql 100) 0) (carded 1000 true []) (1 ∷ 1 ∷ 1 ∷ 1 ∷ [])
+        (0 ∷ 0 ∷ 0 ∷ 2000 ∷ []) (76 ∷ 1476 ∷ 76 ∷ 76 ∷ [])
+        ((0, (0, 100)) ∷ (1, (0, 1600)) ∷ (2, (1600, 1700)) ∷ (3, (2000, 2100)) ∷ []) (1 ∷ 0 ∷ 2 ∷ 0 ∷ []) }
+{}
+
+/// The interrupt comes 250 microseconds after the first frame of the ring has left, and takes two frames back. The wire idles from 200 to 350.
+#[tactic(auto, unfolding(crate::specs::Wire::openings_of_card, crate::specs::Wire::flights_of_card))]
+pub fn late_interrupt_takes_back_what_has_left()
+    ensures six { Pass (card_with (Ring 2) 250) (carded 1000 true []) (1 ∷ 1 ∷ 1 ∷ 1 ∷ 1 ∷ 1 ∷ [])
+        (0 ∷ 0 ∷ 0 ∷ 0 ∷ 0 ∷ 0 ∷ []) (76 ∷ 76 ∷ 76 ∷ 76 ∷ 76 ∷ 76 ∷ [])
+        ((0, (0, 100)) ∷ (1, (0, 200)) ∷ (2, (350, 450)) ∷ (3, (350, 550)) ∷ (4, (700, 800)) ∷ (5, (700, 900)) ∷ []) (1 ∷ 0 ∷ 0 ∷ 0 ∷ 0 ∷ 0 ∷ []) }
+{}
+
+/// Bytes decide what is dropped. Of four packets of one moment 1 is in the requeue slot and 2 in the ring of one slot, which 3 finds full. Where 3 comes at
+/// 250, two short frames have gone, and it finds the ring empty; behind a long first frame it finds 2 there. What went past the bands goes first, then band 0, then band 1; without
+/// a bypass packet 1 waits in band 2.
+#[tactic(auto, unfolding(crate::specs::Wire::openings_of_card, crate::specs::Wire::flights_of_card))]
+pub fn card_serves_the_bands()
+    ensures at_once { Pass (card_with (Ring 1) 0) (carded 1 true []) (1 ∷ 1 ∷ 1 ∷ 1 ∷ [])
+        (0 ∷ 0 ∷ 0 ∷ 0 ∷ []) (76 ∷ 76 ∷ 76 ∷ 76 ∷ [])
+        ((0, (0, 100)) ∷ (1, (100, 200)) ∷ (2, (200, 300)) ∷ []) (0 ∷ 0 ∷ 0 ∷ 0 ∷ []) }
+    ensures short_first { Pass (card_with (Ring 1) 0) (carded 1 true []) (1 ∷ 1 ∷ 1 ∷ 1 ∷ [])
+        (0 ∷ 0 ∷ 0 ∷ 250 ∷ []) (76 ∷ 76 ∷ 76 ∷ 76 ∷ [])
+        ((0, (0, 100)) ∷ (1, (100, 200)) ∷ (2, (200, 300)) ∷ (3, (300, 400)) ∷ []) (0 ∷ 0 ∷ 2 ∷ 0 ∷ []) }
+    ensures long_first { Pass (card_with (Ring 1) 0) (carded 1 true []) (1 ∷ 1 ∷ 1 ∷ 1 ∷ [])
+        (0 ∷ 0 ∷ 0 ∷ 250 ∷ []) (1476 ∷ 76 ∷ 76 ∷ 76 ∷ [])
+        ((0, (0, 1500)) ∷ (1, (1500, 1600)) ∷ (2, (1600, 1700)) ∷ []) (0 ∷ 0 ∷ 0 ∷ 0 ∷ []) }
+    ensures past_the_bands { Pass (card_with (Ring 1) 0) (carded 1000 true []) (1 ∷ 2 ∷ 1 ∷ 0 ∷ 1 ∷ [])
+        (0 ∷ 0 ∷ 0 ∷ 0 ∷ 0 ∷ []) (76 ∷ 76 ∷ 76 ∷ 76 ∷ 76 ∷ [])
+        ((0, (0, 100)) ∷ (1, (100, 200)) ∷ (3, (200, 300)) ∷ (2, (300, 400)) ∷ (4, (400, 500)) ∷ []) (0 ∷ 0 ∷ 0 ∷ 0 ∷ 0 ∷ []) }
+    ensures without_bypass { Pass (card_with (Ring 1) 0) (carded 1000 false []) (1 ∷ 2 ∷ 1 ∷ 0 ∷ 1 ∷ [])
+        (0 ∷ 0 ∷ 0 ∷ 0 ∷ 0 ∷ []) (76 ∷ 76 ∷ 76 ∷ 76 ∷ 76 ∷ [])
+        ((0, (0, 100)) ∷ (3, (100, 200)) ∷ (2, (200, 300)) ∷ (4, (300, 400)) ∷ (1, (400, 500)) ∷ []) (0 ∷ 0 ∷ 0 ∷ 0 ∷ 0 ∷ []) }
+{}
+
+/// Deactivated before packet 2 and activated before packet 3: the frame on the wire goes on, packet 1 is purged, packet 2 refused, and packet 3 waits for the end
+/// of the frame. Where the station is deactivated after the last packet, what waits then is not sent.
+#[tactic(auto, unfolding(crate::specs::Wire::openings_of_card, crate::specs::Wire::flights_of_card))]
+pub fn frame_on_the_wire_goes_on()
+    ensures up_again { Pass (card_with (Ring 1) 0) (carded 1000 true (event_at 2 kind.Down ∷ event_at 3 kind.Up ∷ [])) (1 ∷ 1 ∷ 1 ∷ 1 ∷ [])
+        (0 ∷ 0 ∷ 10 ∷ 20 ∷ []) (76 ∷ 76 ∷ 76 ∷ 76 ∷ [])
+        ((0, (0, 100)) ∷ (3, (100, 200)) ∷ []) (0 ∷ 0 ∷ 0 ∷ 0 ∷ []) }
+    ensures down_at_the_end { Pass (card_with (Ring 1) 0) (carded 1000 true (event_at 3 kind.Down ∷ [])) (1 ∷ 1 ∷ 1 ∷ [])
+        (0 ∷ 0 ∷ 10 ∷ []) (76 ∷ 76 ∷ 76 ∷ [])
+        ((0, (0, 100)) ∷ []) (0 ∷ 0 ∷ 0 ∷ []) }
+{}
+
+/// At 33,333 kbit/s a frame of 60 bytes takes 20,160 nanoseconds and a fifth. Five times 20,160 are 100,800, and the fifth frame ends at 100,801.
+#[tactic(auto, unfolding(crate::specs::Wire::flights_of_card))]
+pub fn nothing_is_rounded_on_the_way()
+    ensures { HaveEnds (card_at 33333 (Ring 1) 0) (carded 1000 true []) (0 ∷ 0 ∷ 0 ∷ 0 ∷ 0 ∷ []) (60 ∷ 60 ∷ 60 ∷ 60 ∷ 60 ∷ [])
+        (20160 ∷ 40320 ∷ 60480 ∷ 80640 ∷ 100801 ∷ []) }
+{}
+
+/// A line for each packet: its number, when it was accepted, and when its frame ended.
+#[tactic(auto, unfolding(crate::specs::Texts::times_text))]
+pub fn times_are_lines()
+    ensures { HaveTimesText (0, 84) (20, 168) (codes "0 0 84" ++ (10 ∷ (codes "1 20 168" ++ 10 ∷ []))) }
 {}
