@@ -3,9 +3,9 @@ use Rattle.std.specs.Prelude.{ℕ, ◌/◌, Bool, true, false, ◌&&◌, ◌==�
 use Rattle.std.specs.List.{enumerate_from, flat_map, zip}
 use Rattle.std.specs.Fmt.{decimal}
 pub use Rattle.lq_model.specs.Numbers.{first_numbers}
-use Rattle.lq_model.specs.Wire.{Flight}
-use Rattle.lq_model.specs.declared.plan.Card.{Card}
 use Rattle.lq_model.specs.declared.fate.Info.{Info}
+use Rattle.lq_model.specs.declared.flight.Flight.{Flight}
+use Rattle.lq_model.specs.declared.plan.Card.{Card}
 use Rattle.lq_model.specs.declared.fate.Cause.TheVariants.{Event, Hung}
 use Rattle.lq_model.specs.declared.fate.Fate.{Fate}
 use Rattle.lq_model.specs.declared.fate.Fate.TheVariants.{Sent, Full, Shrunk, Purged, Refused}

@@ -10,6 +10,7 @@ use Rattle.lq_model.specs.Alone.{RunningStation, brought_in, bypass_of, changed,
 use Rattle.lq_model.specs.Capture.{Packets}
 use Rattle.lq_model.specs.Plan.{Plan}
 use Rattle.lq_model.specs.declared.fate.Info.{Info}
+use Rattle.lq_model.specs.declared.flight.Flight.{Flight}
 use Rattle.lq_model.specs.declared.plan.Card.{Card}
 use Rattle.lq_model.specs.declared.plan.Limit.{Limit}
 use Rattle.lq_model.specs.declared.plan.Limit.TheVariants.{Ring, Bql}
@@ -17,9 +18,9 @@ use Rattle.lq_model.specs.declared.plan.StationPlan.{StationPlan}
 
 -- FRAMES AND TIME
 
--- the length of a packet's frame; one of raw IP has no header of Ethernet, and gets one
+-- the length of a packet's frame; one of raw IP has no header of Ethernet, and gets one; 0 of no packet
 abbrev pub frame_length : Packets → ℕ → ℕ
-frame_length packets n = packets.length n + (if packets.link n == 101 then 14 else 0)
+frame_length packets n = if nat_lt n packets.count then packets.length n + (if packets.link n == 101 then 14 else 0) else 0
 
 -- how long it is on the wire
 abbrev pub wire_time : Card → ℕ → ℕ
@@ -34,14 +35,6 @@ abbrev pub delay : Card → ℕ
 delay card = card.coalesce_us * 1000 * card.rate_kbit
 
 -- THE CARD
-
--- a packet that the device accepted: when, when its frame begins and ends on the wire, and the frame's length
-pub record Flight : Type 0 where
-  pub number : ℕ
-  pub accepted : ℕ
-  pub begins : ℕ
-  pub ends : ℕ
-  pub length : ℕ
 
 -- the station, the packets that the driver hasn't taken back, when the wire is free, and all packets that were accepted
 pub record Wired : Type 0 where

@@ -6,6 +6,7 @@ mod band;
 mod capture;
 mod device;
 mod fate;
+mod flight;
 mod machine;
 mod plan;
 pub mod runs;
@@ -16,6 +17,7 @@ pub use band::batch;
 pub use capture::CaptureReason;
 pub use device::{Params, Tx};
 pub use fate::{Cause, Fate, Info};
+pub use flight::Flight;
 pub use machine::{
     Answer, Attempt, Beginning, Blocked, Call, ControlStep, Packet, Phase, Position, Seat,
 };
