@@ -30,6 +30,11 @@ pub trait Frames {
         requires known { i < (packets self.now).count }
         requires before { before ≡ (if i == 0 then 0 else (packets self.now).time (i - 1)) }
         ensures { result ≡ (packets self.now).time i };
+
+    /// The length on the wire of packet `i`, which may be more than was captured.
+    fn wire_length(&self, i: usize) -> u32
+        requires { i < (packets self.now).count }
+        ensures { result ≡ (packets self.now).length i };
 }
 
 impl Frames for Capture {
@@ -51,5 +56,9 @@ impl Frames for Capture {
 
     fn time(&self, i: usize, _before: u128) -> u128 {
         Capture::time(self, i)
+    }
+
+    fn wire_length(&self, i: usize) -> u32 {
+        Capture::wire_length(self, i)
     }
 }

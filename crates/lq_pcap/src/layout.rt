@@ -31,5 +31,8 @@ pub const CAPTURED_LENGTH: usize = 8;
 
 pub const MAX_CAPTURED_LENGTH: u32 = 262_144;
 
+/// The place of the length on the wire there.
+pub const WIRE_LENGTH: usize = 12;
+
 /// How many records a capture may have.
 pub const MAX_RECORDS: usize = 1_000_000;

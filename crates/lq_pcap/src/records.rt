@@ -1,8 +1,8 @@
 //! A capture that was read: its header, its records and their frames.
 ghost use Rattle.std.specs.Prelude.{◌≡◌, ◌<◌, ◌≤◌, length};
-ghost use Rattle.lq_model.specs.Capture.{frame_of, header_of, link_of, record_of, time_of};
+ghost use Rattle.lq_model.specs.Capture.{frame_of, header_of, link_of, place_of, record_of, time_of, wire_length};
 
-use crate::layout::{FRACTION, HEADER, LINK, RECORD_HEADER, SECONDS};
+use crate::layout::{FRACTION, HEADER, LINK, RECORD_HEADER, SECONDS, WIRE_LENGTH};
 use crate::numbers::{begins_little_endian, fraction_unit, number};
 use crate::places::Places;
 use std::marker::Model;
@@ -66,6 +66,16 @@ impl Capture {
         ensures { result ≡ link_of self.now }
     {
         number(&self.bytes, begins_little_endian(&self.bytes), LINK)
+    }
+
+    /// The length on the wire of the packet of record `i`.
+    #[tactic(auto, using(crate::proofs::Times::time_within))]
+    pub fn wire_length(&self, i: usize) -> u32
+        requires { i < self.now.count }
+        ensures { result ≡ wire_length self.now.bytes (place_of self.now.bytes i) }
+    {
+        let little_endian = begins_little_endian(&self.bytes);
+        number(&self.bytes, little_endian, self.places.at(i) + WIRE_LENGTH)
     }
 
     /// The time of record `i`, in nanoseconds since the start of 1970.

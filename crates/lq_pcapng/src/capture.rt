@@ -1,13 +1,13 @@
 // A capture in the pcapng format: its blocks, as places in the bytes that were read.
 ghost use Rattle.std.specs.Prelude.{◌≡◌, ◌-◌, ◌==◌, ◌<◌, ◌≤◌, if◌then◌else◌, length};
-ghost use Rattle.lq_pcapng.specs.Pcapng.{frame_in, interface_at, link_in, order_of, packet_block, time_in};
+ghost use Rattle.lq_pcapng.specs.Pcapng.{frame_in, interface_at, link_in, order_of, packet_block, time_in, wire_length as wire_length_of};
 ghost use Rattle.lq_pcapng.specs.Reading.{IsClock, IsPacket};
 
 use crate::blocks::{block, interface};
 use crate::interfaces::{Clock, clock_of};
 use crate::layout::LINK;
 use crate::numbers::{begins_little_endian, short_number};
-use crate::packets::{captured_length, data_place, interface_number, is_enhanced};
+use crate::packets::{captured_length, data_place, interface_number, is_enhanced, wire_length};
 use crate::times::time_by;
 use lq_pcap::{Frames, Places};
 use std::marker::Model;
@@ -85,6 +85,14 @@ impl NgCapture {
         time_by(clock, block, little_endian)
     }
 
+    /// The length on the wire of packet `i`.
+    pub fn wire_length(&self, i: usize) -> u32
+        requires { i < length self.now.packets }
+        ensures { result ≡ wire_length_of (order_of self.now) (packet_block self.now i) }
+    {
+        wire_length(self.block(i), self.is_little_endian())
+    }
+
     // How interface `i` counts time: as was found when the capture was read, or as its options say now.
     fn clock(&self, i: usize) -> Clock
         requires { i < length self.now.interfaces }
@@ -157,5 +165,9 @@ impl Frames for NgCapture {
 
     fn time(&self, i: usize, before: u128) -> u128 {
         NgCapture::time(self, i, before)
+    }
+
+    fn wire_length(&self, i: usize) -> u32 {
+        NgCapture::wire_length(self, i)
     }
 }

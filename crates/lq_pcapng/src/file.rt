@@ -88,6 +88,13 @@ impl Frames for CaptureFile {
             CaptureFile::Pcapng(capture) => capture.time(i, before),
         }
     }
+
+    fn wire_length(&self, i: usize) -> u32 {
+        match self {
+            CaptureFile::Classic(capture) => capture.wire_length(i),
+            CaptureFile::Pcapng(capture) => capture.wire_length(i),
+        }
+    }
 }
 
 impl CaptureFile {

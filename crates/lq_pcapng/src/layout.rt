@@ -76,6 +76,9 @@ pub const ENHANCED_TIME_LOWER: usize = 16;
 
 pub const ENHANCED_CAPTURED: usize = 20;
 
+/// The place of the length on the wire there.
+pub const ENHANCED_LENGTH: usize = 24;
+
 pub const ENHANCED_DATA: usize = 28;
 
 /// The places of the length on the wire and of the data in a simple packet block.

@@ -1,11 +1,11 @@
 // What a packet block holds.
 ghost use Rattle.std.specs.Prelude.{◌≡◌, ◌+◌, ◌≤◌, ◌<◌, length};
-ghost use Rattle.lq_pcapng.specs.Pcapng.{captured_length as captured_length_of, cut_to, data_place as data_place_of, interface_number as interface_number_of, is_enhanced as is_enhanced_block, packet_fault, padded as padded_length};
+ghost use Rattle.lq_pcapng.specs.Pcapng.{captured_length as captured_length_of, cut_to, data_place as data_place_of, interface_number as interface_number_of, is_enhanced as is_enhanced_block, packet_fault, padded as padded_length, wire_length as wire_length_of};
 ghost use Rattle.lq_pcapng.specs.Reading.{AreInterfaces, IsTested, blocks_at};
 
 use crate::blocks::interface;
 use crate::layout::{
-    ENHANCED, ENHANCED_CAPTURED, ENHANCED_DATA, ENHANCED_INTERFACE, LENGTH_AGAIN,
+    ENHANCED, ENHANCED_CAPTURED, ENHANCED_DATA, ENHANCED_INTERFACE, ENHANCED_LENGTH, LENGTH_AGAIN,
     MAX_CAPTURED_LENGTH, SIMPLE_DATA, SIMPLE_LENGTH, SNAPSHOT_LENGTH, TYPE,
 };
 use crate::numbers::number;
@@ -29,6 +29,19 @@ pub fn data_place(block: &[u8], little_endian: bool) -> usize
     } else {
         SIMPLE_DATA
     }
+}
+
+/// The length on the wire that a packet block says.
+pub fn wire_length(block: &[u8], little_endian: bool) -> u32
+    requires { data_place_of little_endian block.now ≤ length block.now }
+    ensures { result ≡ wire_length_of little_endian block.now }
+{
+    let place = if is_enhanced(block, little_endian) {
+        ENHANCED_LENGTH
+    } else {
+        SIMPLE_LENGTH
+    };
+    number(block, little_endian, place)
 }
 
 /// The number of the interface of a packet block. A simple one is of interface 0.
