@@ -1,0 +1,2 @@
+-- a station of the run of one sender, as code has it
+pub mod Lone

@@ -1,0 +1,8 @@
+//! The station of the run of one sender, computed: one queue, and a device that accepts each packet and stops its queue at it.
+#![tactic(auto)]
+
+mod line;
+mod lone;
+
+pub use line::Line;
+pub use lone::Lone;

@@ -1,0 +1,93 @@
+//! A band of a station, as a list and a number.
+ghost use Rattle.std.specs.Prelude.{◌≡◌, ◌≤◌, ◌<◌, ◌+◌, ◌==◌, [], ◌∷◌, length, vec_len, if◌then◌else◌, OnOk, OnSome, IfNone, slice_get};
+
+use lq_model::batch;
+use std::alloc::{AllocError, Global};
+
+/// A band: the packets that joined it since the last resize, and how many of them were taken.
+#[derive(Drop)]
+pub struct Line {
+    pub joined: Vec<u32>,
+    pub taken: usize,
+    pub ghost within: { taken ≤ vec_len joined },
+}
+
+impl Line {
+    ghost use Rattle.lq_model.specs.Band.{held_of, joined, resized, taken_by};
+    ghost use Rattle.lq_model.specs.Alone.{is_occupied};
+    ghost use Rattle.lq_lone.specs.Lone.{band_of};
+    ghost use Rattle.lq_model.specs.Account.{emptied};
+
+    pub fn new(alloc: Global) -> Line
+        ensures { band_of result ≡ record { line = []; taken = 0 } }
+    {
+        Line {
+            joined: Vec::new(alloc),
+            taken: 0,
+        }
+    }
+
+    pub fn held(&self) -> usize
+        ensures { result ≡ length (held_of (band_of self.now)) }
+    {
+        self.joined.len() - self.taken
+    }
+
+    // Whether the slot that the next packet would have isn't empty.
+    pub fn is_occupied(&self, len: u32) -> bool
+        requires some { 0 < len }
+        ensures { result ≡ is_occupied len (band_of self.now) }
+    {
+        let stale = self.taken % len as usize % batch(len) as usize;
+        self.held() + stale == len as usize
+    }
+
+    pub fn join(&mut self, n: u32) -> Result<(), AllocError>
+        ensures ok { OnOk result (band_of self.new ≡ joined (band_of self.old) n) }
+    {
+        self.joined.push(n)?;
+        Ok(())
+    }
+
+    // A packet joins it, or is dropped as full.
+    pub fn join_or_drop(&mut self, n: u32, len: u32) -> Result<(), AllocError>
+        requires some { 0 < len }
+        ensures ok { OnOk result (band_of self.new ≡ (if is_occupied len (band_of self.old) then band_of self.old else joined (band_of self.old) n)) }
+    {
+        if self.is_occupied(len) {
+            return Ok(());
+        }
+        self.join(n)
+    }
+
+    pub fn take(&mut self) -> Option<u32>
+        ensures first { result ≡ slice_get (held_of (band_of self.old)) 0 }
+        ensures some { OnSome result (band_of self.new ≡ taken_by (band_of self.old) 1) }
+        ensures none { IfNone result (band_of self.new ≡ band_of self.old) }
+    {
+        if self.taken == self.joined.len() {
+            return None;
+        }
+        let n = self.joined[self.taken];
+        self.taken += 1;
+        Some(n)
+    }
+
+    pub fn empty(&mut self)
+        ensures { band_of self.new ≡ emptied (band_of self.old) }
+    {
+        self.taken = self.joined.len();
+    }
+
+    // Keeps the first that it holds, so many as `len`.
+    pub fn resize(&mut self, len: u32)
+        ensures { band_of self.new ≡ resized (band_of self.old) len }
+    {
+        let kept = self.held().min(len as usize);
+        for i in 0..kept {
+            self.joined[i] = self.joined[self.taken + i];
+        }
+        self.joined.truncate(kept);
+        self.taken = 0;
+    }
+}

@@ -1,0 +1,201 @@
+//! The station.
+ghost use Rattle.std.specs.Prelude.{◌≡◌, ◌<◌, ◌+◌, ℕ, List, IfOk, OnOk, length, true, false};
+
+use crate::line::Line;
+use lq_model::EventKind;
+use std::alloc::{AllocError, Global};
+
+/// A station with one queue, whose device accepts each packet and stops the queue at it.
+#[derive(Drop)]
+pub struct Lone {
+    pub len: u32,
+    pub bypass: bool,
+    pub low: Line,
+    pub mid: Line,
+    pub high: Line,
+    pub slot: Option<u32>,
+    pub stopped: bool,
+    pub clean: bool,
+    pub down: bool,
+    pub ghost some: { 0 < len },
+}
+
+impl Lone {
+    ghost use Rattle.lq_model.specs.Account.{Purge, Resize, after, held};
+    ghost use Rattle.lq_model.specs.Alone.{RunningStation, brought_in, changed, joined_or_full, opened, served};
+    ghost use Rattle.lq_model.specs.Plan.{Plan, band_in, is_swap_kind};
+    ghost use Rattle.lq_model.specs.declared.fate.Cause.{Cause};
+    ghost use Rattle.lq_model.specs.declared.fate.Info.{Info};
+    ghost use Rattle.lq_lone.specs.Lone.{HaveOneQueue, IsLengthened, IsLone, IsSettled, Steps, TakesNext, sent_now, state_of};
+
+    pub fn new(alloc: Global, len: u32, bypass: bool) -> Lone
+        requires { 0 < len }
+    {
+        Lone {
+            len,
+            bypass,
+            low: Line::new(alloc),
+            mid: Line::new(alloc),
+            high: Line::new(alloc),
+            slot: None,
+            stopped: false,
+            clean: true,
+            down: false,
+        }
+    }
+
+    pub fn is_stopped(&self) -> bool
+        ensures { result ≡ self.now.stopped }
+    {
+        self.stopped
+    }
+
+    /// How many packets wait.
+    pub fn held(&self) -> usize
+        requires few { length (self.now.low.joined.items) + length (self.now.mid.joined.items) + length (self.now.high.joined.items) < 4000000000 }
+        ensures { (s : RunningStation) → IsLone (state_of self.now) s → result ≡ length (held s.account) }
+    {
+        self.low.held() + self.mid.held() + self.high.held() + usize::from(self.slot.is_some())
+    }
+
+    // The packet that is served next leaves.
+    fn take(&mut self) -> Option<u32>
+        ensures { TakesNext result (state_of self.old) (state_of self.new) }
+    {
+        if let Some(n) = self.slot {
+            self.slot = None;
+            return Some(n);
+        }
+        if let Some(n) = self.low.take() {
+            return Some(n);
+        }
+        if let Some(n) = self.mid.take() {
+            return Some(n);
+        }
+        self.high.take()
+    }
+
+    /// Serves the station: the packet that the device accepted, if there was one.
+    pub fn serve(&mut self) -> Option<u32>
+        ensures serves { (infos : List Info) (s : RunningStation) → HaveOneQueue infos → IsLone (state_of self.old) s → Steps result (state_of self.new) s (served infos s) }
+        ensures settled { IsSettled (state_of self.new) }
+    {
+        if self.down || self.stopped {
+            return None;
+        }
+        let accepted = self.take();
+        self.stopped = accepted.is_some();
+        self.clean = !self.stopped;
+        accepted
+    }
+
+    /// Opens the queue and serves the station.
+    pub fn open(&mut self) -> Option<u32>
+        ensures { (infos : List Info) (s : RunningStation) → HaveOneQueue infos → IsLone (state_of self.old) s → Steps result (state_of self.new) s (served infos (opened s)) }
+    {
+        self.stopped = false;
+        self.serve()
+    }
+
+    // Packet `n`, which goes past the bands: the packet that the device accepted, if it did.
+    fn pass(&mut self, n: u32) -> Option<u32>
+        requires active { self.old.down ≡ false }
+        requires clean { self.old.clean ≡ true }
+        ensures { (infos : List Info) (s : RunningStation) → HaveOneQueue infos → IsLone (state_of self.old) s → Steps result (state_of self.new) s (served infos (brought_in infos true n s)) }
+    {
+        if self.stopped {
+            self.slot = Some(n);
+            self.clean = false;
+            return None;
+        }
+        self.stopped = true;
+        Some(n)
+    }
+
+    // Packet `n` joins its band, or is dropped as full.
+    fn join(&mut self, n: u32, band: u32) -> Result<(), AllocError>
+        requires { band < 3 }
+        ensures { OnOk result ((s : RunningStation) → IsLone (state_of self.old) s → IsLone (state_of self.new) (record s { account = joined_or_full n band s.account })) }
+    {
+        if band == 0 {
+            self.low.join_or_drop(n, self.len)
+        } else if band == 1 {
+            self.mid.join_or_drop(n, self.len)
+        } else {
+            self.high.join_or_drop(n, self.len)
+        }
+    }
+
+    /// Brings packet `n` of a band, and serves the station: the packet that the device accepted, if there was one.
+    pub fn bring(&mut self, n: u32, band: u32) -> Result<Option<u32>, AllocError>
+        requires { band < 3 }
+        ensures { IfOk result (λ accepted. (infos : List Info) (s : RunningStation) → HaveOneQueue infos → band_in infos n ≡ band → IsLone (state_of self.old) s
+            → Steps accepted (state_of self.new) s (served infos (brought_in infos self.old.bypass n s))) }
+    {
+        if self.down {
+            return Ok(None);
+        }
+        if self.bypass && self.clean {
+            return Ok(self.pass(n));
+        }
+        self.join(n, band)?;
+        let accepted = self.serve();
+        self.clean = self.clean && !self.stopped;
+        Ok(accepted)
+    }
+
+    // All that is held leaves.
+    fn purge(&mut self)
+        ensures { (s : RunningStation) (cause : Cause) → IsLone (state_of self.old) s → IsLone (state_of self.new) (record s { account = after (Purge cause) s.account; clean = true }) }
+    {
+        self.slot = None;
+        self.low.empty();
+        self.mid.empty();
+        self.high.empty();
+        self.clean = true;
+    }
+
+    fn resize(&mut self, len: u32)
+        requires { 0 < len }
+        ensures { (s : RunningStation) (event : ℕ) → IsLone (state_of self.old) s → IsLone (state_of self.new) (record s { account = after (Resize len event) s.account }) }
+    {
+        self.len = len;
+        self.low.resize(len);
+        self.mid.resize(len);
+        self.high.resize(len);
+    }
+
+    /// Does an event of the plan, which doesn't swap the device, and serves the station: the packet that the device accepted, if there was one.
+    pub fn change(&mut self, kind: EventKind) -> Option<u32>
+        requires within { IsLengthened kind }
+        requires no_swap { is_swap_kind kind ≡ false }
+        ensures { (plan : Plan) (event : ℕ) (infos : List Info) (s : RunningStation) → HaveOneQueue infos → IsLone (state_of self.old) s
+            → Steps result (state_of self.new) s (served infos (changed plan event kind s)) }
+    {
+        self.alter(kind);
+        self.serve()
+    }
+
+    // Does the event.
+    fn alter(&mut self, kind: EventKind)
+        requires within { IsLengthened kind }
+        requires no_swap { is_swap_kind kind ≡ false }
+        ensures { (plan : Plan) (event : ℕ) (s : RunningStation) → IsLone (state_of self.old) s
+            → IsLone (state_of self.new) (changed plan event kind s) × (sent_now (changed plan event kind s) ≡ sent_now s) }
+    {
+        match kind {
+            EventKind::Down => {
+                self.purge();
+                self.down = true;
+            }
+            EventKind::Up => self.down = false,
+            EventKind::Resize { len } => self.resize(len),
+            EventKind::TxQueueLen { len } => {
+                self.purge();
+                self.resize(len);
+                self.down = false;
+            }
+            EventKind::Swap { params: _ } => unreachable!(),
+        }
+    }
+}
