@@ -1,8 +1,8 @@
 -- A station of the run of one sender as code has it: one queue, and a device that accepts each packet and stops the queue at it.
-use Rattle.std.specs.Prelude.{◌≡◌, ℕ, ◌+◌, ◌<◌, Bool, true, false, if◌then◌else◌, List, [], ◌∷◌, ◌++◌, slice_get, Option, Some, None, is_some, option_to_list}
+use Rattle.std.specs.Prelude.{◌≡◌, ℕ, ◌+◌, ◌<◌, Bool, true, false, if◌then◌else◌, List, [], ◌∷◌, ◌++◌, length, slice_get, Option, Some, None, is_some, option_to_list}
 use Rattle.lq_model.specs.Account.{Fates}
 use Rattle.lq_model.specs.Alone.{RunningStation}
-use Rattle.lq_model.specs.Band.{Band, held_of, taken_by}
+use Rattle.lq_model.specs.Band.{Band, empty_band, held_of, taken_by}
 use Rattle.lq_model.specs.Plan.{queue_in}
 use Rattle.lq_model.specs.declared.fate.Info.{Info}
 use Rattle.lq_model.specs.declared.plan.EventKind.{EventKind}
@@ -75,6 +75,17 @@ sent_now s = s.account.sent s.account.unit
 pub record Steps (accepted : Option ℕ) (new : State) (s t : RunningStation) : Type 0 where
   pub is : IsLone new t
   pub sent : sent_now t ≡ sent_now s ++ option_to_list accepted
+
+-- how many packets wait
+abbrev pub count_of : Option ℕ → ℕ
+count_of o = if is_some o then 1 else 0
+
+abbrev pub waiting : State → ℕ
+waiting m = length (held_of m.low) + length (held_of m.mid) + length (held_of m.high) + count_of m.slot
+
+-- a station at its start
+abbrev pub new_state : ℕ → State
+new_state len = record { len = len; low = empty_band; mid = empty_band; high = empty_band; slot = None; stopped = false; clean = true; down = false }
 
 -- the first packet that a band holds
 abbrev pub first_of : Band → Option ℕ

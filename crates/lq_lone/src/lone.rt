@@ -1,5 +1,5 @@
 //! The station.
-ghost use Rattle.std.specs.Prelude.{◌≡◌, ◌<◌, ◌+◌, ℕ, List, IfOk, OnOk, length, true, false};
+ghost use Rattle.std.specs.Prelude.{◌≡◌, ◌<◌, ◌≤◌, ◌+◌, is_some, ℕ, List, IfOk, OnOk, length, true, false};
 
 use crate::line::Line;
 use lq_model::EventKind;
@@ -26,10 +26,12 @@ impl Lone {
     ghost use Rattle.lq_model.specs.Plan.{Plan, band_in, is_swap_kind};
     ghost use Rattle.lq_model.specs.declared.fate.Cause.{Cause};
     ghost use Rattle.lq_model.specs.declared.fate.Info.{Info};
-    ghost use Rattle.lq_lone.specs.Lone.{HaveOneQueue, IsLengthened, IsLone, IsSettled, Steps, TakesNext, sent_now, state_of};
+    ghost use Rattle.lq_lone.specs.Lone.{HaveOneQueue, IsLengthened, IsLone, IsSettled, Steps, TakesNext, count_of, new_state, sent_now, state_of, waiting};
 
     pub fn new(alloc: Global, len: u32, bypass: bool) -> Lone
         requires { 0 < len }
+        ensures state { state_of result ≡ new_state len }
+        ensures bypass { result.bypass ≡ bypass }
     {
         Lone {
             len,
@@ -52,15 +54,18 @@ impl Lone {
 
     /// How many packets wait.
     pub fn held(&self) -> usize
-        requires few { length (self.now.low.joined.items) + length (self.now.mid.joined.items) + length (self.now.high.joined.items) < 4000000000 }
-        ensures { (s : RunningStation) → IsLone (state_of self.now) s → result ≡ length (held s.account) }
+        requires few { waiting (state_of self.now) < 4000000000 }
+        ensures count { result ≡ waiting (state_of self.now) }
+        ensures held { (s : RunningStation) → IsLone (state_of self.now) s → result ≡ length (held s.account) }
     {
         self.low.held() + self.mid.held() + self.high.held() + usize::from(self.slot.is_some())
     }
 
     // The packet that is served next leaves.
     fn take(&mut self) -> Option<u32>
-        ensures { TakesNext result (state_of self.old) (state_of self.new) }
+        ensures takes { TakesNext result (state_of self.old) (state_of self.new) }
+        ensures count { waiting (state_of self.new) + count_of result ≡ waiting (state_of self.old) }
+        ensures bypass { self.new.bypass ≡ self.old.bypass }
     {
         if let Some(n) = self.slot {
             self.slot = None;
@@ -79,6 +84,9 @@ impl Lone {
     pub fn serve(&mut self) -> Option<u32>
         ensures serves { (infos : List Info) (s : RunningStation) → HaveOneQueue infos → IsLone (state_of self.old) s → Steps result (state_of self.new) s (served infos s) }
         ensures settled { IsSettled (state_of self.new) }
+        ensures count { waiting (state_of self.new) + count_of result ≡ waiting (state_of self.old) }
+        ensures stops { self.old.stopped ≡ false → self.new.stopped ≡ is_some result }
+        ensures bypass { self.new.bypass ≡ self.old.bypass }
     {
         if self.down || self.stopped {
             return None;
@@ -91,7 +99,10 @@ impl Lone {
 
     /// Opens the queue and serves the station.
     pub fn open(&mut self) -> Option<u32>
-        ensures { (infos : List Info) (s : RunningStation) → HaveOneQueue infos → IsLone (state_of self.old) s → Steps result (state_of self.new) s (served infos (opened s)) }
+        ensures count { waiting (state_of self.new) + count_of result ≡ waiting (state_of self.old) }
+        ensures stops { self.new.stopped ≡ is_some result }
+        ensures bypass { self.new.bypass ≡ self.old.bypass }
+        ensures opens { (infos : List Info) (s : RunningStation) → HaveOneQueue infos → IsLone (state_of self.old) s → Steps result (state_of self.new) s (served infos (opened s)) }
     {
         self.stopped = false;
         self.serve()
@@ -101,7 +112,9 @@ impl Lone {
     fn pass(&mut self, n: u32) -> Option<u32>
         requires active { self.old.down ≡ false }
         requires clean { self.old.clean ≡ true }
-        ensures { (infos : List Info) (s : RunningStation) → HaveOneQueue infos → IsLone (state_of self.old) s → Steps result (state_of self.new) s (served infos (brought_in infos true n s)) }
+        ensures count { waiting (state_of self.new) + count_of result ≤ waiting (state_of self.old) + 1 }
+        ensures bypass { self.new.bypass ≡ self.old.bypass }
+        ensures passes { (infos : List Info) (s : RunningStation) → HaveOneQueue infos → IsLone (state_of self.old) s → Steps result (state_of self.new) s (served infos (brought_in infos true n s)) }
     {
         if self.stopped {
             self.slot = Some(n);
@@ -115,7 +128,9 @@ impl Lone {
     // Packet `n` joins its band, or is dropped as full.
     fn join(&mut self, n: u32, band: u32) -> Result<(), AllocError>
         requires { band < 3 }
-        ensures { OnOk result ((s : RunningStation) → IsLone (state_of self.old) s → IsLone (state_of self.new) (record s { account = joined_or_full n band s.account })) }
+        ensures count { OnOk result (waiting (state_of self.new) ≤ waiting (state_of self.old) + 1) }
+        ensures bypass { self.new.bypass ≡ self.old.bypass }
+        ensures joins { OnOk result ((s : RunningStation) → IsLone (state_of self.old) s → IsLone (state_of self.new) (record s { account = joined_or_full n band s.account })) }
     {
         if band == 0 {
             self.low.join_or_drop(n, self.len)
@@ -129,7 +144,9 @@ impl Lone {
     /// Brings packet `n` of a band, and serves the station: the packet that the device accepted, if there was one.
     pub fn bring(&mut self, n: u32, band: u32) -> Result<Option<u32>, AllocError>
         requires { band < 3 }
-        ensures { IfOk result (λ accepted. (infos : List Info) (s : RunningStation) → HaveOneQueue infos → band_in infos n ≡ band → IsLone (state_of self.old) s
+        ensures count { IfOk result (λ accepted. waiting (state_of self.new) + count_of accepted ≤ waiting (state_of self.old) + 1) }
+        ensures bypass { self.new.bypass ≡ self.old.bypass }
+        ensures brings { IfOk result (λ accepted. (infos : List Info) (s : RunningStation) → HaveOneQueue infos → band_in infos n ≡ band → IsLone (state_of self.old) s
             → Steps accepted (state_of self.new) s (served infos (brought_in infos self.old.bypass n s))) }
     {
         if self.down {
@@ -146,7 +163,9 @@ impl Lone {
 
     // All that is held leaves.
     fn purge(&mut self)
-        ensures { (s : RunningStation) (cause : Cause) → IsLone (state_of self.old) s → IsLone (state_of self.new) (record s { account = after (Purge cause) s.account; clean = true }) }
+        ensures count { waiting (state_of self.new) ≤ waiting (state_of self.old) }
+        ensures bypass { self.new.bypass ≡ self.old.bypass }
+        ensures purges { (s : RunningStation) (cause : Cause) → IsLone (state_of self.old) s → IsLone (state_of self.new) (record s { account = after (Purge cause) s.account; clean = true }) }
     {
         self.slot = None;
         self.low.empty();
@@ -157,7 +176,9 @@ impl Lone {
 
     fn resize(&mut self, len: u32)
         requires { 0 < len }
-        ensures { (s : RunningStation) (event : ℕ) → IsLone (state_of self.old) s → IsLone (state_of self.new) (record s { account = after (Resize len event) s.account }) }
+        ensures count { waiting (state_of self.new) ≤ waiting (state_of self.old) }
+        ensures bypass { self.new.bypass ≡ self.old.bypass }
+        ensures resizes { (s : RunningStation) (event : ℕ) → IsLone (state_of self.old) s → IsLone (state_of self.new) (record s { account = after (Resize len event) s.account }) }
     {
         self.len = len;
         self.low.resize(len);
@@ -169,7 +190,9 @@ impl Lone {
     pub fn change(&mut self, kind: EventKind) -> Option<u32>
         requires within { IsLengthened kind }
         requires no_swap { is_swap_kind kind ≡ false }
-        ensures { (plan : Plan) (event : ℕ) (infos : List Info) (s : RunningStation) → HaveOneQueue infos → IsLone (state_of self.old) s
+        ensures count { waiting (state_of self.new) + count_of result ≤ waiting (state_of self.old) }
+        ensures bypass { self.new.bypass ≡ self.old.bypass }
+        ensures changes { (plan : Plan) (event : ℕ) (infos : List Info) (s : RunningStation) → HaveOneQueue infos → IsLone (state_of self.old) s
             → Steps result (state_of self.new) s (served infos (changed plan event kind s)) }
     {
         self.alter(kind);
@@ -180,7 +203,9 @@ impl Lone {
     fn alter(&mut self, kind: EventKind)
         requires within { IsLengthened kind }
         requires no_swap { is_swap_kind kind ≡ false }
-        ensures { (plan : Plan) (event : ℕ) (s : RunningStation) → IsLone (state_of self.old) s
+        ensures count { waiting (state_of self.new) ≤ waiting (state_of self.old) }
+        ensures bypass { self.new.bypass ≡ self.old.bypass }
+        ensures alters { (plan : Plan) (event : ℕ) (s : RunningStation) → IsLone (state_of self.old) s
             → IsLone (state_of self.new) (changed plan event kind s) × (sent_now (changed plan event kind s) ≡ sent_now s) }
     {
         match kind {

@@ -14,18 +14,18 @@ of-kind : (plan : Plan) (event : ℕ) (s : RunningStation) (m : State) (kind oth
     → IsLone m (changed plan event kind s) × (sent_now (changed plan event kind s) ≡ sent_now s)
 of-kind plan event s m kind other is holds = subst (λ (k : EventKind). IsLone m (changed plan event k s) × (sent_now (changed plan event k s) ≡ sent_now s)) (sym is) holds
 
-pub returns-in-Down : goal.returns-in-Down
-returns-in-Down c plan event s lone =
-    of-kind plan event s _ _ _ c.in-Down.is (turned (record s { account = after (Purge (cause.Event event)) s.account; clean = true }) (state_of c.purge.new.self) (c.purge.ensures s (cause.Event event) lone) (Some event), refl)
+pub returns-in-Down-clause-alters : goal.returns-in-Down-clause-alters
+returns-in-Down-clause-alters c plan event s lone =
+    of-kind plan event s _ _ _ c.in-Down.is (turned (record s { account = after (Purge (cause.Event event)) s.account; clean = true }) (state_of c.purge.new.self) (c.purge.ensures.purges s (cause.Event event) lone) (Some event), refl)
 
-pub returns-in-Up : goal.returns-in-Up
-returns-in-Up c plan event s lone = of-kind plan event s _ _ _ c.in-Up.is (turned s (state_of c.args.self.now) lone None, refl)
+pub returns-in-Up-clause-alters : goal.returns-in-Up-clause-alters
+returns-in-Up-clause-alters c plan event s lone = of-kind plan event s _ _ _ c.in-Up.is (turned s (state_of c.args.self.now) lone None, refl)
 
-pub returns-in-Resize : goal.returns-in-Resize
-returns-in-Resize c plan event s lone = of-kind plan event s _ _ _ c.in-Resize.is (c.resize.ensures s event lone, refl)
+pub returns-in-Resize-clause-alters : goal.returns-in-Resize-clause-alters
+returns-in-Resize-clause-alters c plan event s lone = of-kind plan event s _ _ _ c.in-Resize.is (c.resize.ensures.resizes s event lone, refl)
 
-pub returns-in-TxQueueLen : goal.returns-in-TxQueueLen
-returns-in-TxQueueLen c plan event s lone =
+pub returns-in-TxQueueLen-clause-alters : goal.returns-in-TxQueueLen-clause-alters
+returns-in-TxQueueLen-clause-alters c plan event s lone =
     let t : RunningStation = record s { account = after (Purge (cause.Event event)) s.account; clean = true } in
     of-kind plan event s _ _ _ c.in-TxQueueLen.is
-    (turned (record t { account = after (Resize c.in-TxQueueLen.len event) t.account }) (state_of c.resize-in-TxQueueLen.new.self) (c.resize-in-TxQueueLen.ensures t event (c.purge-in-TxQueueLen.ensures s (cause.Event event) lone)) None, refl)
+    (turned (record t { account = after (Resize c.in-TxQueueLen.len event) t.account }) (state_of c.resize-in-TxQueueLen.new.self) (c.resize-in-TxQueueLen.ensures.resizes t event (c.purge-in-TxQueueLen.ensures.purges s (cause.Event event) lone)) None, refl)

@@ -8,18 +8,18 @@ on-ok : {T E A B : Type 0} (r : Result T E) → OnOk r A → (A → B) → OnOk 
 on-ok (Ok x) a f = f a
 on-ok (Err e) a f = a
 
-pub returns-then-band-eq0 : goal.returns-then-band-eq0
-returns-then-band-eq0 c = on-ok c.join_or_drop.result c.join_or_drop.ensures.ok (λ new s lone.
+pub returns-then-band-eq0-clause-joins : goal.returns-then-band-eq0-clause-joins
+returns-then-band-eq0-clause-joins c = on-ok c.join_or_drop.result c.join_or_drop.ensures.ok (λ new s lone.
     subst (λ (band : ℕ). IsLone (record (state_of c.args.self.now) { low = band_of c.join_or_drop.new.self }) (record s { account = joined_or_full c.args.n band s.account })) (sym c.if-band-eq0.true)
     (joins-low s (state_of c.args.self.now) c.args.n lone (band_of c.join_or_drop.new.self) new))
 
-pub returns-then-band-eq1 : goal.returns-then-band-eq1
-returns-then-band-eq1 c = on-ok c.join_or_drop-then-band-eq1.result c.join_or_drop-then-band-eq1.ensures.ok (λ new s lone.
+pub returns-then-band-eq1-clause-joins : goal.returns-then-band-eq1-clause-joins
+returns-then-band-eq1-clause-joins c = on-ok c.join_or_drop-then-band-eq1.result c.join_or_drop-then-band-eq1.ensures.ok (λ new s lone.
     subst (λ (band : ℕ). IsLone (record (state_of c.args.self.now) { mid = band_of c.join_or_drop-then-band-eq1.new.self }) (record s { account = joined_or_full c.args.n band s.account })) (sym c.if-band-eq1.true)
     (joins-mid s (state_of c.args.self.now) c.args.n lone (band_of c.join_or_drop-then-band-eq1.new.self) new))
 
-pub returns-else-band-eq1 : goal.returns-else-band-eq1
-returns-else-band-eq1 c =
+pub returns-else-band-eq1-clause-joins : goal.returns-else-band-eq1-clause-joins
+returns-else-band-eq1-clause-joins c =
     let below = c.requires in let zero = c.if-band-eq0.false in let one = c.if-band-eq1.false in let two : 2 ≡ c.args.band = omega arith in
     on-ok c.join_or_drop-else-band-eq1.result c.join_or_drop-else-band-eq1.ensures.ok (λ new s lone.
     subst (λ (band : ℕ). IsLone (record (state_of c.args.self.now) { high = band_of c.join_or_drop-else-band-eq1.new.self }) (record s { account = joined_or_full c.args.n band s.account })) two

@@ -15,7 +15,7 @@ returns-then-self-clause-serves c infos s queues lone = elim c.then-self.branch 
 pub returns-clause-serves : goal.returns-clause-serves
 returns-clause-serves c infos s queues lone =
     subst (λ (b : Bool). Steps c.take-accepted.result (record (state_of c.take-accepted.new.self) { stopped = b; clean = not b }) s (served infos s)) (sym c.is_some-self.ensures)
-    (serves infos s (state_of c.args.self.now) queues lone c.if-self-2.false c.if-self.false c.take-accepted.result (state_of c.take-accepted.new.self) c.take-accepted.ensures)
+    (serves infos s (state_of c.args.self.now) queues lone c.if-self-2.false c.if-self.false c.take-accepted.result (state_of c.take-accepted.new.self) c.take-accepted.ensures.takes)
 
 pub returns-then-self-clause-settled : goal.returns-then-self-clause-settled
 returns-then-self-clause-settled c = elim c.then-self.branch [
@@ -26,4 +26,4 @@ returns-then-self-clause-settled c = elim c.then-self.branch [
 pub returns-clause-settled : goal.returns-clause-settled
 returns-clause-settled c =
     subst (λ (b : Bool). IsSettled (record (state_of c.take-accepted.new.self) { stopped = b; clean = not b })) (sym c.is_some-self.ensures)
-    (settles c.take-accepted.result (state_of c.args.self.now) (state_of c.take-accepted.new.self) c.take-accepted.ensures)
+    (settles c.take-accepted.result (state_of c.args.self.now) (state_of c.take-accepted.new.self) c.take-accepted.ensures.takes)

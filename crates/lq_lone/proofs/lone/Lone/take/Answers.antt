@@ -3,16 +3,16 @@ use Rattle.lq_model.specs.Band.{Band, taken_by}
 use Rattle.lq_lone.specs.Lone.{State, TakesNext, band_of, first_of, state_of, slot_taken, low_taken, mid_taken, high_taken, none_taken}
 use Rattle.lq_lone.proofs.lone.Lone.take.Goals as goal
 
-pub returns-in-Some : goal.returns-in-Some
-returns-in-Some c = slot_taken c.in-Some.n refl c.in-Some.is refl
+pub returns-in-Some-clause-takes : goal.returns-in-Some-clause-takes
+returns-in-Some-clause-takes c = slot_taken c.in-Some.n refl c.in-Some.is refl
 
-pub returns-in-Some-take : goal.returns-in-Some-take
-returns-in-Some-take c =
+pub returns-in-Some-take-clause-takes : goal.returns-in-Some-take-clause-takes
+returns-in-Some-take-clause-takes c =
     low_taken c.in-Some-take.n refl c.in_default.is (sym c.take.ensures.first ∙ c.in-Some-take.is)
     (ap (λ (b : Band). record (state_of c.args.self.now) { low = b }) c.in-Some-take.ensures.some)
 
-pub returns-in-Some-take-2 : goal.returns-in-Some-take-2
-returns-in-Some-take-2 c =
+pub returns-in-Some-take-2-clause-takes : goal.returns-in-Some-take-2-clause-takes
+returns-in-Some-take-2-clause-takes c =
     mid_taken c.in-Some-take-2.n refl c.in_default.is (sym c.take.ensures.first ∙ c.in_default-take.is) (sym c.take-2.ensures.first ∙ c.in-Some-take-2.is)
     (ap₂ (λ (b d : Band). record (state_of c.args.self.now) { low = b; mid = d }) c.in_default-take.ensures.none c.in-Some-take-2.ensures.some)
 
@@ -21,8 +21,8 @@ at-last : (o : Option ℕ) (old : State) (high : Band) → old.slot ≡ None →
 at-last None old high slot low mid is some none = none_taken refl slot low mid (sym is) (ap (λ (b : Band). record old { high = b }) none)
 at-last (Some n) old high slot low mid is some none = high_taken n refl slot low mid (sym is) (ap (λ (b : Band). record old { high = b }) some)
 
-pub returns : goal.returns
-returns c =
+pub returns-clause-takes : goal.returns-clause-takes
+returns-clause-takes c =
     let old = state_of c.args.self.now in let r = c.take-3.result in
     subst (λ (b : Band). TakesNext r old (record old { low = b; mid = band_of c.take-2.new.self; high = band_of c.take-3.new.self })) (sym c.in_default-take.ensures.none)
     (subst (λ (b : Band). TakesNext r old (record old { mid = b; high = band_of c.take-3.new.self })) (sym c.in_default-take-2.ensures.none)

@@ -1,0 +1,4 @@
+-- how often a card opens its station
+pub mod Often
+-- the run of one sender beside a card
+pub mod Beside

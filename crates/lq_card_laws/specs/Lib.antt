@@ -1,0 +1,2 @@
+-- what a card does to its station
+pub mod Laws

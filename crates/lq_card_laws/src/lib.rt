@@ -1,0 +1,14 @@
+//! Laws of a card on a wire.
+#![tactic(auto)]
+
+ghost use Rattle.lq_card_laws.specs.Laws.{OpensSoOften, RunsBeside};
+
+/// Behind a packet the station of a card was opened and served just as often as the openings that are counted, and else nothing was done to it.
+pub fn card_opens_so_often()
+    ensures { OpensSoOften }
+{}
+
+/// In a plan of one station, the station that a card opens is that of the run of one sender whose queues are opened as the card opens them.
+pub fn card_runs_beside()
+    ensures { RunsBeside }
+{}
