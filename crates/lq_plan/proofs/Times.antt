@@ -1,13 +1,31 @@
 -- How often the stopped queues are opened after each packet of a capture, as a pass over it lays it.
-use Rattle.std.proofs.Common.{◌≡◌, ℕ, suc, ◌+◌, ◌-◌, ◌*◌, ◌<◌, ◌≤◌, ◌==◌, if◌then◌else◌, List, length, get_or, set, sym, ap, ap₂, ◌∙◌, arith, inl, inr}
-use Rattle.std.specs.Prelude.{min, nat_lt}
+use Rattle.std.proofs.Common.{◌≡◌, ℕ, suc, ◌+◌, ◌-◌, ◌*◌, ◌<◌, ◌≤◌, ◌==◌, if◌then◌else◌, List, Option, None, Some, length, get_or, set, slice_get, refl, sym, ap, ap₂, ◌∙◌, arith, inl, inr}
+use Rattle.std.specs.Prelude.{min, nat_lt, option_and_then}
+use Rattle.std.specs.Option.{option_map_or}
 use Rattle.std.proofs.lemmas.Bool.{cond-false, cond-true, le-leb, lt-leb, ne_eqb, cases_lt}
 use Rattle.std.proofs.lemmas.List.{get_or-set_other, get_or-set_same}
 use Rattle.lq_model.specs.Capture.{Packets}
-use Rattle.lq_model.specs.Openings.{multiples_between, openings_by}
-use Rattle.lq_model.specs.Plan.{Plan}
+use Rattle.lq_model.specs.Openings.{multiples_between, openings, openings_by}
+use Rattle.lq_model.specs.Plan.{Plan, card_of, infos_of}
+use Rattle.lq_model.specs.Wire.{openings_of_card}
+use Rattle.lq_model.specs.declared.plan.Card.{Card}
 use Rattle.lq_model.specs.declared.plan.Irq.TheVariants.{Period}
+use Rattle.lq_model.specs.declared.plan.StationPlan.{StationPlan}
+use Rattle.lq_plan.specs.Limits.{IsPlanOf}
 use Rattle.lq_plan.specs.Openings.{AreTimes}
+use Rattle.lq_plan.specs.declared.keys.Version.{Version}
+
+-- a plan has no card, and opens the queues as it says
+no-card : (version : Version) (plan : Plan) → IsPlanOf version plan → card_of plan ≡ None
+no-card version plan within = by (slice_get plan.stations 0) refl
+  where
+    by : (o : Option StationPlan) → slice_get plan.stations 0 ≡ o → card_of plan ≡ None
+    by None is = ap (option_and_then (λ s. s.card)) is
+    by (Some s) is = ap (option_and_then (λ s. s.card)) is ∙ (within.each_station 0 s is).card
+
+pub opens-by : (version : Version) (plan : Plan) (packets : Packets) (n : ℕ) → IsPlanOf version plan → openings plan packets n ≡ openings_by plan.irq plan packets n
+opens-by version plan packets n within =
+    ap (λ (o : Option Card). option_map_or (λ card. openings_of_card card plan packets (infos_of plan packets) n) o (openings_by plan.irq plan packets n)) (no-card version plan within)
 
 module _ (microseconds : ℕ) (packets : Packets) where
   -- how often between packet n and the next one

@@ -127,6 +127,7 @@ station_within version is t h =
       params = record { burst = burst.1; busy_every = busy_every.1; busy_limit = busy_limit.1; hang_after = hang_after.1 };
       has_queue = queues.0;
       queues = omega (arith, queues.1, most.1);
+      card = refl;
     }
 
 -- a plan within the limits of a version is within those of a wider one
@@ -138,6 +139,7 @@ station-widened narrow wide less s within = record {
   params = within.params;
   has_queue = within.has_queue;
   queues = omega (arith, within.queues, less.queues);
+  card = within.card;
 }
 
 split-widened : (narrow wide : Version) → IsNarrower narrow wide → (s : Split) → IsSplitOf narrow s → IsSplitOf wide s

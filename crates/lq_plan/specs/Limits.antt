@@ -79,6 +79,7 @@ pub record IsStationOf (version : Version) (station : StationPlan) : Type 0 wher
   pub params : AreParamsWithin station.params
   pub has_queue : 0 < station.queues
   pub queues : station.queues ≤ version.max_queues
+  pub card : station.card ≡ None
 
 -- the length to which a station may be resized; 0 of no station
 abbrev pub max_len_at : List StationPlan → ℕ → ℕ

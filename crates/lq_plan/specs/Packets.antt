@@ -2,7 +2,7 @@
 use Rattle.std.specs.Prelude.{◌≡◌, ◌⊎◌, ◌<◌, ◌&&◌, ◌==◌, ℕ, List, Some, count_by, length, map, slice_get}
 use Rattle.lq_class.specs.declared.Class.{Class}
 use Rattle.lq_model.specs.Capture.{Packets}
-use Rattle.lq_model.specs.Class.{route_byte_of, source_byte_of}
+use Rattle.lq_model.specs.Class.{priority_of, route_byte_of, source_byte_of}
 use Rattle.lq_model.specs.Numbers.{first_numbers}
 use Rattle.lq_model.specs.Plan.{Plan, queues_at, info_of, owner_in, station_in, band_in, queue_in}
 use Rattle.lq_model.specs.declared.fate.Info.{Info}
@@ -19,6 +19,7 @@ pub record IsInfoWithin (plan : Plan) (info : Info) : Type 0 where
 
 -- the class of packet n
 pub record IsClassOf (packets : Packets) (n : ℕ) (class : Class) : Type 0 where
+  pub priority : class.priority ≡ priority_of (packets.link n) (packets.frame n)
   pub source_byte : class.source_byte ≡ source_byte_of (packets.link n) (packets.frame n)
   pub route_byte : class.route_byte ≡ route_byte_of (packets.link n) (packets.frame n)
 

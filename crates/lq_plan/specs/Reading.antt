@@ -7,6 +7,7 @@ use Rattle.toml.specs.Data.{Members, get_member}
 use Rattle.toml.specs.Parse.{parse_document}
 use Rattle.lq_model.specs.Plan.{Plan, first_at, is_swap, mq_at}
 use Rattle.lq_model.specs.declared.device.Params.{Params}
+use Rattle.lq_model.specs.declared.plan.Classify.TheVariants.{Tos}
 use Rattle.lq_model.specs.declared.plan.EventKind.{EventKind}
 use Rattle.lq_model.specs.declared.plan.EventKind.TheVariants.{Down, Up, Resize, TxQueueLen, Swap}
 use Rattle.lq_model.specs.declared.plan.EventPlan.{EventPlan}
@@ -47,6 +48,7 @@ station_plan_in station = record {
   bypass = flag_at (codes "bypass") true station;
   params = params_in station;
   queues = number_at (codes "queues") 1 station;
+  card = None;
 }
 
 -- of an event that has these keys; a required key has no default, so those that stand here for one are never read
@@ -86,6 +88,7 @@ plan_in d = record {
   senders = number_at (codes "senders") 1 d.root;
   split = split_in d.root;
   spread = spread_in d.root;
+  classify = Tos;
   irq = irq_in d.root;
   stations = flat_map children_in d.stations;
   groups = map mq_in d.stations;

@@ -9,6 +9,7 @@ plan_view p = record {
   senders = p.senders;
   split = p.split;
   spread = p.spread;
+  classify = p.classify;
   irq = p.irq;
   stations = p.stations.items;
   groups = p.groups.items;

@@ -3,7 +3,7 @@ ghost use Rattle.std.specs.Prelude.{◌≡◌, IfOk};
 ghost use Rattle.lq_plan.specs.Generated.{generated_plan};
 
 use crate::plan::Plan;
-use lq_model::{Irq, NoMemory, Params, Split, Spread, StationPlan};
+use lq_model::{Classify, Irq, NoMemory, Params, Split, Spread, StationPlan};
 use std::alloc::Global;
 
 /// The one station of a generated run.
@@ -18,6 +18,7 @@ const STATION: StationPlan = StationPlan {
         hang_after: 0,
     },
     queues: 1,
+    card: None,
 };
 
 /// The plan of a generated run, that of the text
@@ -41,6 +42,7 @@ pub fn generated_plan(alloc: Global) -> Result<Plan, NoMemory>
         senders: 1,
         split: Split::Round,
         spread: Spread::Bytes,
+        classify: Classify::Tos,
         irq: Irq::Every { packets: 64 },
         stations,
         groups,

@@ -29,6 +29,7 @@ impl Openings {
     pub fn new<F: Frames>(alloc: Global, plan: &Plan, frames: &F) -> Result<Self, NoMemory>
         ensures { IfOk result (IsOpenings plan.now (F.packets frames.now)) }
     {
+        plan.stays_within_limits();
         match plan.irq() {
             Irq::Every { packets } => Ok(Openings::Every { packets }),
             Irq::Period { microseconds } => match times_of(alloc, microseconds, frames) {

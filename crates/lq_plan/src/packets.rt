@@ -1,12 +1,13 @@
 //! What each packet of a capture is to the rules.
-ghost use Rattle.std.specs.Prelude.{◌≡◌, ◌+◌, ◌*◌, ◌%◌, ◌<◌, ◌≤◌, All, IfOk, OnOk, length, replicate, slice_index, slice_set, vec_len};
+ghost use Rattle.std.specs.Prelude.{◌≡◌, ℕ, ◌+◌, ◌*◌, ◌%◌, ◌<◌, ◌≤◌, All, IfOk, OnOk, length, replicate, slice_index, slice_set, vec_len};
 ghost use Rattle.lq_model.specs.Flow.{flow_of};
-ghost use Rattle.lq_model.specs.Plan.{info_of, infos_of, route_number, source_number, split_number};
+ghost use Rattle.lq_model.specs.Capture.{Packets};
+ghost use Rattle.lq_model.specs.Plan.{info_of, infos_of, priority_by, route_number, source_number, split_number};
 ghost use Rattle.lq_plan.specs.Packets.{AreUnranked, AsksFlow, IsClassOf, IsInfoWithin, IsUnranked, ranked};
 
 use crate::plan::{MAX_STATIONS, Plan};
 use lq_class::{Class, band, classify, flow};
-use lq_model::{Info, NoMemory, Split, Spread};
+use lq_model::{Classify, Info, NoMemory, Split, Spread};
 use lq_pcap::Frames;
 use std::alloc::{AllocError, Global};
 use std::marker::Sync;
@@ -136,9 +137,19 @@ fn unranked<F: Frames>(plan: &Plan, frames: &F, n: u32) -> Info
     Info {
         owner: remainder(numbers.split, plan.senders()) as u8,
         station: station as u8,
-        band: band(class.priority) as u8,
+        band: band(priority(plan.classify(), class)) as u8,
         queue: remainder(numbers.source, plan.station(station).queues) as u8,
         rank: 0,
+    }
+}
+
+// The priority of a packet of this class: 0 of one that isn't classified.
+fn priority(classify: Classify, class: Class) -> u8
+    ensures { (packets : Packets) (n : ℕ) → IsClassOf packets n class → result ≡ priority_by classify packets n }
+{
+    match classify {
+        Classify::Tos => class.priority,
+        Classify::Never => 0,
     }
 }
 

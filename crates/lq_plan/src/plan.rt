@@ -3,7 +3,7 @@ ghost use Rattle.std.specs.Prelude.{◌≡◌, ◌<◌, ◌≤◌, ◌+◌, Some
 ghost use Rattle.lq_model.specs.Plan.{first_at, is_swap, mq_at, reads_times, unit_count};
 ghost use Rattle.lq_plan.specs.Limits.{IsWithinLimits, IsIrqWithin, IsStationWithin, IsEventWithin};
 
-use lq_model::{EventKind, EventPlan, Irq, Split, Spread, StationPlan};
+use lq_model::{Classify, EventKind, EventPlan, Irq, Split, Spread, StationPlan};
 use std::marker::Model;
 
 /// A plan has no more stations than this.
@@ -20,6 +20,8 @@ pub struct Plan {
     pub(crate) split: Split,
     /// By what each packet's station, queue and child are chosen.
     pub(crate) spread: Spread,
+    /// How each packet gets its priority.
+    pub(crate) classify: Classify,
     /// When the stopped queues are opened: after so many packets, or at each multiple of so many microseconds.
     pub(crate) irq: Irq,
     /// The stations, 1 to 8, group by group.
@@ -79,6 +81,13 @@ impl Plan {
         ensures { result ≡ self.now.spread }
     {
         self.spread
+    }
+
+    /// How each packet gets its priority.
+    pub fn classify(&self) -> Classify
+        ensures { result ≡ self.now.classify }
+    {
+        self.classify
     }
 
     /// When the stopped queues are opened: after each so many packets of a sender, 1 to 1000, or at each multiple of so many microseconds

@@ -13,7 +13,9 @@ use crate::order::is_out_of_order;
 use crate::plan::{Plan, first_child};
 use crate::refusal::PlanRefusal;
 use crate::values::{EventWord, flag_at, number_at, split_of, spread_of, text_at, value_at};
-use lq_model::{EventKind, EventPlan, Irq, Params, PlanReason, Split, Spread, StationPlan};
+use lq_model::{
+    Classify, EventKind, EventPlan, Irq, Params, PlanReason, Split, Spread, StationPlan,
+};
 use std::alloc::{AllocError, Global};
 use toml::Table;
 
@@ -67,6 +69,7 @@ fn read_root(alloc: Global, root: &Table) -> Result<Plan, PlanRefusal>
         senders: number_at(root, "senders", 1) as u32,
         split: read_split(root),
         spread: read_spread(root),
+        classify: Classify::Tos,
         irq: read_irq(root),
         stations,
         groups,
@@ -156,6 +159,7 @@ fn read_station(station: &Table) -> StationPlan
         bypass: flag_at(station, "bypass", true),
         params: read_params(station),
         queues: queues_of(station) as u32,
+        card: None,
     }
 }
 
