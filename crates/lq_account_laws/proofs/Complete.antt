@@ -1,5 +1,5 @@
 -- Settled fates are complete.
-use Rattle.std.proofs.Common.{◌≡◌, ◌<◌, ◌≤◌, ℕ, Bool, true, false, ◌&&◌, ◌==◌, List, [], ◌∷◌, inl, inr, length, slice_get, get_or, Some, refl, ap, arith, cond}
+use Rattle.std.proofs.Common.{◌≡◌, ◌<◌, ◌≤◌, ℕ, Bool, true, false, ◌&&◌, ◌==◌, List, [], ◌∷◌, inl, inr, length, slice_get, get_or, Some, None, refl, ap, arith, cond}
 use Rattle.std.specs.List.{zip}
 use Rattle.std.proofs.lemmas.List.Sums.{sum_by-cons}
 use Rattle.std.proofs.lemmas.Option.{slice_get-get_or, slice_get_within}
@@ -39,7 +39,7 @@ none-down plan station event never (inr (inr (params, at))) = let no = never eve
 
 -- a unit of a station of the plan is configured
 no-station : StationPlan
-no-station = record { len = 0; max_len = 0; bypass = false; params = record { burst = 0; busy_every = 0; busy_limit = 0; hang_after = 0 }; queues = 1 }
+no-station = record { len = 0; max_len = 0; bypass = false; params = record { burst = 0; busy_every = 0; busy_limit = 0; hang_after = 0 }; queues = 1; card = None }
 
 configured : (plan : Plan) (station unit : ℕ) → station < length plan.stations → IsUnitOf plan station unit → (params : Params) × IsConfiguredWith plan unit params
 configured plan station unit inside (inl first) =

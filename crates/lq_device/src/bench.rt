@@ -47,6 +47,7 @@ pub const PLAIN: StationPlan = StationPlan {
         hang_after: 0,
     },
     queues: 1,
+    card: None,
 };
 
 /// Whether a device hangs once it has accepted so many packets.

@@ -22,6 +22,8 @@ plan_reason_text plan.Kind = codes "4 Kind"
 plan_reason_text plan.Range = codes "5 Range"
 plan_reason_text plan.EventOrder = codes "6 EventOrder"
 plan_reason_text plan.TooLong = codes "8 TooLong"
+plan_reason_text plan.TwoLimits = codes "9 TwoLimits"
+plan_reason_text plan.OneLink = codes "10 OneLink"
 
 abbrev pub capture_reason_text : CaptureReason → List ℕ
 capture_reason_text capture.ShortHeader = codes "1 ShortHeader"
@@ -38,6 +40,7 @@ capture_reason_text capture.ByteOrder = codes "12 ByteOrder"
 capture_reason_text capture.NoInterface = codes "13 NoInterface"
 capture_reason_text capture.BlockBody = codes "14 BlockBody"
 capture_reason_text capture.SecondSection = codes "15 SecondSection"
+capture_reason_text capture.TimeBack = codes "16 TimeBack"
 
 abbrev pub trace_reason_text : TraceReason → List ℕ
 trace_reason_text trace.Syntax = codes "1 Syntax"

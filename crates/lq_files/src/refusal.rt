@@ -114,6 +114,8 @@ fn text_of_plan_reason(reason: PlanReason) -> &'static str
         PlanReason::Range => "5 Range",
         PlanReason::EventOrder => "6 EventOrder",
         PlanReason::TooLong => "8 TooLong",
+        PlanReason::TwoLimits => "9 TwoLimits",
+        PlanReason::OneLink => "10 OneLink",
     }
 }
 
@@ -135,6 +137,7 @@ fn text_of_capture_reason(reason: CaptureReason) -> &'static str
         CaptureReason::NoInterface => "13 NoInterface",
         CaptureReason::BlockBody => "14 BlockBody",
         CaptureReason::SecondSection => "15 SecondSection",
+        CaptureReason::TimeBack => "16 TimeBack",
     }
 }
 

@@ -126,6 +126,7 @@ const PLAIN: StationPlan = StationPlan {
     bypass: true,
     params: NO_RULES,
     queues: 1,
+    card: None,
 };
 
 /// What a plan says.
