@@ -57,6 +57,32 @@ def needed_modules(folder, names):
     return {f"{file.name.split('.')[0]}.ko": data for file, data in order.items()}
 
 
+def make_module(tools, kernel, room, name):
+    """The bytes of a module of this folder, built for a kernel."""
+    room.mkdir(parents=True)
+    shutil.copy(HERE / f"{name}.c", room)
+    (room / "Makefile").write_text(f"obj-m := {name}.o\n", encoding="utf-8")
+    # type information of modules would need one more package
+    run(["make", "-s", "-C", str(kernel.headers()), f"M={room}", "CONFIG_DEBUG_INFO_BTF_MODULES=", *kernel.compiler(), "modules"], environment=tools.environment())
+    return (room / f"{name}.ko").read_bytes()
+
+
+def pack(tools, root, init, image):
+    """Packs a folder, with busybox and a first program, into a guest's first file system."""
+    environment = tools.environment()
+    (root / "bin").mkdir(parents=True, exist_ok=True)
+    shutil.copy(tools.path("busybox"), root / "bin/busybox")
+    shutil.copy(HERE / init, root / "init")
+    (root / "init").chmod(0o755)
+    names = "\n".join(str(it.relative_to(root)) for it in sorted(root.rglob("*"))) + "\n"
+    packed = subprocess.run(["cpio", "-o", "-H", "newc", "--quiet"], cwd=root, env=environment, input=names.encode(),
+                            capture_output=True, check=False)
+    if packed.returncode:
+        raise Missing(f"cpio failed: {packed.stderr.decode()}")
+    small = subprocess.run(["gzip", "-1"], input=packed.stdout, capture_output=True, check=True)
+    image.write_bytes(small.stdout)
+
+
 def build(tools, kernel, folder):
     """Builds the module and the sender, and packs them into the guest's first file system."""
     made = folder / f"guest-{kernel.version}"
@@ -65,45 +91,32 @@ def build(tools, kernel, folder):
     if image.exists() and all(it.stat().st_mtime < image.stat().st_mtime for it in [*sources, Path(__file__)]):
         return image
     shutil.rmtree(made, ignore_errors=True)
-    module, root = made / "module", made / "root"
-    module.mkdir(parents=True)
-    (root / "bin").mkdir(parents=True)
-    (root / "modules").mkdir()
-    shutil.copy(HERE / "lqtx_bench.c", module)
-    (module / "Makefile").write_text("obj-m := lqtx_bench.o\n", encoding="utf-8")
-    environment = tools.environment()
-    # type information of modules would need one more package
-    run(["make", "-s", "-C", str(kernel.headers()), f"M={module}", "CONFIG_DEBUG_INFO_BTF_MODULES=", "modules"],
-        environment=environment)
-    run([*tools.compiler(), "-O2", "-static", "-o", str(root / "sender"), str(HERE / "sender.c"), "-lpthread"],
-        environment=environment)
-    shutil.copy(tools.path("busybox"), root / "bin/busybox")
-    shutil.copy(HERE / "init", root / "init")
-    (root / "init").chmod(0o755)
+    root = made / "root"
+    (root / "modules").mkdir(parents=True)
     modules = needed_modules(kernel.modules(), SHARING)
-    modules["lqtx_bench.ko"] = (module / "lqtx_bench.ko").read_bytes()
+    modules["lqtx_bench.ko"] = make_module(tools, kernel, made / "module", "lqtx_bench")
+    run([*tools.compiler(), "-O2", "-static", "-o", str(root / "sender"), str(HERE / "sender.c"), "-lpthread"],
+        environment=tools.environment())
     for name, data in modules.items():
         (root / "modules" / name).write_bytes(data)
     (root / "modules/order").write_text("\n".join(modules) + "\n", encoding="utf-8")
-    names = "\n".join(str(it.relative_to(root)) for it in sorted(root.rglob("*"))) + "\n"
-    packed = subprocess.run(["cpio", "-o", "-H", "newc", "--quiet"], cwd=root, env=environment, input=names.encode(),
-                            capture_output=True, check=False)
-    if packed.returncode:
-        raise Missing(f"cpio failed: {packed.stderr.decode()}")
-    small = subprocess.run(["gzip", "-1"], input=packed.stdout, capture_output=True, check=True)
-    image.write_bytes(small.stdout)
+    pack(tools, root, "init", image)
     return image
 
 
+def emulator(tools, kernel, image, processors, more=""):
+    """The words that boot a guest, which is emulated throughout: its processors take turns on one of the host's."""
+    return ["nice", "-n", "19", "qemu-system-x86_64", *tools.firmware(), "-M", "pc", "-accel", "tcg,thread=single",
+            "-cpu", "qemu64", "-smp", str(processors), "-m", "512", "-nographic", "-no-reboot", "-nic", "none",
+            "-kernel", str(kernel.image()), "-initrd", str(image),
+            # on a busy host a kernel's test of its timer fails, and the kernel with it
+            "-append", f"console=ttyS0 quiet ipv6.disable=1 panic=-1 no_timer_check {more}".strip()]
+
+
 def boot(tools, kernel, image, share, processors=1, patience=600, steer=None):
-    """Boots the guest, which works through SHARE/*.cases and leaves an .answers beside each. It is emulated throughout. `steer` is told
-    where the emulator's debugger listens, if the guest's order of steps is chosen."""
-    words = ["nice", "-n", "19", "qemu-system-x86_64", *tools.firmware(), "-M", "pc", "-accel", "tcg,thread=single",
-             "-cpu", "qemu64", "-smp", str(processors), "-m", "512", "-nographic", "-no-reboot", "-nic", "none",
-             "-kernel", str(kernel.image()), "-initrd", str(image),
-             # on a busy host a kernel's test of its timer fails, and the kernel with it; a debugger needs the addresses of the System.map
-             "-append", "console=ttyS0 quiet ipv6.disable=1 panic=-1 no_timer_check nokaslr",
-             "-virtfs", f"local,path={share},mount_tag=share,security_model=none"]
+    """Boots the guest, which works through SHARE/*.cases and leaves an .answers beside each. `steer` is told where the emulator's debugger
+    listens, if the guest's order of steps is chosen; it needs the addresses of the System.map."""
+    words = [*emulator(tools, kernel, image, processors, "nokaslr"), "-virtfs", f"local,path={share},mount_tag=share,security_model=none"]
     console = share / "console"
     with open(console, "wb") as it, tempfile.TemporaryDirectory(prefix="beside-linux-") as room:
         debugger = Path(room) / "debugger"

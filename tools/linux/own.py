@@ -77,6 +77,9 @@ class OwnKernel:
         # a kernel that was built again, or elsewhere, is another one
         self.version = f"{release}-own-{zlib.crc32(str(self._headers).encode() + self._image.read_bytes()):08x}"
 
+    def compiler(self):
+        return []
+
     def image(self):
         return self._image
 

@@ -7,6 +7,7 @@ import re
 import shutil
 import struct
 import subprocess
+import time
 from pathlib import Path
 
 from lib.words import Failed
@@ -23,6 +24,12 @@ PROGRAMS = {
 FILES = {"/usr/include/stdio.h": "libc6-dev", "/usr/lib/x86_64-linux-gnu/libelf.so.1": "libelf1"}
 # Stands in a folder into which everything was unpacked.
 COMPLETE = "complete"
+HERE = Path(__file__).resolve().parent
+# Where Debian has kernels that are newer than the system's own lists; these are fetched again after a day. What their programs for building need.
+NEWER = ("unstable", "trixie-backports")
+MIRROR, KEYS = "http://deb.debian.org/debian", "/usr/share/keyrings/debian-archive-keyring.gpg"
+A_DAY = 86_400
+LIBRARIES = ("libc6", "libelf1t64", "libssl3t64", "zlib1g", "libzstd1")
 
 
 class Missing(Failed):
@@ -44,6 +51,54 @@ def run(words, folder=None, environment=None):
     return done.stdout
 
 
+class Lists:
+    """The package lists that apt looks at: the system's, or those of newer releases, which are kept in a folder."""
+
+    def __init__(self, folder=None):
+        self.words = []
+        if folder:
+            room = folder / "apt"
+            for it in ("state/lists/partial", "cache/archives/partial"):
+                (room / it).mkdir(parents=True, exist_ok=True)
+            sources, text = room / "sources.list", "".join(f"deb [signed-by={KEYS}] {MIRROR} {it} main\n" for it in NEWER)
+            is_fresh = sources.exists() and sources.read_text(encoding="utf-8") == text and time.time() - sources.stat().st_mtime < A_DAY
+            if not is_fresh:
+                sources.write_text(text, encoding="utf-8")
+            options = (f"Dir::State={room}/state", f"Dir::Cache={room}/cache", f"Dir::Etc::sourcelist={sources}", "Dir::Etc::sourceparts=/dev/null",
+                       "APT::Sandbox::User=root", "Acquire::Languages=none")  # fmt: skip
+            self.words = [word for it in options for word in ("-o", it)]
+            if not is_fresh or not any((room / "state/lists").glob("*_Packages*")):
+                run(["apt-get", *self.words, "update"])
+
+    def ask(self, *words):
+        return run(["apt-cache", *self.words, *words])
+
+    def names(self, pattern):
+        return [line.split()[0] for line in self.ask("search", "--names-only", pattern).splitlines()]
+
+
+def versions_of(line, lists):
+    """The kernels of a line among the lists, oldest first."""
+    names = lists.names(rf"^linux-image-{re.escape(line)}[.][0-9.+a-z-]*-amd64$")
+    plain = [it.removeprefix("linux-image-") for it in names if re.fullmatch(r"linux-image-\d+(\.\d+)*(\+deb\d+)?(-\d+)?-amd64", it)]
+    return sorted(plain, key=lambda it: [int(number) for number in re.findall(r"\d+", it)])
+
+
+def named(word, folder, tell):
+    """The version of a kernel that a word names, a line as 7.2 or a whole version, and the lists that have it."""
+    own = Lists()
+    line = word.removesuffix("-amd64")
+    found = [word] if word.endswith("-amd64") and own.names(f"^linux-image-{re.escape(word)}$") else versions_of(line, own)
+    if found:
+        return found[-1], own
+    tell(f"the system's package lists have no kernel {word}: looking at those of {' and '.join(NEWER)}")
+    newer = Lists(folder)
+    found = [word] if word.endswith("-amd64") and newer.names(f"^linux-image-{re.escape(word)}$") else versions_of(line, newer)
+    if not found:
+        raise Missing(f"no package list has a kernel {word}: neither the system's nor those of {' and '.join(NEWER)}")
+    return found[-1], newer
+
+
 def newest(line):
     """The newest kernel of a line, as '6.1' or '6.12': the one that the line's own package depends on."""
     package = "linux-image-amd64" if line == "6.1" else f"linux-image-{line}-amd64"
@@ -62,13 +117,13 @@ def kernels():
     return sorted(plain, key=lambda it: [int(number) for number in re.findall(r"\d+", it)])
 
 
-def fetch(names, folder):
+def fetch(names, folder, lists=Lists()):
     """Downloads packages and unpacks them into a folder."""
     kept = folder / "packages"
     kept.mkdir(parents=True, exist_ok=True)
     for name in names:
         try:
-            run(["apt-get", "download", name], folder=kept)
+            run(["apt-get", *lists.words, "download", name], folder=kept)
         except Missing as it:
             raise Missing(f"the package {name} can't be had: {it}") from None
     for package in sorted(kept.glob("*.deb")):
@@ -148,17 +203,19 @@ class Tools:
 
 
 class Kernel:
-    """A kernel's image, modules and headers."""
+    """A kernel's image, modules and headers. Newer packages have the image and the modules apart; `alone` leaves the modules out."""
 
-    def __init__(self, version, folder, tell):
-        self.version = version
-        self.root = folder / f"kernel-{version}" / "root"
+    def __init__(self, version, folder, tell, lists=None, alone=False):
+        self.version, self.lists = version, lists or Lists()
+        self.root = folder / f"kernel-{version}{'-alone' if alone else ''}" / "root"
         if not (self.root / COMPLETE).exists():
             tell(f"fetching the kernel {version} and its headers")
-            text = run(["apt-cache", "depends", f"linux-headers-{version}"])
-            below = re.findall(r"Depends: (linux-(?:headers|kbuild)-\S+)", text)
-            fetch([f"linux-image-{version}", f"linux-headers-{version}", *below], self.root.parent)
+            below = re.findall(r"Depends: (linux-(?:headers|kbuild)-\S+)", self.lists.ask("depends", f"linux-headers-{version}"))
+            apart = re.findall(r"Depends: (linux-(?:binary|modules)-\S+)", self.lists.ask("depends", f"linux-image-{version}"))
+            parts = [it for it in apart if not (alone and "-modules-" in it)]
+            fetch([*(parts or [f"linux-image-{version}"]), f"linux-headers-{version}", *below], self.root.parent, self.lists)
             self._mend_headers()
+            self._mend_programs(tell)
             (self.root / COMPLETE).touch()
 
     def _mend_headers(self):
@@ -174,8 +231,34 @@ class Kernel:
                 text = make.read_text(encoding="utf-8")
                 make.write_text(re.sub(r"(?<=[ =])/usr/(src|lib)/", rf"{self.root}/usr/\1/", text), encoding="utf-8")
 
+    def _mend_programs(self, tell):
+        """Programs for building that need a newer C library than the system's are called with that library."""
+        programs = [it for it in (self.root / "usr/lib").glob("linux-kbuild-*/**/*") if it.is_file() and it.read_bytes()[:4] == b"\x7fELF"]
+        chosen = next((it for it in programs if it.name == "modpost.real-lsb-64"), None)
+        if not chosen or b"not found" not in subprocess.run([chosen], capture_output=True, check=False).stderr:
+            return
+        tell("its programs for building need a newer C library, which is fetched for them")
+        fetch(LIBRARIES, self.root.parent / "libraries", self.lists)
+        folder = self.root.parent / "libraries/root/usr/lib/x86_64-linux-gnu"
+        names = {it: it.with_name(f"{it.name}.program") for it in programs}
+        for it in programs:
+            it.rename(names[it])
+        for it in programs:
+            # some only choose the one for this machine
+            chosen = [it.with_name(f"{it.name}.{kind}") for kind in ("real-x86", "real-lsb-64")]
+            real = next((names[other] for other in chosen if other in names), names[it])
+            it.write_text(f'#!/bin/sh\nexec {folder}/ld-linux-x86-64.so.2 --library-path {folder} "{real}" "$@"\n', encoding="utf-8")
+            it.chmod(0o755)
+
+    def compiler(self):
+        """What kbuild is told of the compiler: a kernel that was built by another one names options that the host's may not know."""
+        text = (self.headers() / "include/config/auto.conf").read_text(encoding="utf-8")
+        found = re.search(r'^CONFIG_CC_VERSION_TEXT="?([^ "]+)', text, flags=re.M)
+        return [f"CC={HERE / 'host-gcc'}"] if found and not shutil.which(found[1]) else []
+
     def image(self):
-        return self.root / "boot" / f"vmlinuz-{self.version}"
+        apart = self.root / "usr/lib/modules" / self.version / "vmlinuz"
+        return apart if apart.exists() else self.root / "boot" / f"vmlinuz-{self.version}"
 
     def headers(self):
         return self.root / "usr/src" / f"linux-headers-{self.version}"

@@ -1,0 +1,96 @@
+"""Rounds in which a qdisc is deactivated and activated again with packets in it: in how many of them packets are left behind."""
+import subprocess
+from collections import namedtuple
+
+from linux import guest, packages
+
+# the orders of left_device.c, and the same as the first with a schedule after dev_activate
+ORDERS = {
+    (1, 0): "a wake finds noop_qdisc",
+    (2, 0): "a soft interrupt finds DEACTIVATED",
+    (3, 0): "a run finds the queue frozen",
+    (4, 0): "a wake at any time",
+    (1, 1): "as the first, and each queue is scheduled after dev_activate",
+}
+CONTROL = "6.1"
+PACKETS, PROCESSORS, ROUNDS, PATIENCE = 3, 2, 30, 130
+# of an order: its rounds, those in which the order came about, those with packets left, and packets: left, purged, sent with the next transmit
+Count = namedtuple("Count", "rounds came_about with_left left purged taken")
+NO_ROUND = Count(0, 0, 0, 0, 0, 0)
+
+
+def counts_of(console):
+    """Of each order the counts of its rounds, as the guest's console has them, and whether the guest came to its end."""
+    found = dict.fromkeys(ORDERS, NO_ROUND)
+    lines = console.splitlines()
+    for words in (it.split() for it in lines if it.startswith("round ")):
+        if len(words) != 9:
+            continue
+        order, cure, came_about, left, _, purged, taken, _ = map(int, words[1:])
+        was = found[order, cure]
+        one = (1, int(came_about > 0), int(left > 0), left, purged, taken if left else 0)
+        found[order, cure] = Count(*(a + b for a, b in zip(was, one)))
+    return found, "the end" in lines
+
+
+def table(results):
+    """A line for each order, and for each kernel the rounds in which packets were left; then what became of the packets."""
+    names = list(results)
+    width = max(map(len, ORDERS.values()))
+    yield f"{'rounds in which packets are left':{width}}  " + "  ".join(f"{it:>12}" for it in names)
+    for order, about in ORDERS.items():
+        counts = [results[it][order] for it in names]
+        yield f"{about:{width}}  " + "  ".join(f"{f'{it.with_left} of {it.rounds}':>12}" for it in counts)
+    for name in names:
+        of = [sum(it) for it in zip(*results[name].values())]
+        yield (f"{name}: {of[0] * PACKETS} packets, {of[3]} left, of which the next transmit took {of[5]} along, {of[4]} purged, "
+               f"{of[0] * PACKETS - of[3] - of[4]} sent")  # fmt: skip
+
+
+def image_of(tools, kernel, folder):
+    made = folder / f"left-{kernel.version}"
+    image = made / "image.gz"
+    sources = [guest.HERE / it for it in ("left_device.c", "left-init", "guest.py", "left.py")]
+    if image.exists() and all(it.stat().st_mtime < image.stat().st_mtime for it in sources):
+        return image
+    guest.shutil.rmtree(made, ignore_errors=True)
+    root = made / "root"
+    root.mkdir(parents=True)
+    (root / "left_device.ko").write_bytes(guest.make_module(tools, kernel, made / "module", "left_device"))
+    (root / "rounds").write_text(f"{ROUNDS}\n", encoding="utf-8")
+    guest.pack(tools, root, "left-init", image)
+    return image
+
+
+def boot(tools, kernel, image):
+    """What the guest's console said in the time that a kernel has."""
+    words = guest.emulator(tools, kernel, image, PROCESSORS)
+    try:
+        done = subprocess.run(words, env=tools.environment(), stdin=subprocess.DEVNULL, capture_output=True, timeout=PATIENCE, check=False)
+        said = done.stdout
+    except subprocess.TimeoutExpired as it:
+        said = it.stdout or b""
+    return said.decode(errors="replace").replace("\r", "")
+
+
+def rounds_of(tools, word, folder, tell):
+    """The name of a kernel and its counts."""
+    version, lists = packages.named(word, folder, tell)
+    kernel = packages.Kernel(version, folder, tell, lists, alone=True)
+    image = image_of(tools, kernel, folder)
+    tell(f"booting {version}: at most {PATIENCE} s")
+    console = boot(tools, kernel, image)
+    (image.parent / "console").write_text(console, encoding="utf-8")
+    counts, is_whole = counts_of(console)
+    if counts[1, 0] == NO_ROUND:
+        raise packages.Missing(f"the guest of {version} didn't come to its rounds; its console is in {image.parent / 'console'}")
+    if not is_whole:
+        tell(f"the guest of {version} didn't come to the end of its rounds in {PATIENCE} s: the table has those that it came to")
+    return version.removesuffix("-amd64"), counts
+
+
+def compare(tools, word, folder, tell):
+    """The table of a kernel beside the control."""
+    words = [word] if word == CONTROL else [word, CONTROL]
+    results = dict(rounds_of(tools, it, folder, tell) for it in words)
+    return results, table(results)
