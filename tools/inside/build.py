@@ -11,6 +11,12 @@ TEXT_WORDS = ["gcc", "-std=gnu11", "-O1", "-gdwarf-4", "-w", "-Werror=implicit-f
               "--param", "tsan-distinguish-volatile=1", "--param", "tsan-instrument-func-entry-exit=0"]
 SEARCH_WORDS = ["g++", "-std=gnu++17", "-gdwarf-4", "-w", "-fno-pie"]
 
+# what differs between versions, and a text that a version has it by
+OF_VERSIONS = {
+    "NET_TX_ACTION_TAKES_NOTHING": "net_tx_action(void)", "DEACTIVATION_MAY_KEEP": "bool reset_needed", "RUNNING_IS_A_BIT": "__QDISC_STATE2_RUNNING",
+    "MAY_DEFER": "defer_list",
+}  # fmt: skip
+
 
 class NotCompiled(Exception):
     """A text that the compiler refuses; the text has the compiler's first lines."""
@@ -54,8 +60,7 @@ class Builder:
         defines = [f"-D{name.upper()}={value}" for name, value in values.items()]
         if size.world == "path":
             defines.append(f"-DPACKETS={values['seats'] * size.options()['sends'] + size.options()['waiting']}")
-        if "net_tx_action(void)" in cut.text:
-            defines.append("-DNET_TX_ACTION_TAKES_NOTHING=1")
+        defines += [f"-D{name}=1" for name, text in OF_VERSIONS.items() if text in cut.text]
         out = self.folder / f"{size.world}{self.level}-{checksum(self.sources, cut.text, defines)}"
         if out.exists():
             return out

@@ -24,7 +24,7 @@ NO_BYPASS = {"bypass": 0}
 STOP = {"stops": 1, "wakes": 1}
 THREE = {"sends": 2, "total": 3, "busy": 1}
 STOPPED = {"sends": 2, "total": 2, "stopped": 1, "wakes": 1}
-QUOTA = {"stopped": 1, "wakes": 1, "quota": 1, "bypass": 0}
+ONE_A_RUN = {"stopped": 1, "wakes": 1, "quota": 1, "bypass": 0}
 DOWN = {"downs": 1, "busy": 2}
 
 BREAKS = [
@@ -45,7 +45,7 @@ BREAKS = [
     _break("requeue-sets-draining", {"busy": 1}, True, ("dev_requeue_skb", "__QDISC_STATE_MISSED", "__QDISC_STATE_DRAINING")),
     _break("missed-before-the-requeue", {"busy": 1}, False, ("dev_requeue_skb", _SET, ";"),
            ("dev_requeue_skb", r"spinlock_t \*lock = NULL;", "spinlock_t *lock = NULL; set_bit(__QDISC_STATE_MISSED, &q->state);")),
-    _break("quota-without-missed", QUOTA, True, ("__qdisc_run", r"set_bit\([^)]*\)", "(void)0")),
+    _break("quota-without-missed", ONE_A_RUN, True, ("__qdisc_run", r"set_bit\([^)]*\)", "(void)0")),
     _break("no-look-under-the-lock", THREE, True, ("__dev_xmit_skb", r"if \(unlikely\(!nolock_qdisc_is_empty\(q\)\)\)", "if (0)")),
     _break("run-end-clears-missed", THREE, True, ("qdisc_run_end", r"unlikely\(test_bit\(", "unlikely(test_and_clear_bit(")),
     _break("no-look-after-a-direct-transmit", {}, False, ("__dev_xmit_skb", r"&&\s*!nolock_qdisc_is_empty\(q\)\)\s*__qdisc_run", "&& 0) __qdisc_run")),

@@ -140,6 +140,9 @@ static string follow_control(const Op &o, int t)
 	if (is_named(o, "state") && (o.kind == SETB || o.kind == CLRB)) {
 		uint8_t *const bits[] = {&m.sched, &m.deactivated, &m.missed, &m.draining};
 		*bits[o.arg] = o.kind == SETB;
+	} else if (is_named(o, "state") && o.kind == TAS && o.arg == 0) { // an activation that schedules
+		m.seats[t].raised |= !m.sched;
+		m.sched = 1;
 	} else if (is_named(o, "seqlock") && (o.kind == LOCK || o.kind == UNLOCK)) {
 		m.locked = o.kind == LOCK;
 		if (o.kind == UNLOCK)
@@ -240,6 +243,16 @@ static string follow_noop(const Op &o, int t)
 	return "";
 }
 
+// From 7.3 on nobody schedules a discipline that is deactivated.
+static string follow_deactivated(MachineSeat &s, const Op &o)
+{
+	if (!o.result)
+		return more(s, "the state is tested for DEACTIVATED: clear");
+	s.at = s.inside ? AT_LEAVE : AT_IDLE;
+	more_in_text["Sched: the state has DEACTIVATED, and nobody is scheduled"]++;
+	return "";
+}
+
 static string follow_operation(const Op &o, int t)
 {
 	if (o.kind == CALL)
@@ -269,6 +282,8 @@ static string follow_operation(const Op &o, int t)
 	string said = follow_ring(o, c, t, known);
 	if (known)
 		return said;
+	if (s.at == AT_SCHED && o.kind == TESTB && is_named(o, "state") && o.arg == 1)
+		return follow_deactivated(s, o);
 	if (o.kind == TESTB && is_named(o, "stop word") && (s.at == AT_POST || s.at == AT_DEQ || s.at == AT_QUOTA))
 		return more(s, "the stop word is tested behind the device's answer");
 	if (kind_of(o) != SHARED || is_named(o, "qdisc lock")) {
@@ -346,6 +361,9 @@ static string compare_words(int c)
 	if (world_alone() >= 0) // control changes the rings, and no other seat may use them
 		return "";
 	path_view(c, &v);
+	for (int b = 0; b < 3; b++) // a shorter ring keeps the first packets: from 7.2 on some may be left in it
+		for (; m.n[b] > v.len; m.n[b]--)
+			m.band[b][m.n[b] - 1] = 0;
 	m.len = v.len;
 	if (v.state != m.state())
 		return "the state is " + to_string(v.state) + ", in the machine " + to_string(m.state());

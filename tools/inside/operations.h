@@ -24,6 +24,7 @@ void barrier_hook(int kind);
 #define smp_mb__after_atomic() barrier_hook(4)
 /* the compiler announces a volatile access apart from a plain one */
 #define READ_ONCE(x) (*(const volatile __typeof__(x) *)&(x))
+#define data_race(x) (x)
 #define WRITE_ONCE(x, v) (*(volatile __typeof__(x) *)&(x) = (v))
 
 #endif

@@ -146,15 +146,27 @@ static void soft_interrupt(void)
 #endif
 }
 
-/* Control waits; the soft interrupt of its own processor comes meanwhile. */
+/* as dev_close: what waits is freed */
+static void deactivate(void)
+{
+#if DEACTIVATION_MAY_KEEP
+	dev_deactivate(&world.dev, true);
+#else
+	dev_deactivate(&world.dev);
+#endif
+}
+
+/* Control waits, which is a full barrier; the soft interrupt of its own processor comes meanwhile. */
 PLAIN static void wait_for(int question)
 {
 	int seat = seat_now();
 
+	smp_mb();
 	if (question == GRACE)
 		COUNTS->waits = COUNTS->inside & ~(1 << seat);
 	while (ask(question, 0) == SOFT_INTERRUPT)
 		soft_interrupt();
+	smp_mb();
 }
 
 PLAIN static void *begin_resize(void)
@@ -210,7 +222,7 @@ void world_run(int seat, struct start it)
 	case SOFTIRQ: soft_interrupt(); break;
 	case WAKE: netif_tx_wake_queue(&world.txq[it.a]); break;
 	case DOWN:
-		dev_deactivate(&world.dev);
+		deactivate();
 		set_down(2);
 		break;
 	case UP:

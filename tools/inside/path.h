@@ -5,7 +5,7 @@
 enum { MOST_CHILDREN = 2, MOST_QUEUES = 2, MOST_PACKETS = 44, MOST_LEN = 32 };
 /* a: the packet, or the queue; b: the band, and the queue of a packet times 4 */
 enum path_call { TRANSMIT = 1, SOFTIRQ, WAKE, DOWN, UP, CHANGE_LENGTH };
-enum path_question { DEVICE = 1, GRACE, SLEEP };
+enum path_question { DEVICE = 1, GRACE = A_WAIT, SLEEP };
 enum device_answer { SENT, SENT_STOP, BUSY };
 enum wait_answer { WAITED, SOFT_INTERRUPT };
 

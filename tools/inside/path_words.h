@@ -122,6 +122,9 @@ PLAIN static int name_child(int c)
 	NAME("dev_queue", q->dev_queue, CONSTANT, 0, c);
 	NAME("dequeue", q->dequeue, CONSTANT, 0, c);
 	NAME("enqueue", q->enqueue, CONSTANT, 0, c);
+#if MAY_DEFER
+	NAME("defer_list", q->defer_list, CONSTANT, 0, c); /* of a discipline with a lock */
+#endif
 	return lock;
 }
 
@@ -132,7 +135,11 @@ PLAIN static void name_noop(void)
 	int lock = NAME("noop_qdisc's lock", q->q.lock, SHARED, 0, -1);
 
 	names[NAME("noop_qdisc's state", q->state, SHARED, 0, -1)].bits = state_bits;
+#if RUNNING_IS_A_BIT
 	NAME("noop_qdisc's state2", q->state2, GUARDED, lock, -1);
+#else
+	NAME("noop_qdisc's running", q->running, GUARDED, lock, -1);
+#endif
 	NAME("noop_qdisc's next_sched", q->next_sched, OWN, 0, -1);
 	NAME("noop_qdisc", world.noop, CONSTANT, 0, -1);
 }

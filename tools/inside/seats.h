@@ -39,7 +39,7 @@ struct Op {
 // A store that the other seats don't see yet (memory.h).
 struct Entry {
 	int32_t offset;
-	uint8_t size, kind, release, pad;
+	uint8_t size, kind, release, is_old; // is_old: the call that made it has ended
 	uint64_t value;
 };
 
@@ -169,6 +169,8 @@ static void seat_main()
 		stepped.push_back(o);
 		world_run(current, seats[current].call);
 		settle_store();
+		for (int i = 0; i < seats[current].buffered; i++)
+			seats[current].buffer[i].is_old = 1;
 		o.kind = END;
 		stepped.push_back(o);
 	}

@@ -5,7 +5,11 @@ import subprocess
 from pathlib import Path
 
 PROGRAMS = {"gcc": "gcc", "g++": "g++", "addr2line": "binutils"}
-LINES = ("6.1", "6.12")
+# the lines of kernels; the package lists of Debian 12 have the first two, and the others are in lists of a folder of our own
+LINES = ("6.1", "6.12", "7.2", "7.3")
+NEWER = LINES[2:]
+KEYS = "/usr/share/keyrings/debian-archive-keyring.gpg"
+SUITES = ("sid", "trixie-backports")
 
 
 class Missing(Exception):
@@ -31,6 +35,31 @@ def run(words, folder):
     return done.stdout
 
 
+def lists_of(line, folder, tell):
+    """The words by which apt uses the lists that have a line: those of the system, or unstable's and the backports', fetched into a folder of the user's."""
+    if line not in NEWER:
+        return []
+    room = Path(folder).resolve() / "apt"
+    for part in ("state/lists/partial", "cache/archives/partial"):
+        (room / part).mkdir(parents=True, exist_ok=True)
+    (room / "sources.list").write_text("".join(f"deb [signed-by={KEYS}] http://deb.debian.org/debian {suite} main\n" for suite in SUITES), encoding="utf-8")
+    places = {"State": room / "state", "Cache": room / "cache", "State::status": "/dev/null", "Etc::sourcelist": room / "sources.list", "Etc::sourceparts": "/dev/null"}
+    words = [word for name, place in places.items() for word in ("-o", f"Dir::{name}={place}")] + ["-o", "Acquire::Languages=none"]
+    tell(f"fetching the package lists of Debian's {' and '.join(SUITES)}")
+    run(["apt-get", *words, "update"], room)
+    return words
+
+
+def why_not(package, lists, it):
+    """Why a package can't be had: the lists haven't it any more, or apt's own words."""
+    if not lists:
+        return f"the package {package} can't be had ({it}); `apt-get update` as root fetches the package lists"
+    offered = sorted(re.findall(r"^(linux-source-[0-9.]+) ", run(["apt-cache", *lists, "search", "--names-only", "^linux-source-[0-9]"], "."), re.M))
+    if package in offered:
+        return f"the package {package} can't be had ({it})"
+    return f"Debian's {' and '.join(SUITES)} offer no {package} any more; they have {', '.join(offered) or 'none'}"
+
+
 def fetch(line, files, folder, tell):
     """The tree of a line's source, with these files alone; it is fetched once, and unpacked into a folder of the user's."""
     package, room = f"linux-source-{line}", Path(folder) / f"source-{line}"
@@ -39,11 +68,12 @@ def fetch(line, files, folder, tell):
         return tree, done.read_text(encoding="utf-8").strip()
     shutil.rmtree(room, ignore_errors=True)
     room.mkdir(parents=True)
+    lists = lists_of(line, folder, tell)
     tell(f"fetching the package {package} (about 150 MB)")
     try:
-        run(["apt-get", "download", package], room)
+        run(["apt-get", *lists, "download", package], room)
     except Missing as it:
-        raise Missing(f"the package {package} can't be had ({it}); `apt-get update` as root fetches the package lists") from None
+        raise Missing(why_not(package, lists, it)) from None
     archive = next(room.glob("*.deb"))
     run(["dpkg-deb", "-x", archive.name, "."], room)
     version = re.sub(r"^[^_]*_|_all\.deb$", "", archive.name)

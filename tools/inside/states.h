@@ -60,7 +60,7 @@ static Key key_of(const string &state)
 		const Seat &s = seats[t];
 		add(k, s.history + s.call.call * 77 + s.call.a + s.call.b * 1013);
 		for (int i = 0; i < s.buffered; i++) {
-			add(k, s.buffer[i].offset * 64 + s.buffer[i].kind * 4 + s.buffer[i].release);
+			add(k, s.buffer[i].offset * 128 + s.buffer[i].is_old * 64 + s.buffer[i].kind * 4 + s.buffer[i].release);
 			add(k, s.buffer[i].value + 7);
 		}
 	}
@@ -110,6 +110,16 @@ public:
 enum { A_STORE = 100 };
 struct Choice { uint8_t seat, what; };
 
+// Whether others don't see yet what a call has stored that has ended.
+static bool has_old_stores()
+{
+	for (int t = 0; t < seat_count; t++)
+		for (int i = 0; i < seats[t].buffered; i++)
+			if (seats[t].buffer[i].is_old)
+				return true;
+	return false;
+}
+
 static void seat_choices(uint8_t t, vector<Choice> &out)
 {
 	Seat &s = seats[t];
@@ -124,8 +134,10 @@ static void seat_choices(uint8_t t, vector<Choice> &out)
 		count = world_answers(t, s.next.index, s.next.arg, answers);
 	else if (s.next.kind == LOCK)
 		count = value_at(s.next.offset, 4) == 0;
+	bool waits = s.next.kind == ASK && s.next.index >= A_WAIT && has_old_stores();
 	for (int i = 0; i < count; i++)
-		out.push_back({t, uint8_t(i)});
+		if (!waits || answers[i])
+			out.push_back({t, uint8_t(i)});
 }
 
 static vector<Choice> choices()

@@ -25,6 +25,7 @@ typedef _Bool bool;
 #define IS_ENABLED(x) 0
 #define SMP_CACHE_BYTES 64
 #define ENOSPC 28
+#define EINVAL 22
 #define ENOMEM 12
 #define NET_XMIT_SUCCESS 0
 #define NET_XMIT_DROP 1
@@ -54,6 +55,31 @@ static inline void __clear_bit(long nr, unsigned long *p) { *p &= ~BIT(nr); }
 #define spin_unlock_irqrestore(l, f) ((void)(f), spin_unlock(l))
 #define smp_processor_id() seat_now()
 
+/* from 7.2 on: the list of packets that wait for a lock, which a lockless discipline hasn't, and other names */
+#define __cacheline_group_begin(x) struct {} x##_begin
+#define __cacheline_group_end(x) struct {} x##_end
+struct llist_node { struct llist_node *next; };
+struct llist_head { struct llist_node *first; };
+typedef struct { long v; } atomic_long_t;
+typedef long u64_stats_t;
+#define llist_empty(h) (READ_ONCE((h)->first) == NULL)
+#define llist_next(n) ((n)->next)
+#define llist_del_all(h) (wrong("the list of deferred packets is used, which this world hasn't"), (struct llist_node *)NULL)
+#define llist_reverse_order(l) (l)
+#define llist_for_each_entry_safe(p, n, l, m) for ((p) = NULL, (n) = NULL; (p);)
+#define atomic_long_inc_return(x) (++(x)->v)
+#define atomic_long_set(x, n) ((x)->v = (n))
+#define try_cmpxchg(p, o, n) (*(p) == *(o) ? (*(p) = (n), 1) : (*(o) = *(p), 0))
+#define prefetch(x) ((void)0)
+#define tcf_set_qdisc_drop_reason(skb, r) ((void)0)
+#define tcf_kfree_skb_list(l, q, t, d) kfree_skb_list_reason(l, 0)
+#define rtnl_kfree_skbs(head, tail) kfree_skb_list_reason(head, 0)
+#define dev_nit_active_rcu(d) 0
+#define qdisc_qlen_inc(q) ((q)->q.qlen++)
+#define qdisc_qlen_dec(q) ((q)->q.qlen--)
+#define netdev_watchdog_down(d) ((void)0)
+#define netdev_watchdog_up(d) ((void)0)
+
 /* types */
 struct rcu_head {}; struct hlist_node {}; struct lock_class_key {}; struct tc_stats {}; struct list_head {};
 typedef struct {} netdevice_tracker;
@@ -62,7 +88,7 @@ struct gnet_stats_basic_sync {}; struct gnet_stats_queue { u32 backlog, qlen, dr
 struct net_rate_estimator; struct qdisc_size_table; struct Qdisc_class_ops; struct softirq_action; struct Qdisc;
 struct nlattr; struct netlink_ext_ack; struct gnet_dump; struct module; struct sk_buff; struct net_device; struct netdev_queue;
 struct sk_buff_list { struct sk_buff *next, *prev; };
-struct sk_buff { struct sk_buff *next, *prev; u32 priority, len; u16 queue_mapping; short number; refcount_t users; u8 fclone; };
+struct sk_buff { union { struct { struct sk_buff *next, *prev; }; struct llist_node ll_node; }; u32 priority, len; u16 queue_mapping; short number; refcount_t users; u8 fclone; };
 struct sk_buff_head { union { struct { struct sk_buff *next, *prev; }; struct sk_buff_list list; }; u32 qlen; spinlock_t lock; };
 struct netdev_queue { struct net_device *dev; struct Qdisc *qdisc, *qdisc_sleeping; spinlock_t _xmit_lock; int xmit_lock_owner; unsigned long state, trans_start; };
 struct net_device {
@@ -158,7 +184,7 @@ enum skb_drop_reason { SKB_DROP_REASON_NOT_SPECIFIED, SKB_DROP_REASON_QDISC_DROP
 #define noop_qdisc (*the_noop_qdisc())
 static struct Qdisc *the_noop_qdisc(void);
 extern int dev_tx_weight;
-extern struct hotdata { int dev_tx_weight; } net_hotdata;
+extern struct hotdata { int dev_tx_weight, qdisc_max_burst; } net_hotdata;
 extern struct softnet_data softnet_data; /* its address alone is taken */
 static void *processor(int seat);
 static struct net_device *the_device(void);

@@ -14,6 +14,7 @@ typedef _Bool bool;
 #define ____cacheline_aligned_in_smp
 #define SMP_CACHE_BYTES 64
 #define ENOSPC 28
+#define EINVAL 22
 #define ENOMEM 12
 #define spin_lock_bh(l) spin_lock(l)
 #define spin_unlock_bh(l) spin_unlock(l)

@@ -19,6 +19,9 @@ struct word {
 	int is_pointer, child;    /* child: the queueing discipline whose word it is, or -1 */
 };
 
+/* a question from A_WAIT on is a wait, whose answer 0 says that it is over: then all sees what the calls that have ended stored */
+enum { A_WAIT = 64 };
+
 /* a call that a seat may begin; what `a` and `b` are is the world's */
 struct start { int call, a, b; };
 
