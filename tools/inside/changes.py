@@ -74,6 +74,7 @@ class Order(NamedTuple):
     without: int = 0
 
 
+MODELS = ("x86", "weak")
 _BARRIER = r"smp_mb__after_atomic\(\);"
 ADDED = Change("net_tx_action", r"(clear_bit\(__QDISC_STATE_SCHED, &q->state\);)(\s*qdisc_run\(q\);)", r"\1 smp_mb__after_atomic();\2")
 STOP_ONLY = {**NO_BYPASS, **STOP}

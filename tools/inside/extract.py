@@ -126,17 +126,26 @@ def of_world(names, changes):
     return tuple(it for it in changes if it.name in wanted)
 
 
-def cut(tree, names, changes=()):
-    """All that is wanted of a tree, as one text to compile."""
+def places_of(tree, names):
+    """Each definition that is wanted, with the file that has it and where it stands there; the files, and what is missing."""
     files, wanted = read_names(names)
     sources = read_tree(tree, files)
-    pieces, missing, lines, found = [], [], 0, set()
-    for it in wanted:
-        where = next(((source, span) for source in sources for span in [find(it, source)] if span), None)
-        if where is None:
-            missing += [] if it.optional else [f"{it.kind} {it.name}"]
-            continue
-        source, (start, end) = where
+    places = [(it, next(((source, span) for source in sources for span in [find(it, source)] if span), None)) for it in wanted]
+    found = [(it, *place) for it, place in places if place]
+    return found, files, [f"{it.kind} {it.name}" for it, place in places if not place and not it.optional]
+
+
+def code_of(tree, names):
+    """Of each definition, by its kind and name, its text without comments and with one blank between words."""
+    found, _, _ = places_of(tree, names)
+    return {(it.kind, it.name): " ".join((source.text if it.kind == "macro" else source.bare)[start:end].split()) for it, source, (start, end) in found}
+
+
+def cut(tree, names, changes=()):
+    """All that is wanted of a tree, as one text to compile."""
+    places, files, missing = places_of(tree, names)
+    pieces, lines, found = [], 0, set()
+    for it, source, (start, end) in places:
         text = source.text[start:end]
         pieces.append(f'#line {source.text.count(chr(10), 0, start) + 1} "{source.path}"\n{changed_text(it, text, changes)}\n')
         lines += text.count("\n") + 1

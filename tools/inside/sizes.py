@@ -12,12 +12,14 @@ LEAST = {"seats": 1, "len": 1, "children": 1, "queues": 1, "sends": 1, "bands": 
 
 
 class Size(NamedTuple):
-    """What is searched: `world` is `path` or `tap`; `values` are those that differ from when nothing is said; a search stops after `most` states."""
+    """What is searched: `world` is `path` or `tap`; `values` are those that differ from when nothing is said; a search stops after `most` states; `models` of
+    memory in which it is small enough to be searched, too."""
 
     text: str
     values: dict
     world: str = "path"
     most: int = 500_000
+    models: tuple = ()
 
     def compiled(self):
         named = TAP_COMPILED if self.world == "tap" else COMPILED
@@ -28,30 +30,31 @@ class Size(NamedTuple):
         return {name: self.values.get(name, value) for name, value in named.items()}
 
 
+BOTH = ("x86", "weak")
 STANDARD = [
-    Size("one transmit each, no bypass", {"bypass": 0}),
-    Size("one transmit each", {}),
-    Size("bands 0 and 1", {"bands": 2}),
-    Size("a busy answer", {"busy": 1}),
-    Size("a stop and a wake, no bypass", {"bypass": 0, "stops": 1, "wakes": 1}),
+    Size("one transmit each, no bypass", {"bypass": 0}, models=BOTH),
+    Size("one transmit each", {}, models=BOTH),
+    Size("bands 0 and 1", {"bands": 2}, models=("x86",)),
+    Size("a busy answer", {"busy": 1}, models=BOTH),
+    Size("a stop and a wake, no bypass", {"bypass": 0, "stops": 1, "wakes": 1}, models=BOTH),
     Size("a stop and a wake", {"stops": 1, "wakes": 1}),
-    Size("two transmits each, no bypass", {"sends": 2, "bypass": 0}),
+    Size("two transmits each, no bypass", {"sends": 2, "bypass": 0}, models=("x86",)),
     Size("two transmits each, no bypass, rings of 32", {"sends": 2, "bypass": 0, "len": 32}),
     Size("three transmits, a busy answer", {"sends": 2, "total": 3, "busy": 1}, most=1_500_000),
     Size("two transmits, of one seat or of both, to a queue that is stopped at first, a wake", {"sends": 2, "total": 2, "stopped": 1, "wakes": 1}, most=1_000_000),
-    Size("one transmit each to a queue that is stopped at first, a wake, quota 1, no bypass", {"stopped": 1, "wakes": 1, "quota": 1, "bypass": 0}),
+    Size("one transmit each to a queue that is stopped at first, a wake, quota 1, no bypass", {"stopped": 1, "wakes": 1, "quota": 1, "bypass": 0}, models=("x86",)),
     Size("32 packets wait in a ring of 32 slots, a wake, no bypass", {"len": 32, "waiting": 32, "wakes": 1, "bypass": 0}),
-    Size("a deactivation and an activation", {"downs": 1}),
+    Size("a deactivation and an activation", {"downs": 1}, models=("x86",)),
     Size("the same, with a stop and a wake, no bypass", {"downs": 1, "stops": 1, "wakes": 1, "bypass": 0}),
     Size("the same, with two busy answers", {"downs": 1, "busy": 2}),
     Size("a change of the length from 2 to 1", {"lengths": 1, "new_len": 1}),
-    Size("the same, with a queue that is stopped at first, a wake, no bypass", {"lengths": 1, "new_len": 1, "stopped": 1, "wakes": 1, "bypass": 0}),
+    Size("the same, with a queue that is stopped at first, a wake, no bypass", {"lengths": 1, "new_len": 1, "stopped": 1, "wakes": 1, "bypass": 0}, models=("x86",)),
     Size("two queues on one discipline, a busy answer", {"queues": 2, "busy": 1}),
     Size("two queues on one discipline, a stop and a wake, no bypass", {"queues": 2, "stops": 1, "wakes": 1, "bypass": 0}),
     Size("two children with a queue each", {"queues": 2, "children": 2}),
     Size("two children, a stop and a wake", {"queues": 2, "children": 2, "stops": 1, "wakes": 1}),
-    Size("the ring of a tap: puts, batches, packets given back", {"backs": 1}, "tap"),
-    Size("the ring of a tap: the same with a resize from 2 to 1", {"backs": 1, "resizes": 1, "new_len": 1}, "tap"),
+    Size("the ring of a tap: puts, batches, packets given back", {"backs": 1}, "tap", models=BOTH),
+    Size("the ring of a tap: the same with a resize from 2 to 1", {"backs": 1, "resizes": 1, "new_len": 1}, "tap", models=BOTH),
 ]
 LARGE = [
     Size("a stop, a wake, a busy answer, quota 1", {"stops": 1, "wakes": 1, "busy": 1, "quota": 1}),

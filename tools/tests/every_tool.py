@@ -47,7 +47,9 @@ CALLS = [
 # the tools that write files besides, and where: none of these names is the caller's
 OTHERS = {
     "beside-linux": "in folders of its own, and OUT.*, which is tried below", "build": "below build/, and PROGRAM, which is tried below", "compare": "in a folder of its own",
-    "compare-with-c": "in a folder of its own", "first-build": "in a folder of its own", "install": "below DIR, which tools/tests/installing.py tries", "inside-calls": "below --folder, and --schedule FILE, which is tried in tests/inside.py",
+    "compare-with-c": "in a folder of its own", "first-build": "in a folder of its own", "install": "below DIR, which tools/tests/installing.py tries",
+    "check-kernel": "in --out, of its own", "inside-calls": "below --folder, and --schedule FILE, which is tried in tests/inside.py",
+    "wrong-bodies": "crates/NAME/wrong-bodies/refused",
     "names": "tools/names-left", "refused-growths": "in a folder of its own",
     "test": "in folders of its own", "test-wrapper": "in a folder of its own", "unproved": "below build/, and OUT.unproved.*",
     "test-beside-linux": "in a folder of its own", "test-docs": "in a folder of its own", "test-play": "in a folder of its own",
