@@ -1,13 +1,14 @@
 """A small model of the machine of the run lock, as the schedules of `lqtx trace` work it: one station with one queue.
 
 It is not proved, and nothing that is proved rests on it. `tools/compare PROGRAM` compares it with the program's `trace`.
-What it has beside the program is every step, and the machine with one of five mistakes that were once made
-(crates/lq_run_core/specs/Mistakes.antt). A mistake changes what a step does and not how many steps there are, so that an order
-of steps means the same on both machines.
+What it has beside the program is every step, and the machine with one of six mistakes that were once made: the first form, without
+MISSED, and the five of crates/lq_run_core/specs/Mistakes.antt. These change what a step does and not how many steps there are, so that an
+order of steps means the same on both machines.
 """
 from typing import NamedTuple, Optional
 
 MISTAKES = {
+    "begin_sets_no_missed": "the machine before MISSED: a sender that found the run lock held leaves",
     "end_looks_before_it_releases": "run end goes by what MISSED was before the release of the run lock",
     "begin_gives_up_after_one_try": "a sender that found the run lock held sets MISSED and doesn't try again",
     "missed_cleared_after_the_second_look": "MISSED and DRAINING are cleared after the second look at the bands, and not before it",
@@ -136,7 +137,7 @@ def step_at(q, s, answer, mistake):
             q = q._replace(full=min(q.full + 1, MOST))
         return to("deq", q=q, run=0) if holds else to("try1", ("queued", packet), q=q)
     if name == "try1":
-        return try_lock(of[0], ("miss", of[0]), q, s)
+        return try_lock(of[0], gives_up(of[0]) if mistake == "begin_sets_no_missed" else ("miss", of[0]), q, s)
     if name == "miss":
         return to(*gives_up(of[0])) if q.missed else to("try2", of[0], q=q._replace(missed=True))
     if name == "try2":
@@ -573,7 +574,7 @@ def sentence(event, mistake=None):
         "enter": None,
         "check": "loads the state: deactivated" if a.deactivated else "loads the state: both bits clear" if a.bypass and not a.non_empty else None,
         "put": f"puts packet {of[0].number} into band {of[0].band}" if event.what == "step" and name == "put" else "finds its band full",
-        "try1": "tries the lock: held" if a.locked else "gets the lock",
+        "try1": "gets the lock" if not a.locked else "tries the lock: held" + ", and leaves" * (mistake == "begin_sets_no_missed"),
         "miss": "finds MISSED set, and goes" if a.missed else "sets MISSED",
         "try2": "gives up without a second try" if mistake == "begin_gives_up_after_one_try" else "tries the lock again: held" if a.locked else "tries the lock again: gets it",
         "recheck": f"loads the state under the lock: {bits}",

@@ -253,11 +253,16 @@ function mark(n) {
     for (const [name, value] of [["x1", x], ["x2", x], ["y1", 64], ["y2", picture.viewBox.baseVal.height - 18]]) line.setAttribute(name, value);
   }
 }
-function choose(n, scroll = true) {
+// its way is told below what it was chosen in: a box over the pictures would hide what they show
+function choose(n, scroll = true, chosen = null) {
   if (!(n >= 0 && n < COUNT)) return;
   selected = n;
   $("jump").value = n + FIRST;
   way(n);
+  if (chosen) {
+    chosen.after($("way"));
+    $("way").scrollIntoView({ block: "nearest" });
+  }
   mark(n);
   const row = scroll ? order.indexOf(n) : -1;
   if (row >= 0) scrollTo(row);
@@ -275,7 +280,7 @@ function key(event) {
     clear();
   } else if (document.activeElement === grid && event.key in steps && order.length) {
     const at = order.indexOf(selected), wanted = at < 0 && Math.abs(steps[event.key]) < Infinity ? topRow() : at + steps[event.key];
-    choose(order[Math.min(Math.max(wanted, 0), order.length - 1)]);
+    choose(order[Math.min(Math.max(wanted, 0), order.length - 1)], true, grid);
   } else return;
   event.preventDefault();
 }
@@ -310,15 +315,15 @@ function begin() {
   $("names").textContent = [...shown, ...Object.keys(MORE)].join(", ");
   $("filter").addEventListener("input", refresh);
   $("clear").addEventListener("click", clear);
-  $("jump").addEventListener("change", () => choose($("jump").value - FIRST));
+  $("jump").addEventListener("change", () => choose($("jump").value - FIRST, true, $("grid")));
   $("grid").addEventListener("scroll", draw, { passive: true });
   addEventListener("resize", draw);
   document.addEventListener("keydown", key);
-  $("body").addEventListener("click", (event) => { const row = event.target.closest(".row"); if (row) choose(row.packet, false); });
+  $("body").addEventListener("click", (event) => { const row = event.target.closest(".row"); if (row) choose(row.packet, false, $("grid")); });
   $("way").addEventListener("click", (event) => { const to = event.target.closest("a"); if (to) { event.preventDefault(); choose(Number(to.dataset.packet)); } });
   for (const picture of document.querySelectorAll("figure svg")) picture.addEventListener("click", (event) => {
     const box = picture.getBoundingClientRect(), x = (event.clientX - box.left) / box.width * picture.viewBox.baseVal.width;
-    choose(packetAt((x - about.left) / about.width));
+    choose(packetAt((x - about.left) / about.width), true, picture.closest("figure"));
   });
   addEventListener("hashchange", fromHash);
   refresh();

@@ -33,9 +33,13 @@ function history_by_clicks() {
   }
 }
 function stories() {
-  for (const [at, end] of ["Nobody comes: 1 packet held", "Nobody comes: 1 packet held", "Nobody comes: 1 packet held", "go on for ever"].entries()) {
+  expect(`the first story is of the machine without MISSED: ${$("stories").textContent}`, $("stories").children.length == 5 && $("stories").textContent.startsWith("Why MISSED is there"));
+  for (const [at, end] of [...Array(4).fill("Nobody comes: 1 packet held"), "go on for ever"].entries()) {
     $("stories").children[at].click();
-    for (let k = 0; k < 20 && !$("next").disabled; k++) $("next").click();
+    for (let k = 0; k < 20 && !$("next").disabled; k++) {
+      $("next").click();
+      expect("the first story sets no MISSED", at || $("bits").textContent.includes("MISSED 0"));
+    }
     expect(`story ${at}: ${says()}`, says().includes(end));
     expect(`story ${at} has links`, $("story").querySelectorAll("a").length >= 1);
     $("close").click();
@@ -86,8 +90,19 @@ function keys_in_menus() {
     expect(`Escape leaves ${id}`, document.activeElement != $(id));
   }
 }
+// the words of a menu are as wide as the menu at most, beside its arrow
+function menus() {
+  const pen = document.createElement("canvas").getContext("2d");
+  for (const menu of document.querySelectorAll("select")) {
+    pen.font = getComputedStyle(menu).font;
+    for (const it of menu.options) {
+      const room = menu.getBoundingClientRect().width - 24, wide = pen.measureText(it.textContent).width;
+      expect(`the menu ${menu.id} cuts "${it.textContent}": ${Math.round(wide)} of ${Math.round(room)}`, wide <= room);
+    }
+  }
+}
 function advice_of_a_story() {
-  $("stories").children[0].click();
+  $("stories").children[1].click();
   while (!$("next").disabled) $("next").click();
   $("undo").click(); $("undo").click();
   choose("mistake", "");
@@ -178,7 +193,7 @@ try {
   } else if (location.hash) expect(`a link is worked: ${$("text").value}`, $("text").value == "seats 2 len 4 bypass 0\n0 send 1\n0 step 14\n1 send 1\n1 step 4\n0 step 3\n1 step 3\n" && says().includes("Nobody comes"));
   else {
     if (innerWidth > 320) [history_by_clicks, stories, keys, words_at_the_mistake, words_of_each_position, keys_in_menus, advice_of_a_story, a_schedule_from_its_start, wiped_moves, texts].forEach(it => it());
-    [fixed_buttons, accessible].forEach(it => it());
+    [fixed_buttons, menus, accessible].forEach(it => it());
   }
 } catch (it) { faults.push(`${it.message} ${it.stack}`); }
 document.body.append(make("pre", { id: "faults" }, JSON.stringify(faults)));

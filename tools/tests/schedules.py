@@ -6,8 +6,9 @@ from tests.bench import HERE, ROOM, TOP, case, expect, expect_none, fault, run
 
 SCHEDULES = {"second-try": 41, "second-try-finds-nothing": 58, "release-then-look": 47, "clear-then-look": 53, "look-at-the-stop-word-again": 55,
              "wake-after-the-second-look": 48, "soft-interrupt-clears-first": 53, "bypass-looks-under-the-lock": 49}  # fmt: skip
-# each mistake, a schedule in which it shows, and what it leaves there (crates/lq_run_core/specs/Mistakes.antt)
+# each mistake, a schedule in which it shows, and what it leaves there (all but the first: crates/lq_run_core/specs/Mistakes.antt)
 LEFT = {
+    "begin_sets_no_missed": ("second-try", "packet 1 in band 1, state clear"),
     "begin_gives_up_after_one_try": ("second-try", "packet 1 in band 1, state MISSED"),
     "end_looks_before_it_releases": ("release-then-look", "packet 1 in band 1, state MISSED"),
     "missed_cleared_after_the_second_look": ("clear-then-look", "packet 0 in band 1, state clear"),
