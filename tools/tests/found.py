@@ -207,6 +207,22 @@ def tools_say_what_is_found():
 
 
 @case
+def said_as_another_tool():
+    """As the wrapper calls it: a pipe, which the program is to read, stays as it is."""
+    room = ROOM / "as"
+    room.mkdir()
+    (room / "c.pcap").write_bytes(at_once(BOTH_WAYS))
+    is_equal("check-capture --as", run(HERE / "check-capture", "--as", "lqtx", "c.pcap", TOP / "examples/drops.toml", cwd=room)[:2], (0, ""))
+    expect("check-capture --as", run(HERE / "check-capture", "--as", "lqtx", "c.pcap", cwd=room), 0, "lqtx: c.pcap: both directions are in it")
+    is_equal("check-capture --as, nothing", run(HERE / "check-capture", "--as", "lqtx", TOP / "examples/loopback.pcap"), (0, "", ""))
+    is_equal("check-capture --as, no file", run(HERE / "check-capture", "--as", "lqtx", room / "none"), (0, "", ""))
+    said = subprocess.run(f"({HERE}/check-capture --as lqtx /dev/stdin; cat) <c.pcap | cmp - c.pcap", shell=True, cwd=room, capture_output=True, text=True)
+    is_equal("check-capture --as, a file as standard input", said.returncode, 0)
+    said = subprocess.run(f"cat c.pcap | ({HERE}/check-capture --as lqtx /dev/stdin; cat) | cmp - c.pcap", shell=True, cwd=room, capture_output=True, text=True)
+    is_equal("check-capture --as, a pipe", (said.returncode, said.stderr), (0, ""))
+
+
+@case
 def limits_of_captures():
     """Captures that have too much, and what makes parts of them, each of which is read."""
     room = ROOM / "limits"
