@@ -1,6 +1,9 @@
-"""What tools/test-docs looks for in docs/CHANGING.md, on a page and a repository of this test's own."""
+"""What tools/test-docs looks for in docs/CHANGING.md, on a page and a repository of this test's own; and the crates that docs/LIBRARY.md names."""
+import re
+
+from lib import crates
 from tests import exemplars
-from tests.bench import ROOM, case, is_equal
+from tests.bench import ROOM, TOP, case, is_equal
 
 CHAPTER = """# Changing it
 
@@ -60,3 +63,14 @@ def chapters_without_an_exemplar():
     wanted = ["it has a table of files, and no line 'Exemplar: `NAME`; some N files.'"]
     is_equal("a table without an exemplar", faults_with("no-exemplar", {"docs/CHANGING.md": without}), wanted)
     is_equal("neither", faults_with("no-table", {"docs/CHANGING.md": without.replace("| File | What |", "| Name | What |")}), [])
+
+
+@case
+def crates_of_the_library_page():
+    """docs/LIBRARY.md names the crates that each example stands on, all of them."""
+    page, uses = (TOP / "docs/LIBRARY.md").read_text(encoding="utf-8"), crates.uses_of_crates()
+    copied = re.search(r"cp -r (.*) mine/crates/", page)[1].replace("crates/", "").split()
+    lines = re.search(r"grep -E '\^\((.*)\):'", page)[1].split("|")
+    named = re.findall(r"`(\w+)`", re.search(r"For the second one copy (.*?), and the file", page, re.S)[1])
+    for found, example in ((copied, "lq_example_ring"), (lines, "lq_example_ring"), (named, "lq_example_tap")):
+        is_equal(f"LIBRARY.md: the crates of {example}", sorted(found), sorted(it for it in crates.in_order(uses, example)))
