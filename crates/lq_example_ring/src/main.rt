@@ -1,7 +1,7 @@
 //! A ring of four slots on one thread: an entry that finds no slot is refused, and the others are taken in the order in which they were put.
 #![tactic(auto)]
 
-ghost use Rattle.std.specs.Prelude.{◌<◌};
+ghost use Rattle.std.specs.Prelude.{◌≡◌, ◌<◌, length, min, take};
 
 use lq_ring_core::Ring;
 use std::io;
@@ -22,10 +22,18 @@ fn put_all(rt: &HostRuntime, ring: &mut Ring, first: u32, end: u32) -> io::Resul
     Ok(())
 }
 
+/// Takes the oldest entries, as many as fit, to the front of `out`. A contract of your own rests on those of the ring.
+fn take_oldest(ring: &mut Ring, out: &mut [u32]) -> usize
+    ensures count { result ≡ min (length out.old) (length ring.old.held) }
+    ensures oldest { take result out.new ≡ take result ring.old.held }
+{
+    ring.consume_batched(out)
+}
+
 /// Takes as many entries as there are, but at most four, and prints them.
 fn take_some(rt: &HostRuntime, ring: &mut Ring) -> io::Result<()> {
     let mut out = [0; 4];
-    let taken = ring.consume_batched(&mut out);
+    let taken = take_oldest(ring, &mut out);
     for n in &out[..taken] {
         println!(rt; "{n} is taken")?;
     }
