@@ -2,8 +2,13 @@
 import html
 
 
+def escaped(words):
+    """A text of whatever a file's name has: what can't be shown is no XML either."""
+    return html.escape("".join(it if it.isprintable() else "\ufffd" for it in str(words)))
+
+
 def text(x, y, words, anchor="start", more=""):
-    return f'<text x="{x:.1f}" y="{y:.1f}" text-anchor="{anchor}"{more}>{html.escape(str(words))}</text>'
+    return f'<text x="{x:.1f}" y="{y:.1f}" text-anchor="{anchor}"{more}>{escaped(words)}</text>'
 
 
 def line(x1, y1, x2, y2, more):

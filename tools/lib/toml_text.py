@@ -7,6 +7,7 @@ import re
 import tomllib
 
 Fault = tomllib.TOMLDecodeError
+TOO_DEEP, TOO_LARGE = "its tables or arrays are nested too deeply", "a number has more than 64 bits"
 TOKEN = re.compile(
     r'(?P<basic>"""(?:\\.|[^\\])*?"{3,5}|"(?:\\.|[^"\\\n])*")'
     r"|(?P<literal>'''.*?'{3,5}|'[^'\n]*')"
@@ -76,9 +77,21 @@ def loads(text):
     """The document that a text is; Fault where it is none."""
     text = text.removeprefix("\ufeff")
     try:
-        return tomllib.loads(text)
+        return as_document(text)
     except Fault:
         again = as_first_version(text)
         if again == text:
             raise
-    return tomllib.loads(again)
+    return as_document(again)
+
+
+def as_document(text):
+    try:
+        return tomllib.loads(text)
+    except RecursionError:
+        raise Fault(TOO_DEEP) from None
+    except Fault:
+        raise
+    except ValueError:
+        # thousands of digits
+        raise Fault(TOO_LARGE) from None
