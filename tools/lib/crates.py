@@ -1,9 +1,14 @@
 """The crates of the repository, as crates.txt has them, and the toolchain that proves them."""
+import hashlib
 import os
 import pathlib
 import shutil
+import subprocess
 
-CRATES = pathlib.Path(__file__).resolve().parent.parent.parent / "crates.txt"
+from lib.words import Failed
+
+TOP = pathlib.Path(__file__).resolve().parent.parent.parent
+CRATES = TOP / "crates.txt"
 
 
 class NoKit(Exception):
@@ -40,3 +45,40 @@ def kit():
     if not found:
         raise NoKit("there is no 'rt' on the PATH")
     return pathlib.Path(os.path.realpath(found)).parent.parent
+
+
+def folders_of(crate):
+    """The folders in which its sources and proofs are."""
+    for folder, folders, _ in os.walk(TOP / "crates" / crate):
+        folders[:] = [it for it in folders if it != "out"]
+        yield pathlib.Path(folder)
+
+
+def files_of(crate):
+    """The sources and proofs of a crate; files of editors don't count."""
+    files = (it for folder in folders_of(crate) for it in folder.iterdir() if it.suffix in (".rt", ".antt") and it.name[0] != ".")
+    return sorted(it for it in files if it.is_file() and not it.is_symlink())
+
+
+def checksum_of_sources(crate="lqtx"):
+    """The checksum of all that a crate is built from: sources, crates and what they may use."""
+    try:
+        order = in_order(uses_of_crates(), crate)
+    except KeyError:
+        raise Failed(f"no crate {crate} in {CRATES}") from None
+    lines = [it for it in CRATES.read_bytes().splitlines(True) if it.replace(b":", b" ").split(b" ")[0].decode() in order]
+    sums = [f"{hashlib.sha256(it.read_bytes()).hexdigest()}  {it.relative_to(TOP / 'crates')}\n".encode() for below in order for it in files_of(below)]
+    handles = [it.read_bytes() for it in [TOP / "HANDLES"] if it.exists()]
+    return hashlib.sha256(b"".join(["\n".join(order).encode() + b"\n", *lines, *handles, *sorted(sums)])).hexdigest()[:32]
+
+
+def checksum_of_toolchain():
+    """The toolchain in a few letters, or nothing where there is none."""
+    try:
+        told = kit() / "KIT-ID"
+    except NoKit:
+        return ""
+    if os.access(told, os.R_OK):
+        return hashlib.sha256(told.read_bytes()).hexdigest()[:8]
+    said = subprocess.run(["rt", "version"], stdin=subprocess.DEVNULL, stdout=subprocess.PIPE, stderr=subprocess.DEVNULL)
+    return hashlib.sha256(said.stdout).hexdigest()[:8]

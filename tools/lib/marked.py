@@ -2,6 +2,7 @@
 import struct
 from itertools import repeat
 
+from lib import outputs
 from lib.times import NANOSECONDS
 from lib.trail import FULL, HANGS, SENT
 
@@ -97,7 +98,7 @@ def of_blocks(capture, told):
 
 def write(file, capture, told):
     """The marked capture; the answer is how many packets have no place for a comment."""
-    with open(file, "wb") as it:
+    with outputs.writing(file, "wb") as it:
         it.writelines(of_blocks(capture, told) if capture.is_pcapng() else of_classic(capture, told))
         head, long = struct.unpack_from(capture.order + "I8xq", capture.data, 4) if capture.is_pcapng() else (0, -1)
         if long != -1:

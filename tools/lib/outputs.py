@@ -1,77 +1,102 @@
-"""The files that a tool writes. None is one of its inputs, and one that no earlier run wrote is named.
+"""The files that are written. None is one of the inputs, and what isn't as it was left here is replaced only with `--force`.
 
-    outputs.claim("sweep", [plan, capture], [outputs.table(csv, HEAD), outputs.picture(svg)])
+    outputs.claim([plan, capture], [csv, outputs.picture(svg)])     before any of them is opened to write
+    with outputs.writing(csv) as it: ...                            a new file, which takes the name once it is whole
 
-is called before anything is written. Files are compared by device and inode, so that neither a link nor another spelling hides one. A file
-that is there already is known as an earlier run's by how it begins (`docs/DECISIONS.md`); any other is overwritten as well, and named once on
-standard error.
+Files are compared by device and inode, so that neither a link nor another spelling hides one. Of an output that is left `.lqtx/NAME` beside it
+keeps inode, length and time. A file that has others now is the user's: one that was put there, or changed. The wrapper's shell reads and writes
+these notes too, for the outputs of a run together: `.lqtx/OUT.run`.
 """
 import contextlib
 import os
+import shutil
 import stat
-from typing import IO, Callable, Iterable, Iterator, List, NamedTuple, Optional, Tuple
+import time
+from typing import IO, Dict, Iterable, Iterator, List, Optional, Tuple
 
-from lib.words import Wrong, say
+from lib import words
+from lib.words import Wrong
 
-CAPTURE_MARKS = (b"\xd4\xc3\xb2\xa1", b"\xa1\xb2\xc3\xd4", b"\x4d\x3c\xb2\xa1", b"\xa1\xb2\x3c\x4d", b"\x0a\x0d\x0d\x0a")
-# the most that is read of a file to know it
-HEAD = 512
-
-
-class Output(NamedTuple):
-    """A file to be written, and whether a file that begins so is one that an earlier run wrote there."""
-
-    path: str
-    is_ours: Callable[[bytes], bool]
+# the units that a plan may have, and its groups
+UNITS, GROUPS = 16, 8
+# of each command of the program, by its number of words: where they name files that are read, and what the outputs' names begin with
+COMMANDS = {("run", 4): ([1, 2], 3), ("tap", 6): ([4], 5), ("gen", 4): ([], 3), ("trace", 2): ([1], None)}
 
 
-def picture(path: str) -> Output:
+class Command:
+    """The words of a call of the program: which files it reads, and which it may write."""
+
+    def __init__(self, given: List[str], ending: str = ""):
+        places, self.place = COMMANDS.get((given[0] if given else "", len(given)), ([], None))
+        self.words = list(given)
+        self.inputs = [given[it] for it in places]
+        self.out = None if self.place is None else given[self.place] + ending
+        if self.out is not None:
+            self.words[self.place] = self.out
+
+    def with_out(self, out: str) -> "Command":
+        """The same with outputs whose names begin otherwise."""
+        return Command([*self.words[: self.place], str(out), *self.words[self.place + 1 :]] if self.out is not None else self.words)
+
+    def tails(self, units: int = UNITS, groups: int = GROUPS) -> List[str]:
+        """What follows OUT in the names of the files that it may write: `gen` writes its capture to the very name."""
+        of_run = [*(f".{it}.pcap" for it in range(units)), *(f".mq{it}.pcap" for it in range(groups)), ".fates"]
+        return {"run": of_run, "tap": [".pcap", ".fates"], "gen": [""]}[self.words[0]] if self.out is not None else []
+
+    def files(self, *counts: int) -> List[str]:
+        return [f"{self.out}{it}" for it in self.tails(*counts)]
+
+    @property
+    def names(self) -> str:
+        """The names of its outputs, as they are said."""
+        return self.out if self.words[0] == "gen" else f"{self.out}.*"
+
+    @property
+    def note(self) -> str:
+        return f"{self.out}.run"
+
+    def written(self) -> Dict[str, str]:
+        """The outputs that are there, by what follows OUT in their names, each with its state."""
+        states = {it: state_of(f"{self.out}{it}") for it in self.tails()}
+        return {it: state for it, state in states.items() if state}
+
+    def refuse_foreign(self, *counts: int) -> None:
+        refuse_foreign(self.files(*counts), self.note)
+
+    def leave(self, before: Dict[str, str]) -> None:
+        """Notes which outputs a run left: those that were others before, and those that an earlier one left."""
+        own = noted(self.note) if self.out is not None else []
+        left = [f"{self.out}{it}" for it, state in self.written().items() if state != before.get(it) or state in own]
+        if left:
+            note(self.note, left)
+
+
+def picture(path: str) -> str:
     """A picture, which is SVG: another ending would be that of another format."""
     if not str(path).endswith(".svg"):
         raise Wrong(f"{path}: a picture is written as SVG, so its name ends in .svg")
-    return Output(str(path), lambda head: head.startswith(b'<svg xmlns="http://www.w3.org/2000/svg" '))
+    return str(path)
 
 
-def table(path: str, columns: str) -> Output:
-    """A table with commas, known by these columns in its first line."""
-    return Output(str(path), lambda head: columns.encode() in head.partition(b"\n")[0])
+# which files are the same
 
 
-def capture(path: str, begins: bytes = b"") -> Output:
-    """A capture; of one that is written from another, the bytes that it begins with are known."""
-    return Output(str(path), lambda head: head.startswith(CAPTURE_MARKS) and head.startswith(begins[:HEAD]))
-
-
-def of_run(out: str) -> List[Output]:
-    """The files of a run: of each unit and of each group that a plan may have, and its fates."""
-    fates = text(f"{out}.fates", "0 ")
-    captures = [capture(f"{out}.{it}.pcap") for it in [*range(16), *(f"mq{at}" for at in range(8))]]
-    return [*captures, fates]
-
-
-def text(path: str, begins: str) -> Output:
-    """A text, a page or a list of values, known by its first words."""
-    return Output(str(path), lambda head: head.startswith(begins.encode()))
-
-
-@contextlib.contextmanager
-def writing(path: str, **how) -> Iterator[IO]:
-    """A file that is written; a fault names it, also a disk that is full."""
-    try:
-        with open(path, "w", encoding="utf-8", **how) as it:
-            yield it
-    except OSError as fault:
-        fault.filename = fault.filename or path
-        raise
-
-
-def file_of(path: str) -> Optional[Tuple[int, int]]:
-    """The device and inode of what has bytes of its own to lose; none of a terminal, a pipe, or what isn't there."""
+def file_of(path: str) -> Optional[Tuple]:
+    """What tells a file from others, also one that isn't there yet: then by its folder. None of a terminal or a pipe, which have no bytes to lose."""
     try:
         of = os.stat(path)
+        return (of.st_dev, of.st_ino) if stat.S_ISREG(of.st_mode) or stat.S_ISBLK(of.st_mode) else None
     except (OSError, ValueError):
-        return None
-    return (of.st_dev, of.st_ino) if stat.S_ISREG(of.st_mode) or stat.S_ISBLK(of.st_mode) else None
+        # where it would be once its folder is made
+        real = os.path.realpath(path)
+    if os.path.exists(real):
+        return file_of(real)
+    folder, name = os.path.split(real)
+    try:
+        of = os.stat(folder)
+        return (of.st_dev, of.st_ino, name)
+    except (OSError, ValueError):
+        return (folder, name)
 
 
 def file_exists_as(path: str, opened: int) -> bool:
@@ -83,41 +108,100 @@ def file_exists_as(path: str, opened: int) -> bool:
     return (one.st_dev, one.st_ino) == (other.st_dev, other.st_ino)
 
 
-def is_same(one: str, other: str) -> bool:
-    """Whether two names are of one file, or would be once it is made."""
-    if os.path.exists(one) and os.path.exists(other):
-        return file_of(one) is not None and file_of(one) == file_of(other)
-    return os.path.realpath(one) == os.path.realpath(other)
-
-
-def refuse_inputs(inputs: Iterable[str], outputs: Iterable[str]) -> None:
+def refuse_inputs(inputs: Iterable[str], files: Iterable[str]) -> None:
     """Wrong where an output is one of the inputs, or one of the other outputs."""
-    inputs, outputs = [str(it) for it in inputs], [str(it) for it in outputs]
-    for place, output in enumerate(outputs):
-        for other in inputs:
-            if is_same(output, other):
-                raise Wrong(f"{output} is an input" + (f", {other}" if output != other else "") + ": the output needs another name")
-        for other in outputs[:place]:
-            if is_same(output, other):
-                raise Wrong(f"{output} and {other} are one file: each output needs a name of its own")
+    read, taken = {file_of(it): str(it) for it in inputs}, {}
+    for it in map(str, files):
+        file = file_of(it)
+        if file is None:
+            continue
+        if file in read:
+            raise Wrong(f"{it} is an input" + (f", {read[file]}" if it != read[file] else "") + ": the outputs need another name")
+        if file in taken:
+            raise Wrong(f"{it} and {taken[file]} are one file: each output needs a name of its own")
+        taken[file] = it
 
 
-def is_foreign(output: Output) -> bool:
-    """Whether a file is there that has bytes, and that no earlier run wrote."""
-    if file_of(output.path) is None:
-        return False
+# which were left here
+
+
+def state_of(path: str) -> Optional[str]:
+    """Inode, length and time of a file, as `stat --printf %i.%s.%.9Y` has them; nothing of what has no bytes to lose."""
     try:
-        with open(output.path, "rb") as it:
-            head = it.read(HEAD)
-    except OSError:
-        return False
-    return bool(head) and not output.is_ours(head)
+        of = os.stat(path)
+    except (OSError, ValueError):
+        return None
+    if not stat.S_ISREG(of.st_mode) and not stat.S_ISBLK(of.st_mode):
+        return None
+    return f"{of.st_ino}.{of.st_size}.{of.st_mtime_ns // 10**9}.{of.st_mtime_ns % 10**9:09}"
 
 
-def claim(tool: str, inputs: Iterable[str], outputs: Iterable[Output]) -> None:
-    """Refuses outputs that are inputs, and names those that no earlier run wrote."""
-    outputs = list(outputs)
-    refuse_inputs(inputs, [it.path for it in outputs])
-    for it in outputs:
-        if is_foreign(it):
-            say(tool, f"{it.path} is there and isn't what an earlier run wrote: it is overwritten")
+def note_of(name: str) -> str:
+    folder, base = os.path.split(str(name))
+    return os.path.join(folder, ".lqtx", base)
+
+
+def noted(name: str) -> List[str]:
+    try:
+        with open(note_of(name), encoding="ascii") as it:
+            return it.read().split()
+    except (OSError, ValueError):
+        return []
+
+
+def note(name: str, files: Iterable[str]) -> None:
+    """Notes how files are left. Where that can't be written they count as the user's."""
+    with contextlib.suppress(OSError):
+        os.makedirs(os.path.dirname(note_of(name)), exist_ok=True)
+        with open(note_of(name), "w", encoding="ascii") as it:
+            it.write("".join(f"{state} " for state in map(state_of, files) if state) + "\n")
+
+
+def is_foreign(path: str, name: str) -> bool:
+    """Whether a file is there that has bytes, and isn't as it was left here."""
+    state = state_of(path)
+    return state is not None and not (os.path.isfile(path) and not os.path.getsize(path)) and state not in noted(name)
+
+
+def refuse_foreign(files: Iterable[str], name: Optional[str] = None) -> None:
+    found = [] if words.forced else [str(it) for it in files if is_foreign(it, name or it)]
+    if found:
+        are = "is there, and wasn't" if len(found) == 1 else "are there, and weren't"
+        raise Wrong(f"{', '.join(found)} {are} left so by an earlier call: --force overwrites {'it' if len(found) == 1 else 'them'}")
+
+
+def claim(inputs: Iterable[str], files: Iterable[str]) -> None:
+    """Refuses outputs that are inputs or foreign."""
+    files = list(files)
+    refuse_inputs(inputs, files)
+    refuse_foreign(files)
+
+
+@contextlib.contextmanager
+def writing(path: str, mode: str = "w", newline: Optional[str] = None) -> Iterator[IO]:
+    """A file that is written. A new one beside it is renamed once it is whole; a terminal or a pipe is written itself. A fault names it, also a full disk."""
+    path, target = str(path), os.path.realpath(path)
+    folder, is_there = os.path.dirname(target), os.path.exists(target)
+    is_beside = os.access(folder, os.W_OK) and (os.path.isfile(target) or not is_there)
+    place = os.path.join(folder, f".lqtx.{os.getpid()}.{time.monotonic_ns()}") if is_beside else target
+    try:
+        with open(place, mode.replace("w", "x") if is_beside else mode, encoding=None if "b" in mode else "utf-8", newline=newline) as it:
+            yield it
+        if is_beside:
+            if is_there:
+                shutil.copymode(target, place)
+            os.replace(place, target)
+        note(path, [path])
+    except BaseException as fault:
+        if is_beside:
+            with contextlib.suppress(OSError):
+                os.unlink(place)
+        if isinstance(fault, OSError) and fault.filename in (None, place):
+            fault.filename, fault.filename2 = path, None
+        raise
+
+
+def write(path: str, whole) -> None:
+    """Writes a text, or bytes."""
+    with writing(path, "wb" if isinstance(whole, bytes) else "w") as it:
+        it.write(whole)

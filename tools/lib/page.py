@@ -6,12 +6,11 @@ import pathlib
 import re
 from array import array
 
-from lib import pictures
+from lib import pictures, svg
 from lib.counts import name_of
 from lib.packets import NO_TIME, seconds
 
 HERE = pathlib.Path(__file__).resolve().parent
-BEGINS = "<!doctype html>"
 # in place of a station, a queue or a band of a tap, which has none
 UNKNOWN = 255
 CODES = {"u8": "B", "u16": "H", "u32": "I", "f64": "d"}
@@ -132,7 +131,7 @@ def pictures_of(drawn):
 def whole(shown, drawn, first):
     """The page."""
     parts = {
-        "TITLE": html.escape(pictures.title_of(shown.run, shown.waits, shown.title)), "ABOUT": html.escape(about_of(shown)), "COUNTS": "".join(counts_table(shown)),
+        "TITLE": svg.escaped(pictures.title_of(shown.run, shown.waits, shown.title)), "ABOUT": html.escape(about_of(shown)), "COUNTS": "".join(counts_table(shown)),
         "PICTURES": pictures_of(drawn), "FIRST": str(first), "LAST": str(first + max(len(shown.run.capture) - 1, 0)), "DATA": data_of(shown, first),
         "SCRIPT": (HERE / "page.js").read_text(encoding="utf-8"),
     }  # fmt: skip

@@ -10,13 +10,13 @@ from dataclasses import dataclass
 from itertools import accumulate
 from typing import Any, Callable, Optional, Union
 
-from lib import toml_text
+from lib import outputs, toml_text
 from lib.words import Failed
 
 NOT_TOML, UNKNOWN_KEY, MISSING, KIND, RANGE, EVENT_ORDER, TOO_LONG = 1, 2, 3, 4, 5, 6, 8
 REASONS = {1: "NotToml", 2: "UnknownKey", 3: "Missing", 4: "Kind", 5: "Range", 6: "EventOrder", 8: "TooLong"}
 KINDS = {"down": (), "up": (), "resize": ("len",), "tx_queue_len": ("len",), "swap": ("params",)}
-DEVICES = 16
+DEVICES = outputs.UNITS
 
 
 @dataclass
@@ -65,8 +65,9 @@ def tables_at(root, name):
 # the greatest number of each, by version
 SENDERS = {1: 8, 2: 64, 3: 64, 4: 64}
 LENGTH = {1: 4096, 2: 65536, 3: 65536, 4: 65536}
-CHILDREN = 8
+CHILDREN = outputs.GROUPS
 VERSIONS = sorted(SENDERS)
+NESTED = 80  # arrays and tables in each other
 PARAMS = [
     Key("burst", "number", 0, 1000000, 0, about="the queue stops each time so many packets were accepted"),
     Key("busy_every", "number", 0, 1000000, 0, about="each call with a multiple of this number may be answered busy"),
@@ -283,12 +284,13 @@ def faults_of_openings(root, lines):
         yield Fault(RANGE, lines.get(("", 0, "irq_us")), "the top, `irq_us`", "it is used in place of `irq_every`: a plan has one of the two")
 
 
-def is_too_large(value):
-    if isinstance(value, dict):
-        return any(map(is_too_large, value.values()))
-    if isinstance(value, list):
-        return any(map(is_too_large, value))
-    return type(value) is int and not -(2**63) <= value < 2**63
+def excess_of(value, depth=0):
+    """What the program's parser doesn't take of TOML, if there is such a thing."""
+    if isinstance(value, (dict, list)):
+        if depth > NESTED:
+            return toml_text.TOO_DEEP
+        return next(filter(None, (excess_of(it, depth + 1) for it in (value.values() if isinstance(value, dict) else value))), None)
+    return toml_text.TOO_LARGE if type(value) is int and not -(2**63) <= value < 2**63 else None
 
 
 def judge(data):
@@ -304,9 +306,10 @@ def judge(data):
         place = re.search(r"\(at line (\d+), column (\d+)\)", str(fault))
         line = int(place[1]) if place else None
         said = re.sub(r" \(at .*\)", "", str(fault))
-        return None, [Fault(NOT_TOML, line, "the text", said + (f", at column {place[2]}" if place else ", at its end"))]
-    if is_too_large(root):
-        return None, [Fault(NOT_TOML, None, "the text", "a number has more than 64 bits")]
+        return None, [Fault(NOT_TOML, line, "the text", said + (f", at column {place[2]}" if place else ", at its end" * ("(at end" in str(fault))))]
+    excess = excess_of(root)
+    if excess:
+        return None, [Fault(NOT_TOML, None, "the text", excess)]
     lines = lines_of_keys(text.removeprefix("\ufeff"))
     version = version_of(root)
     faults = [*faults_of_table("", 0, Place(root, version, root), lines)]

@@ -2,6 +2,7 @@
 import json
 from itertools import islice, repeat
 
+from lib import outputs
 from lib.packets import NO_DSCP, NO_TIME, seconds
 from lib.trail import FULL, HANGS, SENT
 
@@ -50,8 +51,6 @@ class JsonLines(Json):
 
 
 FORMS = {".csv": Csv, ".json": Json, ".jsonl": JsonLines}
-# how a table of these forms begins
-BEGINS = {".json": '[\n{"number":', ".jsonl": '{"number":'}
 
 
 class Made(dict):
@@ -115,7 +114,7 @@ def rows(run, waits, packets, flows, form, first):
 
 def write(file, form, lines):
     """The table of these rows."""
-    with open(file, "w", encoding="utf-8", newline="") as it:
+    with outputs.writing(file, newline="") as it:
         it.write(form.start)
         between = ""
         for batch in iter(lambda: list(islice(lines, ROWS)), []):

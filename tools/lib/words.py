@@ -21,6 +21,8 @@ from lib import INTERRUPTS
 signal.signal(signal.SIGPIPE, signal.SIG_DFL)
 
 Main = Callable[[List[str]], Optional[int]]
+# whether `--force` was among the words, which every tool takes that writes files: outputs that aren't its own are overwritten
+forced = False
 
 
 class Wrong(Exception):
@@ -86,15 +88,44 @@ def end_by(number: int) -> None:
     os.kill(os.getpid(), number)
 
 
+SIGNALS = (signal.SIGHUP, signal.SIGINT, signal.SIGQUIT, signal.SIGTERM)
+
+
+def ignore_signals() -> None:
+    for number in SIGNALS:
+        signal.signal(number, lambda *_: None)
+
+
+def heed_signals() -> None:
+    """From now on a signal ends what is under way, and is known by its number. One is enough: a terminal's goes to all, and a caller sends its own besides."""
+
+    def on_signal(number, _):
+        ignore_signals()
+        raise KeyboardInterrupt(number)
+
+    for number in SIGNALS:
+        signal.signal(number, on_signal)
+
+
 def asks_for_help(given: List[str]) -> bool:
     """Whether a word asks for help, before any that ends the options."""
     options = given[: given.index("--")] if "--" in given else given
     return "--help" in options or "-h" in options
 
 
+def without_force(given: List[str]) -> List[str]:
+    global forced
+    options = given[: given.index("--")] if "--" in given else given
+    forced = "--force" in options
+    return [it for it in options if it != "--force"] + given[len(options) :]
+
+
 def code_of(tool: str, about: str, main: Main, given: List[str]) -> int:
     """The exit code of a tool, once what it printed is written."""
     try:
+        # a name may have bytes that aren't UTF-8: it goes out as it came
+        sys.stdout.reconfigure(errors="surrogateescape")
+        given = without_force(given)
         if asks_for_help(given):
             print(about.strip())
             code = 0

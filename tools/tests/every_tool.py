@@ -2,13 +2,14 @@
 import functools
 import os
 import re
+import resource
 import shutil
 import signal
 import subprocess
 import sys
 from concurrent.futures import ThreadPoolExecutor
 
-from tests.bench import HERE, ROOM, TOP, case, expect, fates_of, fault, heeding, repository, run
+from tests.bench import HERE, ROOM, TOP, case, expect, expect_picture, fates_of, fault, heeding, repository, run
 from lib import toml_text
 
 TOOLS = sorted(it for it in HERE.iterdir() if it.is_file() and os.access(it, os.X_OK))
@@ -44,6 +45,7 @@ CALLS = [
     ("check-capture", "{capture} --ip {out}", ".pcap", "capture"),
     ("gate-cost", "--to {out} {program}", ".json", "program"),
 ]
+WAYS = [".", "link", "hard link", "link to a link", "new/..", "new/deep/../..", "way"]
 # the tools that write files besides, and where: none of these names is the caller's
 OTHERS = {
     "beside-linux": "in folders of its own, and OUT.*, which is tried below", "build": "below build/, and PROGRAM, which is tried below", "compare": "in a folder of its own",
@@ -51,7 +53,7 @@ OTHERS = {
     "check-kernel": "in --out, of its own", "inside-calls": "below --folder, and --schedule FILE, which is tried in tests/inside.py",
     "wrong-bodies": "crates/NAME/wrong-bodies/refused",
     "names": "tools/names-left", "refused-growths": "in a folder of its own",
-    "test": "in folders of its own", "test-wrapper": "in a folder of its own", "unproved": "below build/, and OUT.unproved.*",
+    "test": "in folders of its own", "test-wrapper": "in a folder of its own",
     "test-beside-linux": "in a folder of its own", "test-docs": "in a folder of its own", "test-play": "in a folder of its own",
     "explore": "OUT.schedule and OUT.svg, which tools/tests/exploring.py tries", "make-play": "docs/play.html, or OUT.html",
 }  # fmt: skip
@@ -83,17 +85,21 @@ def contents(room):
 
 
 def try_output(job):
-    """A call whose output is an input, by its name, a link or a hard link: it ends with 2, says one line and changes no file."""
+    """A call whose output is an input, by one way of naming it: it ends with 2, says one line and changes no file."""
     number, tool, call, ending, which, how = job
     room = ROOM / f"outputs{number}"
     files = inputs_of(room, ending)
     out = room / f"out{ending}"
-    if how == "name":
-        out = files[which]
+    (room / "way").symlink_to(".")
+    if how == "hard link":
+        os.link(files[which], out)
     elif how == "link":
         out.symlink_to(files[which])
+    elif how == "link to a link":
+        (room / "link").symlink_to(files[which].name)
+        out.symlink_to("link")
     else:
-        os.link(files[which], out)
+        out = room / how / files[which].name
     before = contents(room)
     said = run(HERE / tool, *(it.format(out=out, **files) for it in call.split()), cwd=room)
     return f"{tool}: {call}, {out.name} is the {which} by {how}", said, before == contents(room)
@@ -112,7 +118,8 @@ def no_output_is_an_input():
     jobs = []
     for tool, call, ending, inputs in CALLS:
         for place, which in enumerate(inputs.split()):
-            jobs += [(tool, call, ending, which, how) for how in (("name", "link", "hard link") if place == 0 else ("hard link",))]
+            is_first = tool not in {it[0] for it in jobs}
+            jobs += [(tool, call, ending, which, how) for how in (WAYS if is_first else WAYS[:3] if place == 0 else WAYS[2:3])]
     with ThreadPoolExecutor(4) as pool:
         for name, said, is_kept in pool.map(try_output, ((number, *it) for number, it in enumerate(jobs))):
             expect(name, said, 2, " is an input")
@@ -144,8 +151,71 @@ def outputs_of_a_run_and_of_a_build():
 
 
 @case
+def outputs_that_are_the_user_s():
+    """A file that isn't as a tool left it is overwritten only with --force, and then it is the tool's."""
+    for number, (tool, call, ending, _) in enumerate(CALLS):
+        room = ROOM / f"own{number}"
+        files = inputs_of(room, ending)
+        (room / "run.pcap").write_bytes(b"")
+        out = room / f"out{ending}"
+        shutil.copy(files["capture"], out)
+        words = [HERE / tool, *(it.format(out=out, **files) for it in call.split())]
+        before = contents(room)
+        said = run(*words, cwd=room)
+        expect(f"{tool}: {call}, a file of the user's", said, 2, "out" + ending + " is there, and wasn't left so by an earlier call: --force overwrites it")
+        if said[2].count("\n") != 1 or contents(room) != before:
+            fault(f"{tool}: {call}, a file of the user's: files have changed")
+        if tool == "show-schedule" or tool == "show-run" and not " tap " in f" {call}":
+            expect(f"{tool}: {call}, with --force", run(*words, "--force", cwd=room), 0)
+            said = run(*words, cwd=room)
+            expect(f"{tool}: {call}, once more", said, 0)
+            if said[2] or out.read_bytes() == before[out.name]:
+                fault(f"{tool}: {call}, once more: says {said[2]!r}")
+            with open(out, "ab") as it:
+                it.write(b"\n")
+            expect(f"{tool}: {call}, once the file is changed", run(*words, cwd=room), 2, "--force")
+
+
+def short_of_room():
+    """For a process whose files have no room for more than a few bytes."""
+    resource.setrlimit(resource.RLIMIT_FSIZE, (100, 100))
+
+
+@case
+def no_room_for_an_output():
+    """A fault of the disk names the output. What was there is there still, and no part of the new file is left."""
+    room = ROOM / "no room"
+    files = inputs_of(room, "")
+    for words in ("out.svg", "--dropped out.pcap", "--table out.csv", "--html out.html", "--marked out.pcapng"):
+        call = [HERE / "show-run", files["plan"], files["capture"], room / "run", *words.split()]
+        name = words.split()[-1]
+        expect(f"show-run {words}", run(*call, cwd=room), 0)
+        before = contents(room)
+        said = subprocess.run(call, cwd=room, capture_output=True, text=True, preexec_fn=short_of_room)
+        if said.returncode != 1 or said.stderr != f"show-run: {name}: File too large\n" or contents(room) != before:
+            fault(f"show-run {words}, no room: ends with {said.returncode}, says {said.stderr!r}, and leaves {sorted(contents(room))}")
+
+
+@case
+def names_that_are_no_text():
+    """Names with a control character, or with bytes that aren't UTF-8: pictures and pages are well formed."""
+    for number, name in enumerate(("a\x1bb", os.fsdecode(b"a\xffb"), "a\nb")):
+        room = ROOM / f"names{number}"
+        files = inputs_of(room, "")
+        plan, capture = files["plan"].rename(room / f"{name}.toml"), files["capture"].rename(room / f"{name}.pcap")
+        said = subprocess.run([HERE / "show-run", plan, capture, room / "run", room / f"{name}.svg", "--html", room / f"{name}.html"], capture_output=True)
+        if said.returncode or said.stderr:
+            fault(f"show-run, a name {name!r}: ends with {said.returncode} and says {said.stderr!r}")
+        expect_picture(f"a name {name!r}", room / f"{name}.svg")
+        (room / f"{name}.html").read_text(encoding="utf-8")
+        said = subprocess.run([HERE / "check-plan", plan], capture_output=True)
+        if said.returncode or not said.stdout.startswith(os.fsencode(plan)):
+            fault(f"check-plan, a name {name!r}: says {said.stdout + said.stderr!r}")
+
+
+@case
 def outputs_that_are_there():
-    """An output that no earlier run wrote is named once; pictures are SVG and named so; two outputs are two files."""
+    """A tool's own outputs are replaced; pictures are SVG and named so; two outputs are two files."""
     room = ROOM / "there"
     files = inputs_of(room, "")
     show = lambda *words: run(HERE / "show-schedule", files["schedule"], *words, cwd=room)  # noqa: E731
@@ -156,7 +226,7 @@ def outputs_that_are_there():
             fault(f"{again}: says {said[2]!r}")
     (room / "a.svg").write_text("<?xml version='1.0'?><svg/>", encoding="utf-8")
     said = show("a.svg")
-    expect("a picture over another's", said, 0, "show-schedule: a.svg is there and isn't what an earlier run wrote: it is overwritten\n")
+    expect("a picture over another's", said, 2, "show-schedule: a.svg is there, and wasn't left so by an earlier call: --force overwrites it\n")
     expect("a picture of another name", show("a.png"), 2, "a.png: a picture is written as SVG, so its name ends in .svg")
     sweep = lambda *words: run(HERE / "sweep", files["plan"], files["capture"], "irq_every=1..2", *words, "--program", files["program"], cwd=room)  # noqa: E731
     expect("a sweep's picture of another name", sweep("b.csv", "b.png"), 2, "a picture is written as SVG")

@@ -25,6 +25,14 @@ ODD_PLANS = {
     b'split = "\\x7"\n[[station]]\n': NO,
     b'"l\\x65n" = 3\n[[station]]\n': UNKNOWN,
     b'station=[{split = "#{\\e"}]': UNKNOWN,
+    # numbers of many digits, and what is nested deeply
+    b"senders = " + b"9" * 5000 + b"\n[[station]]\n": NO,
+    b"senders = " + b"[" * 80 + b"]" * 80 + b"\n[[station]]\n": KIND,
+    b"senders = " + b"[" * 81 + b"]" * 81 + b"\n[[station]]\n": NO,
+    b"senders = " + b"[" * 5000 + b"]" * 5000 + b"\n[[station]]\n": NO,
+    b"senders = " + b"{a = " * 80 + b"1" + b"}" * 80 + b"\n[[station]]\n": KIND,
+    b"senders = " + b"{a = " * 500 + b"1" + b"}" * 500 + b"\n[[station]]\n": NO,
+    b"a." * 3000 + b"b = 1\n[[station]]\n": NO,
     # times without seconds
     b"split = 07:32\n[[station]]\n": KIND,
     b"split = 1979-05-27T07:32Z\n[[station]]\n": KIND,

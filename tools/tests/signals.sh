@@ -68,4 +68,4 @@ wait "$wrapper"
 code=$?
 ends 4
 [ "$(cat "$room/out2")" = "one low: words 4" ] || fault "the other's output"
-[ "$(find "$room/repo/build" -maxdepth 1 -type f ! -name "unproved.*" | wc -l)" -eq 1 ] || fault "leaves files behind"
+[ "$(find "$room/repo/build" -maxdepth 1 -type f -name "lqtx.*" | wc -l)" -eq 1 ] || fault "leaves files behind"

@@ -3,6 +3,7 @@ import os
 import shutil
 import signal
 import subprocess
+import sys
 import time
 
 from lib import toml_text
@@ -119,6 +120,52 @@ def sweep_by_itself():
     tables.append((room / "many.csv").read_text(encoding="utf-8"))
     if tables[0] != tables[1]:
         fault("sweep: the table of hosts is another one")
+
+
+@case
+def the_program_of_a_sweep():
+    """The built one, or else the one without its proof, which is said; a proof isn't begun."""
+    top = repository("programs", {"lqtx": "#!/bin/sh\nexit 9\n", "crates.txt": "lqtx:\n", "crates/lqtx/src/main.rt": "fn main() {}\n"})
+    shutil.copy(TOP / "examples/loopback.pcap", top / "capture.pcap")
+    (top / "plan.toml").write_text("[[station]]\nlen = 20\n", encoding="utf-8")
+    words = [top / "tools/sweep", "plan.toml", "capture.pcap", "station.0.len=39..40", "a.csv"]
+    expect("sweep, no program", run(*words, cwd=top), 1, "no program is built: --unproved compiles one without its proof", "./lqtx run PLAN CAPTURE OUT` proves and builds one")
+    told = "sweep: the runs are those of the program without its proof"
+    for kind, more in (("unproved", f"{told}: the proved one isn't built\n"), ("lqtx", None)):
+        place = "from lib import kept; kept.KEPT.mkdir(exist_ok=True); print(kept.Sources().program(kept.%s))" % {"unproved": "UNPROVED", "lqtx": "PROVED"}[kind]
+        program = subprocess.run([sys.executable, "-B", "-c", place], cwd=top / "tools", capture_output=True, text=True).stdout.strip()
+        open(program, "w", encoding="utf-8").write(PROGRAM)
+        os.chmod(program, 0o755)
+        said = run(*words, cwd=top)
+        expect(f"sweep, by {kind}", said, 0, "first at station.0.len=40", *filter(None, [more]))
+        if not more and told in said[2]:
+            fault(f"sweep, by {kind}: says {said[2]!r}")
+    expect("sweep --unproved", run(*words, "--unproved", cwd=top), 0, f"{told}\n")
+
+
+@case
+def an_interrupt_of_a_sweep():
+    """It ends at once, and with it the programs that it runs."""
+    room = ROOM / "interrupt"
+    room.mkdir()
+    program, plan = room / "program", room / "plan.toml"
+    program.write_text(PROGRAM, encoding="utf-8")
+    program.chmod(0o755)
+    plan.write_text("[[station]]\nlen = 20\n", encoding="utf-8")
+    words = [HERE / "sweep", plan, TOP / "examples/loopback.pcap", "station.0.len=21..40", "f.csv", "--jobs", "2", "--program", program]
+    how = {"cwd": room, "env": os.environ | {"SLOW": "60"}, "stderr": subprocess.PIPE, "text": True, "preexec_fn": heeding}
+    started, until = subprocess.Popen(words, **how), time.monotonic() + 60
+    of_program = ["pgrep", "-f", f"^[^ ]*python3 {program} run"]
+    while subprocess.run(of_program, stdout=subprocess.DEVNULL).returncode and time.monotonic() < until:
+        time.sleep(0.02)
+    began = time.monotonic()
+    started.send_signal(signal.SIGINT)
+    said = started.communicate()[1]
+    if started.returncode != -signal.SIGINT or time.monotonic() - began > 5 or "the same call goes on" not in said or "Traceback" in said:
+        fault(f"sweep, an interrupt: ends with {started.returncode} after {time.monotonic() - began:.1f} s, and says {said!r}")
+    time.sleep(0.1)
+    if not subprocess.run(of_program, stdout=subprocess.DEVNULL).returncode:
+        fault("sweep, an interrupt: a program goes on")
 
 
 @case

@@ -1,0 +1,302 @@
+"""What `./lqtx` does unless a built program can be started at once: it judges words and outputs, builds the program, runs it, and explains its exit code.
+
+    front.py WORD...                            as ./lqtx
+    front.py --after STATUS SIGNAL WORD...      the same once the shell has run the program: SIGNAL is the one that the shell got, or 0
+    front.py --answer PROGRAM NOTE WORD...      the answer of the program without its proof, on standard error, while the proof is under way
+"""
+import os
+import sys
+
+sys.dont_write_bytecode = True
+sys.path[0] = os.path.dirname(sys.path[0])
+from lib import words  # noqa: E402
+from lib.words import Failed, Wrong  # noqa: E402
+
+import contextlib  # noqa: E402
+import itertools  # noqa: E402
+import pathlib  # noqa: E402
+import re  # noqa: E402
+import shutil  # noqa: E402
+import signal  # noqa: E402
+import subprocess  # noqa: E402
+
+from lib import answers, kept, outputs, ways_out, without_proof  # noqa: E402
+from lib.crates import NoKit  # noqa: E402
+
+TOP, say = kept.TOP, answers.tell
+MEANINGS = {2: f"the manual: man {TOP}/docs/lqtx.1, and {TOP}/README.md", 6: "not enough memory (exit code 6)", 9: "a word isn't UTF-8 (exit code 9)"}
+
+
+class Call:
+    """A call of the wrapper: its options, and the words of the program with its outputs."""
+
+    def __init__(self, given):
+        options = list(itertools.takewhile(("--unproved", "--force").__contains__, given))
+        self.is_proved, words.forced = "--unproved" not in options, "--force" in options
+        self.given = given[len(options) :]
+        self.command = outputs.Command(self.given, "" if self.is_proved else ".unproved")
+        self.kind = kept.PROVED if self.is_proved else kept.UNPROVED
+        # whether `rt try` runs the program, and the note of the answer before the proof
+        self.is_tried, self.note = False, kept.KEPT / f"answer.{os.getpid()}"
+
+
+def why_not_read(file):
+    if os.access(file, os.R_OK) and not os.path.isdir(file):
+        return None
+    return f"a folder, not a file: {file}" if os.path.isdir(file) else f"can't be read: {file}" if os.path.exists(file) else f"there is no file {file}"
+
+
+def why_not_written(file):
+    folder = os.path.dirname(file) or "."
+    if not os.path.isdir(folder) or os.path.isdir(file):
+        return f"a folder, not a file: {file}" if os.path.isdir(file) else f"there is no folder {folder}"
+    return None if os.access(file if os.path.exists(file) else folder, os.W_OK) else f"can't be written: {file}"
+
+
+def judge_outputs(call):
+    """Wrong where an output has no name of its own, is an input, or is there and isn't as it was left."""
+    command = call.command
+    if command.out is None:
+        return
+    given = call.given[command.place]
+    if re.search(r"(^|/)\.{0,2}\Z", given):
+        raise Wrong(f"OUT is the beginning of the outputs' names, and {given} is a folder: write for example {given.rstrip('/') if given.strip('/') else ''}/o")
+    outputs.refuse_inputs(command.inputs, command.files())
+    try:
+        command.refuse_foreign()
+    except Wrong:
+        counts = ()
+        # where the tools can read the plan, only the files of its units count
+        with contextlib.suppress(Exception):
+            from lib import plans
+
+            plan = plans.read(command.words[1])
+            counts = plan.units, len(plan.station)
+        command.refuse_foreign(*counts)
+
+
+def judge_words(given):
+    """Ends where it can't be that words or inputs are right, by the usage line as the program has it: nothing has to be built for that."""
+    try:
+        text = (TOP / "crates/lq_files/src/refusal.rt").read_text(encoding="utf-8")
+        usage = re.search(r'^ *"(usage: lqtx .*)\\n"$', text, re.M)[1]
+    except (OSError, TypeError):
+        return
+    forms = {(form.split()[1], len(form.split()) - 1) for form in usage[len("usage: ") :].split(" | ")}
+    if (given[0] if given else "", len(given)) not in forms or any(it[:1] in ("", "-") for it in given):
+        print(usage)
+        say(MEANINGS[2])
+        raise SystemExit(2)
+    fault = next(filter(None, map(why_not_read, outputs.Command(given).inputs)), None) if given[0] in ("run", "trace") else None
+    if fault:
+        say(fault)
+        raise SystemExit(5)
+
+
+def ended(command, **how):
+    """The exit code of a command, which a signal to this process ends too."""
+    process = subprocess.Popen(command, **how)
+    try:
+        code = process.wait()
+    except KeyboardInterrupt:
+        process.terminate()
+        process.wait()
+        raise
+    return code if code >= 0 else 128 - code
+
+
+def build(call, sources):
+    """Proves and builds the program. Where there are words, the program without its proof answers them meanwhile."""
+    program = sources.program(kept.PROVED)
+    part = program.with_name(f"{program.name}.{os.getpid()}")
+    try:
+        with contextlib.ExitStack() as stack:
+            if call.given:
+                command = [sys.executable, "-B", __file__, "--answer", sources.program(kept.UNPROVED), call.note, *call.given]
+                beside = subprocess.Popen(command, stdout=subprocess.DEVNULL)
+                stack.callback(beside.wait)
+                stack.callback(beside.terminate)
+            code = ended([TOP / "tools/build", part], stdin=subprocess.DEVNULL, stdout=subprocess.DEVNULL)
+    except KeyboardInterrupt:
+        if call.command.out is not None and call.note.exists():
+            say(f"{outputs.Command(call.given, '.unproved').names} is what the program without its proof wrote; the proved program wrote nothing")
+        raise
+    if code:
+        raise SystemExit(1)
+    # what changed meanwhile wasn't proved
+    if kept.Sources().checksum != sources.checksum:
+        part.unlink()
+        raise Failed("not built: the sources changed meanwhile")
+    part.replace(program)
+    kept.drop_old(kept.PROVED)
+
+
+def make_unproved(call, sources):
+    """Compiles the program without its proof. With a kit by which it can't be kept `rt try` runs it."""
+    say("compiling the program without its proof, once: a minute or two of one processor")
+    try:
+        answers.make(sources.program(kept.UNPROVED))
+    except without_proof.FormRefused as fault:
+        say(f"this kit doesn't make a program that can be kept, so `rt try` runs it each time: {str(fault).splitlines()[0][:300]}")
+        call.is_tried = True
+    except (without_proof.NotMade, NoKit) as fault:
+        print(fault, file=sys.stderr)
+        raise Failed("the program wasn't compiled without its proof") from fault
+
+
+def say_signal(number):
+    name = {int(it): it.name[3:] for it in signal.Signals}.get(number, "")
+    say(f"ended by signal {number} ({name}); the outputs may not be whole")
+
+
+def run_once(call, program):
+    """Runs the program; notes which outputs it left."""
+    before = call.command.written()
+    try:
+        return answers.try_itself(call.command) if call.is_tried else ended([program, *call.command.words])
+    except KeyboardInterrupt as it:
+        say_signal(it.args[0])
+        raise
+    finally:
+        call.command.leave(before)
+
+
+def run_program(call, program):
+    """Runs it again where it came to its outputs, whose folder isn't there: it reads its inputs before it makes one."""
+    code, command = run_once(call, program), call.command
+    folder = os.path.dirname(command.out) if command.out is not None else ""
+    if code != 5 or not folder or os.path.exists(folder) or any(not os.path.isfile(it) or why_not_read(it) for it in command.inputs):
+        return code
+    try:
+        os.makedirs(folder)
+    except OSError:
+        return code
+    judge_outputs(call)
+    return run_once(call, program)
+
+
+def explain_fault(call):
+    """Which file a fault is about, as far as that can be seen from outside."""
+    command = call.command
+    say("a file or standard output can't be opened, read or written (exit code 5)")
+    faults = filter(None, [*map(why_not_read, command.inputs), *map(why_not_written, command.files())])
+    say(next(faults, None) or full_disk(command) or "its files can be opened: the disk may be full, or standard output closed")
+
+
+def full_disk(command):
+    """The file for which there was no room: the last one that was written."""
+    if command.out is None:
+        return None
+    room = os.statvfs(os.path.dirname(command.out) or ".")
+    if room.f_bavail * room.f_frsize > 65536 and (room.f_favail or not room.f_files):
+        return None
+    files = [f"{command.out}{it}" for it in command.written()]
+    return f"the disk is full: {max(files, key=os.path.getmtime) if files else command.names}"
+
+
+def explain_plan(plan):
+    said = subprocess.run([TOP / "tools/check-plan", plan], stdin=subprocess.DEVNULL, stdout=sys.stderr, stderr=subprocess.DEVNULL) if os.path.isfile(plan) else None
+    # it ends with 3 where it found what is wrong
+    if not said or said.returncode != 3:
+        say("docs/FORMATS.md, 'Plans', explains each reason, and lists common mistakes")
+
+
+def explain_capture(call, program):
+    """The line with the reason has gone to the caller: it is asked for once more."""
+    capture = next(iter(call.given[{"run": 2, "tap": 4}.get(call.given[0], len(call.given)) :]), "")
+    if os.path.isfile(capture) and not call.is_tried:
+        said = subprocess.run([program, *call.command.words], stdin=subprocess.DEVNULL, stdout=subprocess.PIPE, stderr=subprocess.DEVNULL).stdout
+        reason = re.search(rb"^capture refused: (\d+) ", said, re.M)
+        say(ways_out.way_out(int(reason[1]) if reason else None, capture))
+
+
+def explain_schedule(schedule):
+    """Which step failed, where the seat stood, and what can be done there."""
+    said = subprocess.run([TOP / "tools/show-schedule", "--why", schedule], stdin=subprocess.DEVNULL, capture_output=True, text=True, errors="replace").stderr
+    print(re.sub("^show-schedule: ", "lqtx: ", said, flags=re.M), end="", file=sys.stderr)
+
+
+def explain(call, program, code):
+    if code in MEANINGS:
+        say(MEANINGS[code])
+    elif code == 3:
+        explain_plan(call.given[1])
+    elif code == 4:
+        explain_capture(call, program)
+    elif code == 5:
+        explain_fault(call)
+    elif code == 7 and os.path.isfile(call.given[1]):
+        explain_schedule(call.given[1])
+    elif code > 128:
+        say_signal(code - 128)
+
+
+def built(call, sources):
+    """The program, made unless it is there."""
+    program = sources.program(call.kind)
+    if not kept.is_made(program):
+        if not os.environ.get("LQTX_SHOW_PROGRAM"):
+            judge_words(call.given)
+        if not shutil.which("rt"):
+            made, make = ("built", "build") if call.is_proved else ("compiled", "compile")
+            raise Failed(f"the program isn't {made}, and there is no 'rt' on the PATH to {make} it")
+        build(call, sources) if call.is_proved else make_unproved(call, sources)
+    sources.tell_shell(call.kind)
+    return program
+
+
+def answer_of(call, program):
+    """Runs the program and explains its exit code; the exit code of the whole."""
+    if not call.is_proved:
+        writes = f"; it writes {call.command.names}" if call.command.out is not None else ""
+        say(f"this program is not proved: checks stop it at an overflow or an index out of bounds, and nothing else is known of it{writes}")
+    code = run_program(call, program)
+    explain(call, program, code)
+    # with one sender both write the same, byte for byte
+    if call.note.exists():
+        try:
+            return answers.compare(call.note, program, code, call.given) or code
+        except OSError as fault:
+            say(f"the answers aren't compared: {words.line_of(fault)}")
+    return code
+
+
+def after(call, code, number):
+    """What is left to say once the shell has run the program."""
+    if number:
+        say_signal(number)
+        raise KeyboardInterrupt(number)
+    explain(call, kept.KEPT / (kept.KEPT / f"current.{call.kind}").read_text(encoding="utf-8").split("\n")[0], code)
+    return code
+
+
+def main(given):
+    if given[:1] == ["--after"]:
+        return after(Call(given[3:]), int(given[1]), int(given[2]))
+    if given[:1] == ["--answer"]:
+        try:
+            return answers.answer(pathlib.Path(given[1]), pathlib.Path(given[2]), given[3:])
+        except OSError as fault:
+            say(f"there is no answer before the proof: {words.line_of(fault)}")
+            return 0
+    call = Call(given)
+    judge_outputs(call)
+    try:
+        program = built(call, kept.Sources())
+        if not os.environ.get("LQTX_SHOW_PROGRAM"):
+            return answer_of(call, program)
+        if call.is_tried:
+            raise Failed("there is no program to run many times")
+        print(program)
+    finally:
+        with contextlib.suppress(OSError):
+            call.note.unlink()
+
+
+if __name__ == "__main__":
+    words.heed_signals()
+    try:
+        # help is asked of the program
+        sys.exit(words.code_of("lqtx", __doc__, lambda given: main(given[1:]), ["--", *sys.argv[1:]]))
+    except KeyboardInterrupt as it:
+        words.end_by(it.args[0])
