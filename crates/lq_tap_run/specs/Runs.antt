@@ -34,4 +34,4 @@ pub record HasJoined (tap : Tap) (packets senders first : ℕ) (seat : TapSeat) 
 pub record IsReaderOfFates (packets senders len : ℕ) (fates : List TapFate) (seat : TapSeat) : Type 0 where
   pub about : (view seat).about ≡ record { packets = packets; len = len; senders = senders }
   pub settled : IsSettled (view seat)
-  pub fates : AreMarked packets (view seat).sender.fulls (view seat).reader.taken fates
+  pub marked : AreMarked packets (view seat).sender.fulls (view seat).reader.taken fates

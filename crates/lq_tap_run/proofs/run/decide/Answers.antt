@@ -1,4 +1,4 @@
-use Rattle.std.proofs.Common.{◌<◌, ◌≤◌, ℕ, List, All, length, ap, sym, subst, arith}
+use Rattle.std.proofs.Common.{◌<◌, ◌≤◌, ◌∙◌, ℕ, List, All, length, ap, sym, subst, arith}
 use Rattle.lq_band_laws.specs.Times.{times}
 use Rattle.lq_tap.specs.Sees.{view}
 use Rattle.lq_tap_run.specs.Marks.{AreMarked}
@@ -44,5 +44,5 @@ returns-clause-ring g c =
     let made = run.may.made in let joined = c.join_all.ensures.joined in record {
       about = joined.0.reader.0.1 ∙ (λ j. record { packets = made.0 j; len = run.tap.now.len; senders = made.2 j });
       settled = joined.1;
-      fates = subst (λ (xs : List ℕ). AreMarked count fulls xs fates) (c.deref.ensures.value ∙ sym (c.join_all.ensures.reader.0 ∙ c.requires.read.taken)) (c.mark_read.ensures count fulls c.join_all.ensures.fates);
+      marked = subst (λ (xs : List ℕ). AreMarked count fulls xs fates) (c.deref.ensures.value ∙ sym (c.join_all.ensures.reader.0 ∙ c.requires.read.taken)) (c.mark_read.ensures count fulls c.join_all.ensures.fates);
     }

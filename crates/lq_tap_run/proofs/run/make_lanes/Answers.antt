@@ -1,6 +1,7 @@
 use Rattle.std.proofs.Common.{◌≡◌, ◌<◌, ◌∙◌, ◌+◌, ◌-◌, ℕ, suc, List, length, vec_len, ap, sym, subst, arith}
 use Rattle.std.specs.Prelude.{replicate}
 use Rattle.lq_tap.specs.Made.{Made, ◌⊳◌, cut}
+use Rattle.lq_band_laws.specs.Times.{times}
 use Rattle.lq_tap.specs.Told.{omitting}
 use Rattle.lq_tap.specs.Views.{View, counting}
 use Rattle.lq_tap_run.specs.Lanes.{AreReady, IsLaneReady}
@@ -43,3 +44,12 @@ loop-sender-preserved c =
       long = (let more = c.push_reserved.ensures.len in omega arith);
       room = (let same = c.push_reserved.ensures.capacity in let room = inv.room in omega arith);
     }
+
+-- the sender has no seat yet
+pub split-requires-clause-sender : goal.split-requires-clause-sender
+split-requires-clause-sender c =
+    let sender = c.loop-sender.sender in let senders = c.args.senders in let lt : sender < senders = c.loop-sender-test.true in
+    let left : senders - sender ≡ suc (senders - (sender + 1)) = omega arith in let made : c.args.tap.now.senders ≡ senders = c.requires.made.1.2 in (
+      (let below : sender < c.args.tap.now.senders = omega arith in below),
+      subst (λ (ns : List ℕ). 0 < times sender ns) (sym (c.loop-sender.invariant.splitting.seatless_is ∙ ap (counting sender) left)) (c.senders_in_order.ensures.next sender (senders - (sender + 1))),
+    )
