@@ -1,27 +1,25 @@
 -- A sender comes to a packet of its own: the events before it, the packet, and the openings after it.
-use Rattle.std.proofs.Common.{◌≡◌, ℕ, ◌+◌, ◌*◌, ◌<◌, ◌≤◌, List, length, Some, inl, inr, sym, ap, ◌∙◌, subst, slice_get, arith}
+use Rattle.std.proofs.Common.{◌≡◌, ◌≢◌, ℕ, ◌+◌, ◌*◌, ◌<◌, ◌≤◌, List, length, Some, inl, inr, refl, sym, ap, ◌∙◌, subst, slice_get, arith}
 use Rattle.std.specs.Prelude.{slice_index, slice_index_or, slice_set}
 use Rattle.std.proofs.lemmas.Bool.{cases_order}
 use Rattle.std.proofs.lemmas.Option.{slice_get_within}
 use Rattle.lq_control.specs.Finish.{count_below}
 use Rattle.lq_model.specs.Alone.{RunningStation, with_packet}
 use Rattle.lq_model.specs.Device.{DeviceState}
-use Rattle.lq_model.specs.Plan.{Plan}
+use Rattle.lq_model.specs.Plan.{Plan, station_in}
 use Rattle.lq_model.specs.declared.fate.Info.{Info}
 use Rattle.lq_plan.specs.Packets.{IsInfoWithin}
 use Rattle.lq_seat.specs.Calls.{MaySendNext, SendsPacket}
 use Rattle.lq_seat.specs.State.{SeatState, Setup, TableState, times}
-use Rattle.lq_senders.specs.Lanes.{AllDid, AreRunAlone, IsSendable, IsSending, KeepAll, LaneStands, StandsAt}
+use Rattle.lq_senders.specs.Lanes.{AreRunAlone, IsSendable, IsSending, KeepAll, LaneStands, SentPacket, StandsAt}
 use Rattle.lq_senders.specs.Way.{IsSplitAt, StandAfter, StandBefore, StandEarlier}
-use Rattle.lq_senders.specs.Woken.{OtherCalls}
-use Rattle.lq_senders.proofs.Calls.{called-keep, called-set, sends-call}
+use Rattle.lq_senders.proofs.Calls.{called-keep}
 use Rattle.lq_senders.proofs.Devices.{devices-kept}
 use Rattle.lq_senders.proofs.OpenedTimes.{AreOpenedTimes, turn-ended}
 use Rattle.lq_senders.proofs.Seats.{all-at, keep-set, made-of, seat-at, seats-kept, sends-keep, table-at}
 use Rattle.lq_senders.proofs.Sending.{sending-own}
 use Rattle.lq_senders.proofs.Sent.{lane-sent, owner-is, rank-is, runs-sent, station-is}
 use Rattle.lq_senders.proofs.Turns.{FirstEvents, keep-on, no-events-yet, seats-on}
-use Rattle.lq_senders.proofs.Woken.{woke-called}
 
 -- THE EVENTS BEFORE THE PACKET
 
@@ -32,6 +30,7 @@ pub record EventsDone (plan : Plan) (infos : List Info) (tables : List TableStat
   pub left : sender ≡ 0 → StandAfter plan e n
   pub first : FirstEvents plan infos tables next n e start brought now spares
   pub stands : LaneStands plan infos sender e n tables now
+  pub others : sender ≢ 0 → now ≡ start
 
 pub none-done : (plan : Plan) (infos : List Info) (tables : List TableState) (sender next n : ℕ) (cpus : List SeatState) (spares : List DeviceState)
     → next ≤ length plan.events → (sender ≡ 0 → StandAfter plan next n) → LaneStands plan infos sender next n tables cpus → EventsDone plan infos tables sender next n next cpus spares cpus spares
@@ -41,6 +40,7 @@ none-done plan infos tables sender next n cpus spares within left lane = record 
   left = left;
   first = no-events-yet plan infos tables next n cpus spares;
   stands = lane;
+  others = λ _. refl;
 }
 
 -- they are the first sender's
@@ -54,6 +54,7 @@ some-done plan infos tables sender next n e start brought now spares zero_th ord
   first = first;
   stands = subst (λ (s : ℕ). LaneStands plan infos s e n tables now) (sym zero_th)
       (first.stands n (subst (λ (s : ℕ). LaneStands plan infos s next n tables start) zero_th lane));
+  others = λ other. absurd (other zero_th);
 }
 
 -- the earlier events stood before a lower packet
@@ -71,7 +72,7 @@ all-before plan infos tables sender next n e start brought now spares earlier ev
 pub record PacketSent (plan : Plan) (infos : List Info) (tables : List TableState) (sender count n : ℕ) (old new : List SeatState) : Type 0 where
   pub stands : LaneStands plan infos sender count (n + 1) tables new
   pub keeps : KeepAll old new
-  pub calls : AllDid OtherCalls old new
+  pub packet : SentPacket infos n old new
   pub runs : (stations : List RunningStation) → AreRunAlone plan infos old stations → AreRunAlone plan infos new (with_packet plan infos n stations)
 
 -- the sender's seat at its packet's station, before the packet is sent and once it is
@@ -109,7 +110,13 @@ module _ (plan : Plan) (infos : List Info) (sendable : IsSendable plan infos) (t
   packet-sent c' split sends = record {
     stands = lane-sent plan infos sender count n tables cpus info t c c' sendable.ranks there own at-t at-c split sends lane;
     keeps = keep-set cpus info.station c c' at-c (sends-keep n c c' sends);
-    calls = called-set cpus info.station c c' at-c (sends-call n c c' sends);
+    packet = let at : info.station ≡ station_in infos n = sym (station-is infos n info there) in record {
+      before = c;
+      after = c';
+      there = subst (λ (j : ℕ). slice_get cpus j ≡ Some c) at at-c;
+      sends = sends;
+      laid = ap (λ (j : ℕ). slice_set cpus j c') at;
+    };
     runs = λ stations runs. runs-sent plan infos sender count n tables cpus stations info t c c' there at-t at-c sends lane runs;
   }
 
@@ -129,7 +136,7 @@ sending-on plan infos opens tables sender n k next e start brought old were read
     (all-before plan infos tables sender next n e old were ready spares was.earlier events) events.left
     (opened.stands sender e (n + 1) packet.stands)
     (seats-on old ready new (called-keep old ready events.first.calls) (seats-kept ready new keeps)) info there own
-    (λ count woke. opened.woke start count (woke-called count start ready sent (woke-called count start old ready woke events.first.calls) packet.calls))
+    (record { ready = ready; sent = sent; events = (events.first.calls, events.others); packet = packet.packet; opened = opened.opened })
     (λ units stand. devices-kept plan infos units e ready new spares keeps (events.first.devices units stand))
     (λ units stand tell stations runs. turn-ended plan infos tables sender e (n + 1) (opens n) sent new packet.stands opened _ (packet.runs _ (events.first.runs units stand tell stations runs)))
     was

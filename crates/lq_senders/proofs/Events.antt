@@ -12,7 +12,7 @@ use Rattle.lq_seat.specs.Calls.{MayChange}
 use Rattle.lq_seat.specs.State.{SeatState, Setup, TableState, solo_of}
 use Rattle.lq_senders.specs.Seats.{Keeps}
 use Rattle.lq_senders.specs.Lanes.{AllDid, DoesEventAt, KeepAll, LaneStands, AreRunAlone, StandsInRun, StandsAt}
-use Rattle.lq_senders.specs.Woken.{OtherCalls, not_called}
+use Rattle.lq_senders.specs.Woken.{PlanCalls, not_called}
 use Rattle.lq_senders.proofs.Calls.{event-call}
 use Rattle.lq_senders.proofs.Orders.{may-do-next}
 use Rattle.lq_senders.proofs.Seats.{event-changes, event-keeps, here-kept, keeps-itself, made-of, own-step, seat-kept, stands-elsewhere, stands-event, where-apart, where-here, with-event}
@@ -61,11 +61,11 @@ module _ (plan : Plan) (infos : List Info) (e : ℕ) (event : EventPlan) (there 
     pub all-keep : KeepAll old new
     all-keep = record { long = all.long; each = λ j c c' at at'. one-keeps c c' (all.each j c c' at at') }
 
-    one-called : (v w : SeatState) → DoesEventAt e event v w → OtherCalls v w
+    one-called : (v w : SeatState) → DoesEventAt e event v w → PlanCalls v w
     one-called v w (inl (at, does)) = event-call plan e event.kind v w (does plan)
-    one-called v w (inr (other, same)) = subst (OtherCalls v) (sym same) not_called
+    one-called v w (inr (other, same)) = subst (PlanCalls v) (sym same) not_called
 
-    pub all-called : AllDid OtherCalls old new
+    pub all-called : AllDid PlanCalls old new
     all-called = record { long = all.long; each = λ j c c' at at'. one-called c c' (all.each j c c' at at') }
 
     one-runs : (n j : ℕ) (t : TableState) (c c' : SeatState) (stations : List RunningStation) → StandsAt plan infos 0 e n j t c → DoesEventAt e event c c'

@@ -1,27 +1,25 @@
 -- After a packet its sender opens the queues of all stations so many times, and does soft interrupts after each.
-use Rattle.std.proofs.Common.{◌≡◌, ℕ, zero, suc, ◌+◌, List, subst, arith}
+use Rattle.std.proofs.Common.{◌≡◌, ℕ, zero, suc, ◌+◌, List, refl, subst, arith}
 use Rattle.lq_model.specs.Alone.{RunningStation, opened_and_served, turn_ended}
 use Rattle.lq_model.specs.Plan.{Plan}
 use Rattle.lq_model.specs.declared.fate.Info.{Info}
 use Rattle.lq_seat.specs.State.{SeatState, TableState}
-use Rattle.lq_senders.specs.Lanes.{AllOpened, AreRunAlone, KeepAll, LaneStands}
-use Rattle.lq_senders.specs.Woken.{AllWoke}
+use Rattle.lq_senders.specs.Lanes.{AllOpened, AreRunAlone, KeepAll, LaneStands, OpenedTimes}
 use Rattle.lq_senders.proofs.Turns.{keep-none, keep-on, keep-opened, lane-made, lane-opened, runs-opened, runs-rested}
-use Rattle.lq_senders.proofs.Woken.{woke-opened}
 
 -- so many times, so far
 pub record AreOpenedTimes (plan : Plan) (infos : List Info) (tables : List TableState) (times : ℕ) (old new : List SeatState) : Type 0 where
   pub stands : (sender count n : ℕ) → LaneStands plan infos sender count n tables old → LaneStands plan infos sender count n tables new
   pub keeps : KeepAll old new
   pub runs : (stations : List RunningStation) → AreRunAlone plan infos old stations → AreRunAlone plan infos new (opened_and_served infos times stations)
-  pub woke : (start : List SeatState) (count : ℕ) → AllWoke count start old → AllWoke (count + times) start new
+  pub opened : OpenedTimes times old new
 
 pub not-opened : (plan : Plan) (infos : List Info) (tables : List TableState) (cpus : List SeatState) → AreOpenedTimes plan infos tables 0 cpus cpus
 not-opened plan infos tables cpus = record {
   stands = λ sender count n lane. lane;
   keeps = keep-none cpus;
   runs = λ stations runs. runs;
-  woke = λ start count woke. let same : count ≡ count + 0 = omega arith in subst (λ k. AllWoke k start cpus) same woke;
+  opened = refl;
 }
 
 pub opened-once-more : (plan : Plan) (infos : List Info) (sender count n : ℕ) (tables : List TableState) (times : ℕ) (old now new : List SeatState)
@@ -33,8 +31,7 @@ opened-once-more plan infos sender count n tables times old now new lane (mid, (
   runs = λ stations runs. let more : suc times ≡ times + 1 = omega arith in
       subst (λ k. AreRunAlone plan infos new (opened_and_served infos k stations)) more
       (runs-opened plan infos now mid new (opened_and_served infos times stations) (lane-made plan infos sender count n tables now lane) woken drained (before.runs stations runs));
-  woke = λ start count woke. let more : (count + times) + 1 ≡ count + (times + 1) = omega arith in
-      subst (λ k. AllWoke k start new) more (woke-opened (count + times) start now mid new woken drained (before.woke start count woke));
+  opened = let more : suc times ≡ times + 1 = omega arith in subst (λ k. OpenedTimes k old new) more (now, (before.opened, (mid, (woken, drained))));
 }
 
 -- this is what follows a packet, also where they aren't opened

@@ -13,15 +13,14 @@ use Rattle.lq_model.specs.Plan.{Plan}
 use Rattle.lq_model.specs.declared.fate.Info.{Info}
 use Rattle.lq_model.specs.declared.plan.EventPlan.{EventPlan}
 use Rattle.lq_seat.specs.State.{SeatState, TableState}
-use Rattle.lq_senders.specs.Lanes.{LaneStands, KeepSeats, AreRunAlone, IsSending}
+use Rattle.lq_senders.specs.Lanes.{LaneStands, KeepSeats, AreRunAlone, ComesPast, IsSending, SendsAndOpens}
 use Rattle.lq_senders.specs.Units.{DevicesStand, DoTell}
 use Rattle.lq_senders.specs.Way.{numbers_from}
-use Rattle.lq_senders.specs.Woken.{AllWoke, openings_of}
 use Rattle.lq_senders.proofs.Lists.{one-fails, one-passes}
 use Rattle.lq_senders.proofs.Seats.{seats-kept}
 use Rattle.lq_senders.proofs.Sent.{lane-past, owner-is}
 use Rattle.lq_senders.proofs.Turns.{event-there, keep-none, numbers-more, seats-on}
-use Rattle.lq_senders.proofs.Woken.{count-sent-other, count-sent-own, openings-other, openings-own, woke-none}
+use Rattle.lq_senders.proofs.Woken.{count-sent-other, count-sent-own}
 
 -- NUMBERS THAT A TEST PASSES
 
@@ -93,17 +92,17 @@ pub sending-own : (plan : Plan) (infos : List Info) (opens : ℕ → ℕ) (table
     → ((j : ℕ) (event : EventPlan) → j < last → slice_get plan.events j ≡ Some event → event.before ≤ n)
     → (sender ≡ 0 → (j : ℕ) (event : EventPlan) → last ≤ j → slice_get plan.events j ≡ Some event → n < event.before)
     → LaneStands plan infos sender last (n + 1) tables new → KeepSeats now new → (info : Info) → slice_get infos n ≡ Some info → info.owner ≡ sender
-    → ((count : ℕ) → AllWoke count start now → AllWoke (count + opens n) start new)
+    → SendsAndOpens infos sender n (opens n) now new
     → ((units : List DeviceState) → DevicesStand plan infos units next now spares → DevicesStand plan infos units last new left_over)
     → ((units : List DeviceState) → DevicesStand plan infos units next now spares → DoTell plan units → (stations : List RunningStation) → AreRunAlone plan infos now stations
     → AreRunAlone plan infos new (turn_ended infos (opens n) (with_packet plan infos n (with_events plan infos (numbers_from next (last - next)) stations))))
     → IsSending plan infos opens tables sender n k next start brought now spares → IsSending plan infos opens tables sender (n + 1) (k + 1) last start brought new left_over
-sending-own plan infos opens tables sender n k next last start brought now spares new left_over order within done left stands keeps info there own woke devices runs was = record {
+sending-own plan infos opens tables sender n k next last start brought now spares new left_over order within done left stands keeps info there own calls devices runs was = record {
   within = within;
   few = let few = was.few in omega arith;
   sent = ap (λ i. i + 1) was.sent ∙ sym (count-sent-own infos sender n info there own);
-  woke = subst (λ count. AllWoke count start new) (sym (openings-own infos opens sender n (owner-is infos n info there ∙ own)))
-      (woke (openings_of infos opens sender n) was.woke);
+  came = let more : suc n ≡ n + 1 = omega arith in subst (λ m. ComesPast infos opens sender m start new) more
+      (now, (was.came, ((λ _. calls), (λ other. absurd (other (owner-is infos n info there ∙ own))))));
   stands = stands;
   earlier = λ j event below there. let le = done j event below there in omega arith;
   keeps = seats-on start now new was.keeps keeps;
@@ -125,7 +124,8 @@ sending-past plan infos opens tables sender n k next start brought now spares in
   within = was.within;
   few = let few = was.few in omega arith;
   sent = was.sent ∙ sym (count-sent-other infos sender n info there other);
-  woke = subst (λ count. AllWoke count start now) (sym (openings-other infos opens sender n (λ same. other (sym (owner-is infos n info there) ∙ same)))) was.woke;
+  came = let more : suc n ≡ n + 1 = omega arith in subst (λ m. ComesPast infos opens sender m start now) more
+      (now, (was.came, ((λ same. absurd (other (sym (owner-is infos n info there) ∙ same))), (λ _. refl))));
   stands = lane-past plan infos sender next n tables now info there other was.stands;
   earlier = λ j event below at. let lt = was.earlier j event below at in omega arith;
   keeps = was.keeps;
@@ -139,7 +139,7 @@ sending-start plan infos opens tables sender cpus spares lane = record {
   within = omega arith;
   few = omega arith;
   sent = refl;
-  woke = woke-none cpus;
+  came = refl;
   stands = lane;
   earlier = λ j event below there. absurd (omega arith);
   keeps = seats-kept cpus cpus (keep-none cpus);

@@ -16,7 +16,7 @@ use Rattle.lq_senders.specs.Seats.{Keeps}
 use Rattle.lq_senders.specs.Lanes.{AllDid, AreOthers, AreSeats, KeepAll, KeepSeats, LaneStands, AreRunAlone, StandsInRun}
 use Rattle.lq_senders.specs.Units.{DevicesStand, DoTell}
 use Rattle.lq_senders.specs.Way.{IsOnWay, numbers_from}
-use Rattle.lq_senders.specs.Woken.{OtherCalls}
+use Rattle.lq_senders.specs.Woken.{PlanCalls}
 use Rattle.lq_senders.proofs.Calls.{calls-on, none-called}
 use Rattle.lq_senders.proofs.Seats.{drains-keep, here-kept, keeps-itself, keeps-on, made-of, mapped-at, own-step, owner-kept, seat-kept, seat-on, wakes-keep}
 use Rattle.lq_senders.proofs.Ways.{below-or-at}
@@ -169,7 +169,7 @@ seats-on a b c one two = record {
       seat-on x y.0 z (one.each j x y.0 at y.1) (two.each j y.0 z y.1 at');
 }
 
-pub called-on : (a b c : List SeatState) → AllDid OtherCalls a b → AllDid OtherCalls b c → AllDid OtherCalls a c
+pub called-on : (a b c : List SeatState) → AllDid PlanCalls a b → AllDid PlanCalls b c → AllDid PlanCalls a c
 called-on a b c one two = record {
   long = two.long ∙ one.long;
   each = λ j x z at at'. let y = some-there b a j x one.long at in
@@ -180,7 +180,7 @@ called-on a b c one two = record {
 pub record FirstEvents (plan : Plan) (infos : List Info) (tables : List TableState) (next n e : ℕ) (start : List SeatState) (brought : List DeviceState) (now : List SeatState) (spares : List DeviceState) : Type 0 where
   pub done : (k : ℕ) (event : EventPlan) → next ≤ k → k < e → slice_get plan.events k ≡ Some event → event.before ≤ n
   pub stands : (m : ℕ) → LaneStands plan infos 0 next m tables start → LaneStands plan infos 0 e m tables now
-  pub calls : AllDid OtherCalls start now
+  pub calls : AllDid PlanCalls start now
   pub devices : (units : List DeviceState) → DevicesStand plan infos units next start brought → DevicesStand plan infos units e now spares
   pub runs : (units : List DeviceState) → DevicesStand plan infos units next start brought → DoTell plan units
       → (stations : List RunningStation) → AreRunAlone plan infos start stations → AreRunAlone plan infos now (with_events plan infos (numbers_from next (e - next)) stations)
@@ -196,7 +196,7 @@ no-events-yet plan infos tables next n cpus spares = record {
 
 pub one-event-more : (plan : Plan) (infos : List Info) (tables : List TableState) (next n e : ℕ) (event : EventPlan) (start : List SeatState) (brought : List DeviceState) (now : List SeatState) (spares : List DeviceState) (new : List SeatState) (left : List DeviceState)
     → next ≤ e → slice_get plan.events e ≡ Some event → event.before ≤ n
-    → ((m : ℕ) → LaneStands plan infos 0 e m tables now → LaneStands plan infos 0 (e + 1) m tables new) → AllDid OtherCalls now new
+    → ((m : ℕ) → LaneStands plan infos 0 e m tables now → LaneStands plan infos 0 (e + 1) m tables new) → AllDid PlanCalls now new
     → ((units : List DeviceState) → DevicesStand plan infos units e now spares → DevicesStand plan infos units (e + 1) new left)
     → ((units : List DeviceState) → DevicesStand plan infos units e now spares → DoTell plan units → (stations : List RunningStation) → AreRunAlone plan infos now stations → AreRunAlone plan infos new (with_event plan infos e stations))
     → FirstEvents plan infos tables next n e start brought now spares → FirstEvents plan infos tables next n (e + 1) start brought new left

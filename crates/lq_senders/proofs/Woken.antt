@@ -1,4 +1,4 @@
--- A sender wakes its stations after its packets.
+-- How often a sender opens the queues after its packets.
 use Rattle.std.proofs.Common.{◌≡◌, ◌≢◌, ◌⊎◌, ℕ, zero, suc, ◌+◌, ◌*◌, ◌/◌, ◌%◌, ◌<◌, ◌≤◌, ◌==◌, cond, List, [], ◌∷◌, ◌++◌, inl, inr, length, filter, Some, refl, sym, ap, ap₂, ◌∙◌, subst, slice_get, arith, eq-eqb}
 use Rattle.std.specs.List.{sum_by}
 use Rattle.std.proofs.Math.Nat.{add-mul, div-eq_of_lt, div-eq_of_lt-le, mod-lt}
@@ -10,15 +10,11 @@ use Rattle.std.proofs.lemmas.Option.{get_or_from_slice_get, slice_get_within}
 use Rattle.lq_model.specs.Numbers.{first_numbers}
 use Rattle.lq_model.specs.Plan.{owner_in}
 use Rattle.lq_model.specs.declared.fate.Info.{Info}
-use Rattle.lq_seat.specs.Calls.{WakesQueues, Drains}
-use Rattle.lq_seat.specs.State.{SeatState}
 use Rattle.lq_plan.specs.declared.openings.Openings.TheVariants.{Every}
-use Rattle.lq_senders.specs.Lanes.{AllDid}
-use Rattle.lq_senders.specs.Woken.{AllWoke, OtherCalls, WokeTimes, count_sent, not_called, openings_of, opens_by}
-use Rattle.lq_senders.proofs.Calls.{calls-on, drains-call, none-called}
+use Rattle.lq_senders.specs.Woken.{count_sent, openings_of, opens_by}
 use Rattle.lq_senders.proofs.Lists.{one-fails, one-passes}
 use Rattle.lq_senders.proofs.Sent.{owner-is}
-use Rattle.lq_senders.proofs.Turns.{event-there, some-there}
+use Rattle.lq_senders.proofs.Turns.{event-there}
 
 -- HOW MANY PACKETS
 
@@ -108,41 +104,3 @@ module _ (packets : ℕ) (infos : List Info) (sender : ℕ) (some : 0 < packets)
   openings-every (suc n) within =
       let more : n + 1 ≡ suc n = omega arith in
       subst (λ m. openings_of infos opens sender m ≡ count_sent infos sender m / packets) more (every-next n (omega arith) (openings-every n (omega arith)))
-
--- ONE SEAT
-
-woke-on : (count : ℕ) (old mid new : SeatState) → WokeTimes count old mid → OtherCalls mid new → WokeTimes count old new
-woke-on zero old mid new woke calls = calls-on old mid new woke calls
-woke-on (suc count) old mid new (before, woken, (earlier, (wakes, later))) calls = (before, woken, (earlier, (wakes, calls-on woken mid new later calls)))
-
--- ALL SEATS
-
-pub woke-none : (cpus : List SeatState) → AllWoke 0 cpus cpus
-woke-none cpus = let same = none-called cpus in record { long = refl; each = λ j c c' at-old at-new. same.each j c c' at-old at-new }
-
-pub woke-called : (count : ℕ) (old mid new : List SeatState) → AllWoke count old mid → AllDid OtherCalls mid new → AllWoke count old new
-woke-called count old mid new woke calls = record {
-  long = calls.long ∙ woke.long;
-  each = λ j c d at-old at-new. let half = some-there mid old j c woke.long at-old in
-      woke-on count c half.0 d (woke.each j c half.0 at-old half.1) (calls.each j half.0 d half.1 at-new);
-}
-
-woke-more : (count : ℕ) (old mid new : List SeatState) → AllWoke count old mid → AllDid WakesQueues mid new → AllWoke (suc count) old new
-woke-more count old mid new woke did = record {
-  long = did.long ∙ woke.long;
-  each = λ j c d at-old at-new. let half = some-there mid old j c woke.long at-old in
-      (half.0, d, (woke.each j c half.0 at-old half.1, (did.each j half.0 d half.1 at-new, not_called)));
-}
-
-drains-called : (old new : List SeatState) → AllDid Drains old new → AllDid OtherCalls old new
-drains-called old new drained = record { long = drained.long; each = λ j c c' at at'. drains-call c c' (drained.each j c c' at at') }
-
--- soft interrupts were done
-pub woke-drained : (count : ℕ) (start old new : List SeatState) → AllDid Drains old new → AllWoke count start old → AllWoke count start new
-woke-drained count start old new drained woke = woke-called count start old new woke (drains-called old new drained)
-
--- the queues were woken once more, and then soft interrupts done
-pub woke-opened : (count : ℕ) (start old mid new : List SeatState) → AllDid WakesQueues old mid → AllDid Drains mid new → AllWoke count start old → AllWoke (count + 1) start new
-woke-opened count start old mid new woken drained woke =
-    let more : suc count ≡ count + 1 = omega arith in
-    subst (λ k. AllWoke k start new) more (woke-drained (suc count) start mid new drained (woke-more count start old mid woke woken))

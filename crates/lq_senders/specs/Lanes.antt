@@ -1,20 +1,20 @@
 -- A sender's lane: its seats, one at each station.
-use Rattle.std.specs.Prelude.{◌≡◌, ◌<◌, ◌≤◌, ℕ, ◌+◌, ◌*◌, ◌⊎◌, All, true, false, List, [], ◌∷◌, length, slice_get, slice_index, Some}
+use Rattle.std.specs.Prelude.{◌≡◌, ◌≢◌, ◌<◌, ◌≤◌, ℕ, zero, suc, ◌+◌, ◌*◌, ◌⊎◌, All, true, false, List, [], ◌∷◌, length, slice_get, slice_index, slice_set, Some}
 use Rattle.lq_account_laws.specs.Progress.{start_of}
 use Rattle.lq_control.specs.Finish.{AreRanks, count_below}
 use Rattle.lq_model.specs.Alone.{RunningStation, after_packets, events_after, with_events}
 use Rattle.lq_model.specs.Device.{DeviceState}
-use Rattle.lq_model.specs.Plan.{Plan, is_at, owner_in, queues_at}
+use Rattle.lq_model.specs.Plan.{Plan, is_at, owner_in, queues_at, station_in}
 use Rattle.lq_model.specs.declared.fate.Info.{Info}
 use Rattle.lq_model.specs.declared.plan.EventPlan.{EventPlan}
 use Rattle.lq_plan.specs.Packets.{IsInfoWithin}
 use Rattle.lq_qdisc.specs.Alone.{IsAlone, running}
-use Rattle.lq_seat.specs.Calls.{DoesEvent, Drains, WakesQueues}
+use Rattle.lq_seat.specs.Calls.{DoesEvent, Drains, SendsPacket, WakesQueues}
 use Rattle.lq_seat.specs.State.{SeatState, TableState, IsHere, IsTableOf, solo_of, times, AreInfos}
 use Rattle.lq_senders.specs.Seats.{Keeps, KeepsSeat}
 use Rattle.lq_senders.specs.Units.{DevicesStand, DoTell}
 use Rattle.lq_senders.specs.Way.{IsOnWay, StandEarlier}
-use Rattle.lq_senders.specs.Woken.{AllWoke, count_sent, openings_of}
+use Rattle.lq_senders.specs.Woken.{PlanCalls, count_sent}
 use Rattle.lq_senders.specs.declared.sender.Sender.{Sender}
 
 -- ONE SEAT
@@ -80,19 +80,56 @@ pub record AllDid (R : SeatState → SeatState → Type 0) (old new : List SeatS
 abbrev pub AllOpened : List SeatState → List SeatState → Type 0
 AllOpened old new = (woken : List SeatState) × (AllDid WakesQueues old woken × AllDid Drains woken new)
 
+-- this was done so many times, one after the other
+abbrev pub OpenedTimes : ℕ → List SeatState → List SeatState → Type 0
+OpenedTimes zero old new = new ≡ old
+OpenedTimes (suc count) old new = (now : List SeatState) × (OpenedTimes count old now × AllOpened now new)
+
 -- an event of the plan was done, if it is one of the seat's station
 abbrev pub DoesEventAt : ℕ → EventPlan → SeatState → SeatState → Type 0
 DoesEventAt e event old new = ((is_at old.made.station event ≡ true) × ((plan : Plan) → DoesEvent plan e event.kind old new)) ⊎ ((is_at old.made.station event ≡ false) × (new ≡ old))
 
+-- THE CALLS OF A SENDER, in the order in which it makes them
+
+-- the first sender did events of the plan, and every other did nothing
+abbrev pub DidEvents : ℕ → List SeatState → List SeatState → Type 0
+DidEvents sender old new = AllDid PlanCalls old new × (sender ≢ 0 → new ≡ old)
+
+-- packet n was sent at the seat of its station, and nothing was done at the others
+pub record SentPacket (infos : List Info) (n : ℕ) (old new : List SeatState) : Type 0 where
+  pub before : SeatState
+  pub after : SeatState
+  pub there : slice_get old (station_in infos n) ≡ Some before
+  pub sends : SendsPacket n before after
+  pub laid : new ≡ slice_set old (station_in infos n) after
+
+-- A sender's own packet n: the events before it, the packet, and then so many openings, each with its soft interrupts.
+pub record SendsAndOpens (infos : List Info) (sender n times : ℕ) (old new : List SeatState) : Type 0 where
+  pub ready : List SeatState
+  pub sent : List SeatState
+  pub events : DidEvents sender old ready
+  pub packet : SentPacket infos n ready sent
+  pub opened : OpenedTimes times sent new
+
+-- So it came past the packets below n: past each of its own in this way, and past another's without a call.
+abbrev pub ComesPast : List Info → (ℕ → ℕ) → ℕ → ℕ → List SeatState → List SeatState → Type 0
+ComesPast infos opens sender zero old new = new ≡ old
+ComesPast infos opens sender (suc n) old new = (now : List SeatState) × (ComesPast infos opens sender n old now
+    × ((owner_in infos n ≡ sender → SendsAndOpens infos sender n (opens n) now new) × (owner_in infos n ≢ sender → new ≡ now)))
+
+-- past all packets, and then through the events that are left
+abbrev pub SendsAll : List Info → (ℕ → ℕ) → ℕ → List SeatState → List SeatState → Type 0
+SendsAll infos opens sender old new = (now : List SeatState) × (ComesPast infos opens sender (length infos) old now × DidEvents sender now new)
+
 -- ON THE WAY THROUGH THE PACKETS
 
--- A sender is before packet n: it sent its k packets below that, woke its stations as often as `opens` says of each of them, and did the
--- events before `next`, each of which stands before a lower packet.
+-- A sender is before packet n: it sent its k packets below that, opened the queues after each of them as often as `opens` says, and did
+-- the events before `next`, each of which stands before a lower packet.
 pub record IsSending (plan : Plan) (infos : List Info) (opens : ℕ → ℕ) (tables : List TableState) (sender n k next : ℕ) (start : List SeatState) (brought : List DeviceState) (now : List SeatState) (spares : List DeviceState) : Type 0 where
   pub within : next ≤ length plan.events
   pub few : k ≤ n
   pub sent : k ≡ count_sent infos sender n
-  pub woke : AllWoke (openings_of infos opens sender n) start now
+  pub came : ComesPast infos opens sender n start now
   pub stands : LaneStands plan infos sender next n tables now
   pub earlier : StandEarlier plan next n
   pub keeps : KeepSeats start now
@@ -129,13 +166,9 @@ AreReadyLanes {D} plan infos tables lanes = (i : ℕ) (l : Sender D) → slice_g
 abbrev pub AreDoneLanes : {D : Type 0} → Plan → List Info → List TableState → List (Sender D) → Type 0
 AreDoneLanes {D} plan infos tables lanes = (i : ℕ) (l : Sender D) → slice_get lanes i ≡ Some l → IsDoneLane plan infos tables i l.owner l.seats.items
 
--- each of a sender's stations was woken once for each opening after the sender's own packets
-abbrev pub IsWoken : List Info → (ℕ → ℕ) → ℕ → List SeatState → List SeatState → Type 0
-IsWoken infos opens sender old new = AllWoke (openings_of infos opens sender (length infos)) old new
-
--- so were those of the sender at each place
-abbrev pub AreWoken : {D : Type 0} → List Info → (ℕ → ℕ) → List (Sender D) → List (Sender D) → Type 0
-AreWoken {D} infos opens old new = (i : ℕ) (l l' : Sender D) → slice_get old i ≡ Some l → slice_get new i ≡ Some l' → IsWoken infos opens l.owner l.seats.items l'.seats.items
+-- the sender at each place sent all its packets, and opened the queues after each
+abbrev pub EachSendsAll : {D : Type 0} → List Info → (ℕ → ℕ) → List (Sender D) → List (Sender D) → Type 0
+EachSendsAll {D} infos opens old new = (i : ℕ) (l l' : Sender D) → slice_get old i ≡ Some l → slice_get new i ≡ Some l' → SendsAll infos opens l.owner l.seats.items l'.seats.items
 
 -- packets of the plan's stations and senders, numbered by rank
 pub record IsSendable (plan : Plan) (infos : List Info) : Type 0 where

@@ -4,7 +4,7 @@ pub mod Seats
 pub mod Units
 -- how far the first sender is with the plan's events at a station
 pub mod Way
--- how often a sender woke its stations
+-- how often a sender opens the stopped queues, and its calls for the plan's events
 pub mod Woken
 -- a sender's seats, one at each station
 pub mod Lanes

@@ -5,7 +5,7 @@ use Rattle.lq_model.specs.Device.{DeviceState}
 use Rattle.lq_seat.specs.State.{SeatState}
 use Rattle.lq_senders.specs.Ends.{HaveFatesAlone}
 use Rattle.lq_senders.specs.Joins.{LaneJoined}
-use Rattle.lq_senders.specs.Lanes.{AllOwn, AreDoneLanes, AreReadyLanes, AreRunAlone, AreWoken, IsDoneLane, IsReadyLane, IsSending, IsWoken, LaneDone, LaneStands, after_sending}
+use Rattle.lq_senders.specs.Lanes.{AllOwn, AreDoneLanes, AreReadyLanes, AreRunAlone, EachSendsAll, IsDoneLane, IsReadyLane, IsSending, LaneDone, LaneStands, SendsAll, after_sending}
 use Rattle.lq_senders.specs.Setup.{AreSplitting}
 use Rattle.lq_senders.specs.Units.{DevicesStand, DoTell}
 use Rattle.lq_senders.specs.Way.{numbers_from}
@@ -33,9 +33,9 @@ module _ {D G : Type 0} where
   abbrev pub SeatsDone : Run D G → ℕ → List SeatState → Type 0
   SeatsDone run sender seats = LaneDone run.plan.now run.infos.now sender run.tables.now seats
 
-  -- each was woken once for each opening after the sender's packets
-  abbrev pub SeatsWoken : Run D G → ℕ → List SeatState → List SeatState → Type 0
-  SeatsWoken run sender old new = IsWoken run.infos.now (opens_in run) sender old new
+  -- the sender sent each of its packets, and then opened the queues as often as the run has it, before its next packet
+  abbrev pub SeatsSendAll : Run D G → ℕ → List SeatState → List SeatState → Type 0
+  SeatsSendAll run sender old new = SendsAll run.infos.now (opens_in run) sender old new
 
   -- those of the senders from `next` on are still to be split off the first sender's
   abbrev pub SeatsSplit : Run D G → ℕ → List SeatState → Type 0
@@ -99,5 +99,5 @@ module _ {D G : Type 0} where
   abbrev pub LanesAreDone : Run D G → List (Sender D) → Type 0
   LanesAreDone run lanes = AreDoneLanes run.plan.now run.infos.now run.tables.now lanes
 
-  abbrev pub LanesWoken : Run D G → List (Sender D) → List (Sender D) → Type 0
-  LanesWoken run old new = AreWoken run.infos.now (opens_in run) old new
+  abbrev pub LanesSendAll : Run D G → List (Sender D) → List (Sender D) → Type 0
+  LanesSendAll run old new = EachSendsAll run.infos.now (opens_in run) old new

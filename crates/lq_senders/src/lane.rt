@@ -2,10 +2,10 @@
 ghost use Rattle.std.specs.Prelude.{◌≡◌, ℕ, ◌+◌, ◌<◌, ◌≤◌, ◌-◌, true, false, List, length, slice_get};
 ghost use Rattle.lq_seat.specs.Calls.{WakesQueues, Drains};
 ghost use Rattle.lq_seat.specs.State.{SeatState};
-ghost use Rattle.lq_senders.specs.Lanes.{AllDid, AllOpened, AreSeats, KeepAll};
+ghost use Rattle.lq_senders.specs.Lanes.{AllDid, AllOpened, AreSeats, KeepAll, OpenedTimes};
 ghost use Rattle.lq_senders.specs.Runs.{ComesTo, DevicesGoOn, HasDevices, RunsAs, SeatsDone, SeatsGoOn, SeatsRunAs, SeatsStand, events_on};
 ghost use Rattle.lq_senders.specs.Way.{IsSplitAt, StandAfter};
-ghost use Rattle.lq_senders.specs.Woken.{AllWoke, CountsDown, OtherCalls, count_sent};
+ghost use Rattle.lq_senders.specs.Woken.{CountsDown, PlanCalls, count_sent};
 ghost use Rattle.lq_model.specs.Alone.{opened_and_served};
 ghost use Rattle.lq_model.specs.Device.{DeviceState};
 ghost use Rattle.lq_model.specs.Plan.{owner_in};
@@ -60,7 +60,7 @@ fn open_times<'r, 'a, R: Wait, D: TxDevice, G: Gate>(
     ensures stands { (sender count : ℕ) → SeatsGoOn run.now sender count count seats.old.items seats.new.items }
     ensures keeps { KeepAll seats.old.items seats.new.items }
     ensures runs { SeatsRunAs run.now (opened_and_served run.now.infos.now times) seats.old.items seats.new.items }
-    ensures woke { (start : List SeatState) (count : ℕ) → AllWoke count start seats.old.items → AllWoke (count + times) start seats.new.items }
+    ensures opened { OpenedTimes times seats.old.items seats.new.items }
 {
     for _time in 0..times {
         open_once(rt, run.tables, seats);
@@ -85,7 +85,7 @@ pub fn events_before<'r, 'a, R: Wait, D: TxDevice, G: Gate>(
         → slice_get run.now.plan.now.events k ≡ Some event → event.before ≤ n }
     ensures left { StandAfter run.now.plan.now result n }
     ensures stands { SeatsGoOn run.now 0 next result sender.old.seats.items sender.new.seats.items }
-    ensures calls { AllDid OtherCalls sender.old.seats.items sender.new.seats.items }
+    ensures calls { AllDid PlanCalls sender.old.seats.items sender.new.seats.items }
     ensures devices { DevicesGoOn D.state run.now next result sender.old sender.new }
     ensures runs { RunsAs D.state run.now next (events_on run.now next (result - next)) sender.old sender.new }
 {

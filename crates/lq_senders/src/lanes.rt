@@ -1,8 +1,7 @@
 //! Senders side by side.
 ghost use Rattle.std.specs.Prelude.{◌≡◌, ℕ, ◌≤◌, ◌-◌, List, length};
-ghost use Rattle.lq_senders.specs.Lanes.{AllDid, KeepSeats};
-ghost use Rattle.lq_senders.specs.Runs.{DevicesGoOn, HasDevices, LaneIsDone, LaneIsReady, LanesAreDone, LanesAreReady, LanesWoken, RunsAs, SeatsDone, SeatsGoOn, SeatsStand, SeatsWoken, SendsAllAlone, events_on};
-ghost use Rattle.lq_senders.specs.Woken.{OtherCalls};
+ghost use Rattle.lq_senders.specs.Lanes.{DidEvents, KeepSeats};
+ghost use Rattle.lq_senders.specs.Runs.{DevicesGoOn, HasDevices, LaneIsDone, LaneIsReady, LanesAreDone, LanesAreReady, LanesSendAll, RunsAs, SeatsDone, SeatsGoOn, SeatsStand, SeatsSendAll, SendsAllAlone, events_on};
 ghost use Rattle.lq_model.specs.Device.{DeviceState};
 
 use crate::countdown::left_at_start;
@@ -27,7 +26,7 @@ fn events_left<'r, 'a, R: Wait, D: TxDevice, G: Gate>(
     ensures owner { sender.new.owner ≡ sender.old.owner }
     ensures stands { SeatsGoOn run.now sender.old.owner next (length run.now.plan.now.events)
         sender.old.seats.items sender.new.seats.items }
-    ensures calls { AllDid OtherCalls sender.old.seats.items sender.new.seats.items }
+    ensures calls { DidEvents sender.old.owner sender.old.seats.items sender.new.seats.items }
     ensures devices { sender.old.owner ≡ 0 → DevicesGoOn D.state run.now next (length run.now.plan.now.events) sender.old sender.new }
     ensures runs { sender.old.owner ≡ 0
         → RunsAs D.state run.now next (events_on run.now next (length run.now.plan.now.events - next)) sender.old sender.new }
@@ -52,7 +51,7 @@ pub fn send_loop<'r, 'a, R: Wait, D: TxDevice, G: Gate>(
     ensures keeps { KeepSeats sender.old.seats.items sender.new.seats.items }
     ensures devices { sender.old.owner ≡ 0 → DevicesGoOn D.state run.now 0 (length run.now.plan.now.events) sender.old sender.new }
     ensures runs { sender.old.owner ≡ 0 → SendsAllAlone D.state run.now sender.old sender.new }
-    ensures woke { SeatsWoken run.now sender.old.owner sender.old.seats.items sender.new.seats.items }
+    ensures course { SeatsSendAll run.now sender.old.owner sender.old.seats.items sender.new.seats.items }
 {
     run.plan.stays_within_limits();
     let mut at = Progress {
@@ -75,7 +74,7 @@ fn send_other<'r, 'a, R: Wait, D: TxDevice, G: Gate>(
 )
     requires ready { (place : ℕ) × LaneIsReady run.now place sender.old }
     ensures done { (place : ℕ) → LaneIsReady run.now place sender.old → LaneIsDone run.now place sender.new }
-    ensures woke { SeatsWoken run.now sender.old.owner sender.old.seats.items sender.new.seats.items }
+    ensures course { SeatsSendAll run.now sender.old.owner sender.old.seats.items sender.new.seats.items }
 {
     send_loop(rt, run, sender);
 }
@@ -88,7 +87,7 @@ fn others_send<'r, 'a, R: Threads + Wait + Sync, D: TxDevice, G: Gate>(
 )
     requires ready { LanesAreReady run.now senders.old }
     ensures done { LanesAreDone run.now senders.new }
-    ensures woke { LanesWoken run.now senders.old senders.new }
+    ensures course { LanesSendAll run.now senders.old senders.new }
 {
     let threads = senders.len();
     if threads > 0 {
@@ -99,7 +98,7 @@ fn others_send<'r, 'a, R: Threads + Wait + Sync, D: TxDevice, G: Gate>(
             &|i, sender: &mut Sender<D>|
                 requires { LaneIsReady run.now i sender.old }
                 ensures { LaneIsDone run.entry.now i sender.new
-                    × SeatsWoken run.entry.now sender.old.owner sender.old.seats.items sender.new.seats.items }
+                    × SeatsSendAll run.entry.now sender.old.owner sender.old.seats.items sender.new.seats.items }
             { send_other(rt, run, sender) },
         );
     }
@@ -116,7 +115,7 @@ fn first_sent<'r, 'a, R: Wait, D: TxDevice, G: Gate>(
     ensures owner { result.owner ≡ 0 }
     ensures stands { SeatsDone run.now 0 result.seats.items }
     ensures keeps { KeepSeats sender.seats.items result.seats.items }
-    ensures woke { SeatsWoken run.now 0 sender.seats.items result.seats.items }
+    ensures course { SeatsSendAll run.now 0 sender.seats.items result.seats.items }
     ensures devices { DevicesGoOn D.state run.now 0 (length run.now.plan.now.events) sender result }
     ensures runs { SendsAllAlone D.state run.now sender result }
 {
@@ -131,7 +130,7 @@ fn others_sent<'r, 'a, R: Threads + Wait + Sync, D: TxDevice, G: Gate>(
 ) -> Vec<Sender<D>>
     requires ready { LanesAreReady run.now senders.items }
     ensures done { LanesAreDone run.now result.items }
-    ensures woke { LanesWoken run.now senders.items result.items }
+    ensures course { LanesSendAll run.now senders.items result.items }
     ensures long { length result.items ≡ length senders.items }
 {
     others_send(rt, run, senders.as_mut_slice());
@@ -151,11 +150,11 @@ pub fn all_send<'r, 'a, R: Threads + Wait + Sync, D: TxDevice, G: Gate>(
     requires others { LanesAreReady run.now others.items }
     ensures first { SeatsDone run.now 0 result.0.seats.items }
     ensures keeps { KeepSeats first.seats.items result.0.seats.items }
-    ensures first_woke { SeatsWoken run.now 0 first.seats.items result.0.seats.items }
+    ensures first_course { SeatsSendAll run.now 0 first.seats.items result.0.seats.items }
     ensures devices { DevicesGoOn D.state run.now 0 (length run.now.plan.now.events) first result.0 }
     ensures runs { SendsAllAlone D.state run.now first result.0 }
     ensures others { LanesAreDone run.now result.1.items }
-    ensures others_woke { LanesWoken run.now others.items result.1.items }
+    ensures others_course { LanesSendAll run.now others.items result.1.items }
     ensures long { length result.1.items ≡ length others.items }
 {
     thread::join(
@@ -164,14 +163,14 @@ pub fn all_send<'r, 'a, R: Threads + Wait + Sync, D: TxDevice, G: Gate>(
             requires { (first.owner ≡ 0) × SeatsStand run.now 0 0 0 first.seats.items
                 × ((units : List DeviceState) × HasDevices D.state run.now units 0 first) }
             ensures { SeatsDone run.entry.now 0 result.seats.items × KeepSeats first.seats.items result.seats.items
-                × SeatsWoken run.entry.now 0 first.seats.items result.seats.items
+                × SeatsSendAll run.entry.now 0 first.seats.items result.seats.items
                 × DevicesGoOn D.state run.entry.now 0 (length run.entry.now.plan.now.events) first result
                 × SendsAllAlone D.state run.entry.now first result }
         { first_sent(rt, run, first) },
         move || -> Vec<Sender<D>>
             requires { LanesAreReady run.now others.items }
             ensures { LanesAreDone run.entry.now result.items × (length result.items ≡ length others.items)
-                × LanesWoken run.entry.now others.items result.items }
+                × LanesSendAll run.entry.now others.items result.items }
         { others_sent(rt, run, others) },
     )
 }

@@ -4,7 +4,7 @@ ghost use Rattle.lq_seat.specs.Calls.{MayChange};
 ghost use Rattle.lq_seat.specs.State.{IsHere};
 ghost use Rattle.lq_senders.specs.Lanes.{AllDid, DoesEventAt, KeepAll};
 ghost use Rattle.lq_senders.specs.Runs.{DevicesGoOn, HasDevices, RunsAs, SeatsGoOn, SeatsRunAs, SeatsStand};
-ghost use Rattle.lq_senders.specs.Woken.{OtherCalls};
+ghost use Rattle.lq_senders.specs.Woken.{PlanCalls};
 ghost use Rattle.lq_model.specs.Alone.{with_event};
 ghost use Rattle.lq_model.specs.Device.{DeviceState};
 ghost use Rattle.lq_model.specs.Plan.{is_at, is_swap, is_swap_kind, unit_of_swap};
@@ -70,7 +70,7 @@ fn do_next_event<'r, 'a, R: Wait, D: TxDevice, G: Gate>(
     requires stands { (n : ℕ) × SeatsStand run.now 0 e n seats.old.items }
     ensures stands { SeatsGoOn run.now 0 e (e + 1) seats.old.items seats.new.items }
     ensures keeps { KeepAll seats.old.items seats.new.items }
-    ensures calls { AllDid OtherCalls seats.old.items seats.new.items }
+    ensures calls { AllDid PlanCalls seats.old.items seats.new.items }
     ensures runs { SeatsRunAs run.now (with_event run.now.plan.now run.now.infos.now e) seats.old.items seats.new.items }
 {
     run.plan.stays_within_limits();
@@ -94,7 +94,7 @@ fn swap_next<'r, 'a, R: Wait, D: TxDevice, G: Gate>(
     requires devices { (units : List DeviceState) × HasDevices D.state run.now units e sender.old }
     ensures owner { sender.new.owner ≡ sender.old.owner }
     ensures stands { SeatsGoOn run.now 0 e (e + 1) sender.old.seats.items sender.new.seats.items }
-    ensures calls { AllDid OtherCalls sender.old.seats.items sender.new.seats.items }
+    ensures calls { AllDid PlanCalls sender.old.seats.items sender.new.seats.items }
     ensures devices { DevicesGoOn D.state run.now e (e + 1) sender.old sender.new }
     ensures runs { RunsAs D.state run.now e (with_event run.now.plan.now run.now.infos.now e) sender.old sender.new }
 {
@@ -120,7 +120,7 @@ pub fn do_any_event<'r, 'a, R: Wait, D: TxDevice, G: Gate>(
     requires devices { (units : List DeviceState) × HasDevices D.state run.now units e sender.old }
     ensures owner { sender.new.owner ≡ sender.old.owner }
     ensures stands { SeatsGoOn run.now 0 e (e + 1) sender.old.seats.items sender.new.seats.items }
-    ensures calls { AllDid OtherCalls sender.old.seats.items sender.new.seats.items }
+    ensures calls { AllDid PlanCalls sender.old.seats.items sender.new.seats.items }
     ensures devices { DevicesGoOn D.state run.now e (e + 1) sender.old sender.new }
     ensures runs { RunsAs D.state run.now e (with_event run.now.plan.now run.now.infos.now e) sender.old sender.new }
 {

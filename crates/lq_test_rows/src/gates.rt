@@ -126,3 +126,32 @@ fn senders_wake_the_queues(rt: HostRuntime) -> Result<(), Fail> {
     let plan = "senders = 2\nirq_every = 1\n[[station]]\nlen = 4\nburst = 1\n";
     all_are_sent(&rt, rt.alloc(), plan, 40, &[((1, 0), (0, 20))])
 }
+
+/// The fates of eight packets of two senders, of which the second begins when the first has ended. The ring has one slot, the queue stops
+/// after each packet, and each sender opens it after each second packet of its own. Opened before that packet, packet 1 would have left
+/// the ring, and packet 3 wouldn't find it full.
+const OPENED_AFTER: &str = "0 sent 0 0
+1 sent 0 3
+2 sent 0 1
+3 full 1
+4 sent 0 2
+5 sent 0 4
+6 full 4
+7 full 5
+";
+
+#[test]
+fn senders_open_the_queues_after_their_packets(rt: HostRuntime) -> Result<(), Fail> {
+    let alloc = rt.alloc();
+    let plan = "senders = 2\nirq_every = 2\n[[station]]\nlen = 1\nburst = 1\n";
+    let capture = capture_of(alloc, &[(0, 1, 0); 8])?;
+    let gate = Holds::new(alloc, &[((1, 0), (0, 4))])?;
+    let on = Resources {
+        rt: &rt,
+        alloc,
+        gate: &gate,
+    };
+    let done = run(&on, plan, &capture)?;
+    assert!(rt; !gate.gave_up());
+    done.has_file("o.fates", OPENED_AFTER.as_bytes())
+}

@@ -121,7 +121,7 @@ returns-clause-sending g c start brought was =
     elim c.if-times-gt0.branch [
       | then-times-gt0 w ↦
           (let e = w.open_times.ensures in let new = w.open_times.new.seats.items in
-          let opened : AreOpenedTimes run.plan.now run.infos.now run.tables.now c.opened_after-times.result sent new = record { stands = e.stands; keeps = e.keeps; runs = e.runs; woke = e.woke } in
+          let opened : AreOpenedTimes run.plan.now run.infos.now run.tables.now c.opened_after-times.result sent new = record { stands = e.stands; keeps = e.keeps; runs = e.runs; opened = e.opened } in
           rw w.sender-is (sending-on run.plan.now run.infos.now (opens_in run) run.tables.now old.owner c.args.n c.args.at.sent c.args.at.next c.if-has_events_before.next start brought old.seats.items (states old.spares.items)
           ready.seats.items (states ready.spares.items) sent new info there c.if-info-sender.false (events g at) (packet g at c.send.new.self c.send.ensures)
           (subst (λ (k : ℕ). AreOpenedTimes run.plan.now run.infos.now run.tables.now k sent new) times opened) was))

@@ -1,7 +1,6 @@
 use Rattle.std.proofs.Common.{◌≡◌, ℕ, ◌+◌, subst, arith}
 use Rattle.lq_model.specs.Alone.{opened_and_served}
-use Rattle.lq_senders.specs.Lanes.{AreRunAlone}
-use Rattle.lq_senders.specs.Woken.{AllWoke}
+use Rattle.lq_senders.specs.Lanes.{AreRunAlone, OpenedTimes}
 use Rattle.lq_senders.proofs.OpenedTimes.{not-opened, opened-once-more}
 use Rattle.lq_senders.proofs.Turns.{lane-seats}
 use Rattle.lq_senders.proofs.lane.open_times.Goals as goal
@@ -33,8 +32,8 @@ returns-clause-runs g c stations runs =
     subst (λ (k : ℕ). AreRunAlone run.plan.now run.infos.now c.loop-time.seats.items (opened_and_served run.infos.now k stations)) same
     (c.loop-time.invariant.runs stations runs)
 
-pub returns-clause-woke : goal.returns-clause-woke
-returns-clause-woke g c start count woke =
+pub returns-clause-opened : goal.returns-clause-opened
+returns-clause-opened g c =
     let test = c.loop-time-test.false in let stop = c.loop-time.auto._time-end in
     let same : c.loop-time._time ≡ c.args.times = omega arith in
-    subst (λ (k : ℕ). AllWoke (count + k) start c.loop-time.seats.items) same (c.loop-time.invariant.woke start count woke)
+    subst (λ (k : ℕ). OpenedTimes k c.args.seats.now.items c.loop-time.seats.items) same c.loop-time.invariant.opened

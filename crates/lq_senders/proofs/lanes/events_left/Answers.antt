@@ -1,4 +1,4 @@
-use Rattle.std.proofs.Common.{◌≡◌, ℕ, ◌-◌, length, map, sym, subst, arith}
+use Rattle.std.proofs.Common.{◌≡◌, ℕ, ◌-◌, length, map, refl, sym, subst, arith}
 use Rattle.lq_model.specs.Alone.{with_events}
 use Rattle.lq_senders.specs.Lanes.{LaneStands, AreRunAlone}
 use Rattle.lq_senders.specs.Units.{DevicesStand}
@@ -40,8 +40,11 @@ returns-else-sender-eq0-clause-stands g c m lane =
     let run = c.args.run.now in
     lane-any run.plan.now run.infos.now c.args.sender.now.owner c.args.next (length run.plan.now.events) m run.tables.now c.args.sender.now.seats.items c.if-sender-eq0.false lane
 
+pub returns-then-sender-eq0-clause-calls : goal.returns-then-sender-eq0-clause-calls
+returns-then-sender-eq0-clause-calls g c = (c.events_before-last.ensures.calls, (λ other. absurd (other c.if-sender-eq0.true)))
+
 pub returns-else-sender-eq0-clause-calls : goal.returns-else-sender-eq0-clause-calls
-returns-else-sender-eq0-clause-calls g c = none-called c.args.sender.now.seats.items
+returns-else-sender-eq0-clause-calls g c = (none-called c.args.sender.now.seats.items, (λ _. refl))
 
 pub returns-else-sender-eq0-clause-devices : goal.returns-else-sender-eq0-clause-devices
 returns-else-sender-eq0-clause-devices g c zero_th units stand = absurd (c.if-sender-eq0.false zero_th)

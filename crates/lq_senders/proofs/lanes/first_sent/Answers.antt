@@ -1,5 +1,5 @@
 use Rattle.std.proofs.Common.{ℕ, subst}
-use Rattle.lq_senders.specs.Lanes.{IsWoken}
+use Rattle.lq_senders.specs.Lanes.{SendsAll}
 use Rattle.lq_senders.specs.Runs.{opens_in}
 use Rattle.lq_senders.proofs.lanes.first_sent.Goals as goal
 
@@ -9,5 +9,5 @@ returns-clause-runs g c units stand tell own from begins = c.send_loop.ensures.r
 pub returns-clause-devices : goal.returns-clause-devices
 returns-clause-devices g c units stand = c.send_loop.ensures.devices c.requires.owner units stand
 
-pub returns-clause-woke : goal.returns-clause-woke
-returns-clause-woke g c = subst (λ (s : ℕ). IsWoken c.args.run.now.infos.now (opens_in c.args.run.now) s c.args.sender.seats.items c.send_loop.new.sender.seats.items) c.requires.owner c.send_loop.ensures.woke
+pub returns-clause-course : goal.returns-clause-course
+returns-clause-course g c = subst (λ (s : ℕ). SendsAll c.args.run.now.infos.now (opens_in c.args.run.now) s c.args.sender.seats.items c.send_loop.new.sender.seats.items) c.requires.owner c.send_loop.ensures.course

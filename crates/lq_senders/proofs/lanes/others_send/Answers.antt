@@ -1,6 +1,6 @@
 use Rattle.std.proofs.Common.{◌≡◌, ◌<◌, ◌∙◌, Some, ap, length, rules, subst, sym}
 use Rattle.std.proofs.lemmas.Option.{get_or_from_slice_get, slice_get-get_or, slice_get_within}
-use Rattle.lq_senders.specs.Lanes.{IsDoneLane, IsWoken}
+use Rattle.lq_senders.specs.Lanes.{IsDoneLane, SendsAll}
 use Rattle.lq_senders.specs.Runs.{opens_in}
 use Rattle.lq_senders.specs.declared.sender.Sender.{Sender}
 use Rattle.lq_senders.proofs.lanes.others_send.Goals as goal
@@ -17,10 +17,10 @@ returns-then-threads-gt0-clause-done g c i l there =
     let changed = (c.for_each_mut.ensures i l (subst (λ k. i < k) same (slice_get_within new i l there))).1 in
     subst (λ (x : Sender g.row.D.Denot). IsDoneLane run.plan.now run.infos.now run.tables.now i x.owner x.seats.items) (changed.left ∙ get_or_from_slice_get new i l l there) changed.call.0
 
-pub returns-then-threads-gt0-clause-woke : goal.returns-then-threads-gt0-clause-woke
-returns-then-threads-gt0-clause-woke g c i old l was there =
+pub returns-then-threads-gt0-clause-course : goal.returns-then-threads-gt0-clause-course
+returns-then-threads-gt0-clause-course g c i old l was there =
     let run = c.args.run.now in
     let changed = (c.for_each_mut.ensures i l (slice_get_within c.args.senders.now i old was)).1 in
-    subst (λ (x : Sender g.row.D.Denot). IsWoken run.infos.now (opens_in run) old.owner old.seats.items x.seats.items) (changed.left ∙ get_or_from_slice_get c.for_each_mut.new.s i l l there)
-    (subst (λ (x : Sender g.row.D.Denot). IsWoken run.infos.now (opens_in run) x.owner x.seats.items changed.after_call.now.seats.items)
+    subst (λ (x : Sender g.row.D.Denot). SendsAll run.infos.now (opens_in run) old.owner old.seats.items x.seats.items) (changed.left ∙ get_or_from_slice_get c.for_each_mut.new.s i l l there)
+    (subst (λ (x : Sender g.row.D.Denot). SendsAll run.infos.now (opens_in run) x.owner x.seats.items changed.after_call.now.seats.items)
     (changed.argument_is ∙ get_or_from_slice_get c.args.senders.now i old l was) changed.call.1)

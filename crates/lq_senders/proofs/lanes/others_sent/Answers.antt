@@ -9,11 +9,11 @@ returns-clause-done g c i l there =
     let same = take_at new (drop (length new) items) c.args.senders.len (c.others_send.auto.senders ∙ c.as_mut_slice.ensures.len) in
     c.others_send.ensures.done i l (subst (λ (laid : List _). slice_get laid i ≡ Some l) same there)
 
-pub returns-clause-woke : goal.returns-clause-woke
-returns-clause-woke g c i old l was there =
+pub returns-clause-course : goal.returns-clause-course
+returns-clause-course g c i old l was there =
     let new = c.others_send.new.senders in let items = c.args.senders.items in
     let same = take_at new (drop (length new) items) c.args.senders.len (c.others_send.auto.senders ∙ c.as_mut_slice.ensures.len) in
-    c.others_send.ensures.woke i old l (subst (λ (from : List _). slice_get from i ≡ Some old) (sym c.as_mut_slice.ensures.value) was)
+    c.others_send.ensures.course i old l (subst (λ (from : List _). slice_get from i ≡ Some old) (sym c.as_mut_slice.ensures.value) was)
     (subst (λ (laid : List _). slice_get laid i ≡ Some l) same there)
 
 pub returns-clause-long : goal.returns-clause-long

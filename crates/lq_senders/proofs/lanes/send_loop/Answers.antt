@@ -1,12 +1,11 @@
 use Rattle.std.proofs.Common.{◌≡◌, ℕ, ◌+◌, true, ap, length, map, refl, sym, ◌∙◌, subst, arith}
 use Rattle.lq_model.specs.Alone.{with_events, after_packets}
-use Rattle.lq_senders.specs.Lanes.{IsSending, LaneDone, LaneStands, AreRunAlone}
+use Rattle.lq_senders.specs.Lanes.{IsSending, LaneDone, LaneStands, AreRunAlone, ComesPast, SendsAll}
 use Rattle.lq_senders.proofs.Calls.{called-keep}
 use Rattle.lq_senders.proofs.Turns.{seats-on}
-use Rattle.lq_senders.specs.Woken.{AllWoke, count_sent, openings_of}
+use Rattle.lq_senders.specs.Woken.{count_sent}
 use Rattle.lq_senders.specs.Runs.{opens_in}
 use Rattle.lq_senders.proofs.Sending.{events-after-are, sending-start}
-use Rattle.lq_senders.proofs.Woken.{woke-called}
 use Rattle.lq_senders.proofs.lanes.send_loop.Goals as goal
 
 pub loop-n-init : goal.loop-n-init
@@ -48,7 +47,7 @@ returns-clause-stands g c = done g c.before
 
 pub returns-clause-keeps : goal.returns-clause-keeps
 returns-clause-keeps g c = seats-on c.args.sender.now.seats.items c.loop-n.sender.seats.items c.events_left.new.sender.seats.items c.loop-n.invariant.sending.keeps
-    (called-keep c.loop-n.sender.seats.items c.events_left.new.sender.seats.items c.events_left.ensures.calls)
+    (called-keep c.loop-n.sender.seats.items c.events_left.new.sender.seats.items c.events_left.ensures.calls.0)
 
 pub returns-clause-devices : goal.returns-clause-devices
 returns-clause-devices g c zero_th units stand =
@@ -73,11 +72,15 @@ pass_last-requires-clause-number g c κs within =
 pub pass_last-requires-clause-done : goal.pass_last-requires-clause-done
 pass_last-requires-clause-done g c κs within = done g c
 
-pub returns-clause-woke : goal.returns-clause-woke
-returns-clause-woke g c =
+pub returns-clause-course : goal.returns-clause-course
+returns-clause-course g c =
     let own = c.loop-n.invariant in let test = c.loop-n-test.false in let stop = c.loop-n.auto.n-end in let few = c.args.run.now.sendable.few in
     let same : c.loop-n.n ≡ length c.args.run.now.infos.now = omega arith in
-    let openings = openings_of c.args.run.now.infos.now (opens_in c.args.run.now) in
-    subst (λ (k : ℕ). AllWoke k c.args.sender.now.seats.items c.events_left.new.sender.seats.items)
-    (ap (λ (n : ℕ). openings c.loop-n.sender.owner n) same ∙ ap (λ (s : ℕ). openings s (length c.args.run.now.infos.now)) own.owner)
-    (woke-called (openings c.loop-n.sender.owner c.loop-n.n) c.args.sender.now.seats.items c.loop-n.sender.seats.items c.events_left.new.sender.seats.items own.sending.woke c.events_left.ensures.calls)
+    let infos = c.args.run.now.infos.now in let opens = opens_in c.args.run.now in let start = c.args.sender.now.seats.items in
+    subst (λ (s : ℕ). SendsAll infos opens s start c.events_left.new.sender.seats.items) own.owner (
+      c.loop-n.sender.seats.items,
+      (
+        subst (λ (n : ℕ). ComesPast infos opens c.loop-n.sender.owner n start c.loop-n.sender.seats.items) same own.sending.came,
+        c.events_left.ensures.calls,
+      ),
+    )
