@@ -1,8 +1,8 @@
 -- Laws of reading and writing in pieces.
 use Rattle.std.proofs.Common.{◌≡◌, ◌≤◌, ◌+◌, ◌-◌, ◌++◌, ℕ, length-drop, List, [], length, take, drop, Option, Some, None, ap, sym, refl, ◌∙◌, arith, append_assoc, Result, Ok, Err, OnOk, OnErr, IfSome, IsSome, unwrap_or}
 use Rattle.std.specs.Option.{option_map}
-use Rattle.lq_host.specs.Host.{Contents, bytes_of, HostState, Handles, Writes, with_handle, opened_handle, filed, wrote, closed}
-use Rattle.lq_host.proofs.HostLemmas.{with_handle-back}
+use Rattle.lq_host.specs.Host.{Contents, bytes_of, HostState, Handles, Writes, with_handle, opened_handle, advanced, filed, wrote, closed}
+use Rattle.lq_host.proofs.HostLemmas.{advanced-advanced, with_handle-back}
 use Rattle.lq_files.specs.Input.{IsInput, IsInputOf}
 use Rattle.lq_files.specs.Parts.{IsFront}
 use Rattle.lq_files.specs.declared.read.Input.{Input}
@@ -17,6 +17,10 @@ consumes_both None mid new a b first second = _
 consumes_both (Some x) None new a b first second = absurd first
 consumes_both (Some x) (Some y) None a b first second = second
 consumes_both (Some x) (Some y) (Some z) a b first second = first ∙ ap (λ rest. a ++ rest) second ∙ sym (append_assoc a b z)
+
+-- a piece more was read
+pub read_more : (old mid new : HostState) (h : ℕ) (taken piece : List ℕ) → mid ≡ advanced old h taken → new ≡ advanced mid h piece → new ≡ advanced old h (taken ++ piece)
+read_more old mid new h taken piece before is = is ∙ ap (λ (s : HostState). advanced s h piece) before ∙ advanced-advanced old h taken piece
 
 -- a front, and the front of what follows it
 pub take_join : (at k : ℕ) (xs : List ℕ) → take at xs ++ take k (drop at xs) ≡ take (at + k) xs

@@ -1,10 +1,11 @@
-//! The files of a command, read to their end: the plan, the capture and the schedule.
-ghost use Rattle.std.specs.Prelude.{◌≡◌, ◌≢◌, ◌<◌, ℕ, List, length, vec_len, IfErr, IfOk, IfSome, Some};
+//! The files of a command, read to their end: the plan, the capture and the schedule. Each is asked for once, and what is answered is of the bytes
+//! that its reads returned.
+ghost use Rattle.std.specs.Prelude.{◌≡◌, ◌≢◌, ◌<◌, ℕ, List, length, vec_len, IfErr, IfOk, IfSome, OnErr, Some};
 ghost use Rattle.std.specs.Option.{option_map};
 ghost use Rattle.std.specs.Result.{result_map_both};
-ghost use Rattle.lq_host.specs.Host.{IsReader, closed, left};
+ghost use Rattle.lq_host.specs.Host.{IsReader, advanced, left};
 ghost use Rattle.lq_files.specs.Accepted.{IsRunnable, limited_capture_of, limited_trace_of, plan_for};
-ghost use Rattle.lq_files.specs.Input.{IsInput, IsInputOf, IsInputWithin};
+ghost use Rattle.lq_files.specs.Input.{IsInput, IsInputOf, IsInputWithin, MayHaveRead, file_read};
 ghost use Rattle.lq_files.specs.Stop.{StopsFor};
 
 use crate::answer::{Stop, and_finished};
@@ -62,10 +63,9 @@ fn read_rest<H: Host>(
     requires room { 0 < length buffer.old }
     ensures input { IfOk result (λ input.
         IfSome (left (H.state host.old) h) (λ bytes. IsInput limit bytes input)) }
-    ensures some { IfOk result (λ input. (bytes : List ℕ) × IsInput limit bytes input) }
+    ensures read { (bytes : List ℕ) × (H.state host.new ≡ advanced (H.state host.old) h bytes) × IfOk result (IsInput limit bytes) }
     ensures within { IfOk result (IsInputWithin limit) }
     ensures reader { IsReader ((H.state host.new).handles h) }
-    ensures same { closed (H.state host.new) h ≡ closed (H.state host.old) h }
     ensures cause { StopsFor (H.fault_count host.old) (H.fault_count host.new) result }
 {
     let mut taken = Vec::new(alloc);
@@ -79,14 +79,16 @@ fn read_rest<H: Host>(
     Ok(Input::TooLong)
 }
 
-/// Opens a file, reads it to its end or past the limit, and finishes it. Whatever it answers, the host is as before.
+/// Opens a file, reads it to its end or past the limit, and finishes it. Whatever it answers, the host is as before but for what its reads
+/// returned.
 fn read_file<H: Host>(alloc: Global, host: &mut H, name: &str, limit: usize) -> Result<Input, Stop>
     requires { H.may_open name.now }
     ensures input { IfOk result (λ input. IfSome (H.state host.old).told (λ c.
         IsInputOf limit (c.files name.now) input)) }
-    ensures some { IfOk result (λ input. (bytes : List ℕ) × IsInput limit bytes input) }
+    ensures some { IfOk result (λ input. (bytes : List ℕ) × IsInput limit bytes input
+        × (H.state host.new ≡ file_read (H.state host.old) name.now bytes)) }
     ensures within { IfOk result (IsInputWithin limit) }
-    ensures same { H.state host.new ≡ H.state host.old }
+    ensures stopped { OnErr result (MayHaveRead name.now (H.state host.old) (H.state host.new)) }
     ensures cause { StopsFor (H.fault_count host.old) (H.fault_count host.new) result }
 {
     let mut buffer = make_buffer(alloc)?;
@@ -108,10 +110,11 @@ pub fn read_plan_file<H: Host>(
     requires { H.may_open name.now }
     ensures plan { IfOk result (λ read. IfSome (H.state host.old).told (λ c.
         option_map (plan_for have) (c.files name.now) ≡ Some read)) }
-    ensures some { IfOk result (λ read. (bytes : List ℕ) × (plan_for have bytes ≡ read)) }
+    ensures some { IfOk result (λ read. (bytes : List ℕ) × (plan_for have bytes ≡ read)
+        × (H.state host.new ≡ file_read (H.state host.old) name.now bytes)) }
     ensures runnable { IfOk result (λ read. IfOk read (IsRunnable have)) }
     ensures not_usage { IfOk result (λ read. IfErr read (λ refusal. refusal ≢ Refusal.Usage)) }
-    ensures same { H.state host.new ≡ H.state host.old }
+    ensures stopped { OnErr result (MayHaveRead name.now (H.state host.old) (H.state host.new)) }
     ensures cause { StopsFor (H.fault_count host.old) (H.fault_count host.new) result }
 {
     let bytes = match read_file(alloc, host, name, MAX_PLAN)? {
@@ -135,8 +138,9 @@ pub fn read_capture_file<H: Host>(
     ensures capture { IfOk result (λ read. IfSome (H.state host.old).told (λ c.
         option_map (limited_capture_of timed) (c.files name.now) ≡ Some read)) }
     ensures not_usage { IfOk result (λ read. IfErr read (λ refusal. refusal ≢ Refusal.Usage)) }
-    ensures some { IfOk result (λ read. (bytes : List ℕ) × (limited_capture_of timed bytes ≡ read)) }
-    ensures same { H.state host.new ≡ H.state host.old }
+    ensures some { IfOk result (λ read. (bytes : List ℕ) × (limited_capture_of timed bytes ≡ read)
+        × (H.state host.new ≡ file_read (H.state host.old) name.now bytes)) }
+    ensures stopped { OnErr result (MayHaveRead name.now (H.state host.old) (H.state host.new)) }
     ensures cause { StopsFor (H.fault_count host.old) (H.fault_count host.new) result }
 {
     match read_file(alloc, host, name, MAX_CAPTURE)? {
@@ -158,9 +162,10 @@ pub fn read_schedule_file<H: Host>(
     ensures text { IfOk result (λ read. IfSome (H.state host.old).told (λ c.
         option_map limited_trace_of (c.files name.now) ≡ Some (result_map_both (λ text. text.items) (λ refusal. refusal) read))) }
     ensures some { IfOk result (λ read. (bytes : List ℕ)
-        × (limited_trace_of bytes ≡ result_map_both (λ text. text.items) (λ refusal. refusal) read)) }
+        × (limited_trace_of bytes ≡ result_map_both (λ text. text.items) (λ refusal. refusal) read)
+        × (H.state host.new ≡ file_read (H.state host.old) name.now bytes)) }
     ensures not_usage { IfOk result (λ read. IfErr read (λ refusal. refusal ≢ Refusal.Usage)) }
-    ensures same { H.state host.new ≡ H.state host.old }
+    ensures stopped { OnErr result (MayHaveRead name.now (H.state host.old) (H.state host.new)) }
     ensures cause { StopsFor (H.fault_count host.old) (H.fault_count host.new) result }
 {
     match read_file(alloc, host, name, MAX_SCHEDULE)? {

@@ -114,7 +114,15 @@ does_run_on words have plan capture plan_bytes capture_bytes P is_read is_seen d
     ap (λ (r : Result Plan Refusal). if_accepted (Some r) next) is_read ∙ ap (λ (r : Result CaptureFile Refusal). runs plan (Some r)) is_seen in
     subst P (sym decided) does
 
--- and a refusal of a capture by its bytes and the plan's
+-- and a refusal of a plan by its bytes
+pub refuses_plan_on :
+    (words : RunWords) (have : ℕ) (r : Refusal) (plan_bytes capture_bytes : List ℕ) (P : Verdict → Type 0) → plan_for have plan_bytes ≡ Err r → P (Refuses r)
+    → P (verdict_of_command (Some (OfRun words)) have (λ _. Some plan_bytes) (λ _. Some capture_bytes))
+refuses_plan_on words have r plan_bytes capture_bytes P is_read does =
+    let next : Plan → Verdict = λ p. if_accepted (Some (limited_capture_of (reads_times p) capture_bytes)) (λ c. Runs (run_of words.out p c)) in
+    subst P (sym (ap (λ (read : Result Plan Refusal). if_accepted (Some read) next) is_read)) does
+
+-- and one of a capture by its bytes and the plan's
 pub refuses_capture_on :
     (words : RunWords) (have : ℕ) (plan : Plan) (r : Refusal) (plan_bytes capture_bytes : List ℕ) (P : Verdict → Type 0) → plan_for have plan_bytes ≡ Ok plan
     → limited_capture_of (reads_times plan) capture_bytes ≡ Err r → P (Refuses r) → P (verdict_of_command (Some (OfRun words)) have (λ _. Some plan_bytes) (λ _. Some capture_bytes))

@@ -6,6 +6,8 @@ pub mod Tapped
 pub mod Decision
 -- the names of the files that it opens and creates
 pub mod Names
+-- which files it reads
+pub mod Reads
 -- what it answers and leaves
 pub mod Outcome
 -- the exit status of the program

@@ -7,6 +7,7 @@ use Rattle.lq_table.specs.Ended.{EndedState}
 use Rattle.lq_files.specs.Command.{CommandWords}
 use Rattle.lq_top.specs.Decision.{Verdict, Generates, LacksFile, Refuses, Runs, Taps, Traces, verdict_of_command}
 use Rattle.lq_top.specs.Headline.{AreFatesIn, HasGenerated, HasRun}
+use Rattle.lq_top.specs.Reads.{HasReadFiles, HasReadOrStopped, after_reads, files_read}
 use Rattle.lq_files.specs.RunFiles.{texts_of}
 use Rattle.lq_files.specs.Refusal.{refusal_line, status_of}
 use Rattle.lq_top.specs.Tapped.{HasCutTap, HasTapped}
@@ -39,16 +40,18 @@ Stops (Generates text run) old new before after =
 Stops (Traces text) old new before after = IsCut (output_only text) old new
 Stops (Taps words capture) old new before after = HasCutTap words capture old new
 
--- THE OUTCOME, where the host tells its bytes
+-- THE OUTCOME, from the host after its reads, where it tells its bytes
 abbrev pub Outcome : Verdict → HostState → HostState → List DeviceState → List DeviceState → List EndedState → Status → Type 0
 Outcome verdict old new before after ended status.Fault = Stops verdict old new before after
 Outcome verdict old new before after ended status.NoMemory = Stops verdict old new before after
 Outcome verdict old new before after ended answer = Completes verdict old new before after ended answer
 
--- The outcome for every host, also one that doesn't tell what its files hold: that of some bytes of the files that it reads.
+-- The outcome for every host, also one that doesn't tell what its files hold: that of the bytes that its reads returned. Each file is read
+-- once, and no other.
 abbrev pub OutcomeOfSome : Option CommandWords → ℕ → HostState → HostState → List DeviceState → List DeviceState → List EndedState → Status → Type 0
 OutcomeOfSome command have old new before after ended answer =
-    (first second : List ℕ) × Outcome (verdict_of_command command have (λ _. Some first) (λ _. Some second)) old new before after ended answer
+    (first second : List ℕ) × HasReadFiles (files_read command have first second) old new answer
+    × Outcome (verdict_of_command command have (λ _. Some first) (λ _. Some second)) (after_reads old new) new before after ended answer
 
 -- the same of a command inside
 abbrev pub CompletesOrStops : Verdict → HostState → HostState → List DeviceState → List DeviceState → List EndedState → Result Status Stop → Type 0
@@ -57,7 +60,8 @@ CompletesOrStops verdict old new before after ended (Err stop) = Stops verdict o
 
 abbrev pub CompletesOrStopsOfSome : Option CommandWords → ℕ → HostState → HostState → List DeviceState → List DeviceState → List EndedState → Result Status Stop → Type 0
 CompletesOrStopsOfSome command have old new before after ended result =
-    (first second : List ℕ) × CompletesOrStops (verdict_of_command command have (λ _. Some first) (λ _. Some second)) old new before after ended result
+    (first second : List ℕ) × HasReadOrStopped (files_read command have first second) old new result
+    × CompletesOrStops (verdict_of_command command have (λ _. Some first) (λ _. Some second)) (after_reads old new) new before after ended result
 
 -- THE CAUSES
 

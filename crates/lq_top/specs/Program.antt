@@ -1,5 +1,5 @@
 -- What the program's exit status tells.
-use Rattle.std.specs.Prelude.{◌≡◌, ◌≢◌, ◌⊎◌, ℕ, List, [], map, drop, replicate, IfSome, Result, Ok, Err, Vec, String, string_bytes}
+use Rattle.std.specs.Prelude.{◌≡◌, ◌≢◌, ◌⊎◌, ℕ, List, map, drop, replicate, IfSome, Result, Ok, Err, Vec, String, string_bytes}
 use Rattle.std.specs.IoError.{error_kind}
 use Rattle.std.specs.Global.{Global}
 use Rattle.std.specs.declared.io.Error.{Error}
@@ -9,10 +9,10 @@ use Rattle.std.specs.declared.vec.IntoIter.{IntoIter}
 use Rattle.lq_model.specs.Device.{DeviceState}
 use Rattle.lq_device.specs.Bench.{unconfigured}
 use Rattle.lq_host.specs.Host.{HostState, Rose}
-use Rattle.lq_host.specs.FileHost.{untold}
 use Rattle.lq_table.specs.Ended.{EndedState}
 use Rattle.lq_files.specs.Command.{command_of_words}
 use Rattle.lq_top.specs.Decision.{verdict_of}
+use Rattle.lq_top.specs.Reads.{after_reads}
 use Rattle.lq_top.specs.Outcome.{IsAnswerOf, Outcome, OutcomeOfSome, TellsUsageFor}
 use Rattle.lq_files.specs.Status.{code_of}
 use Rattle.lq_files.specs.declared.answer.Status.{Status}
@@ -38,8 +38,8 @@ pub record IsCodeOfCall (words : List (List ℕ)) (old new : HostAt) (number : �
   pub code : number ≡ code_of status
   pub after : List DeviceState
   pub ended : List EndedState
-  -- what words, files and bench decide was answered and left; where the host tells nothing of its files, of some bytes of theirs
-  pub outcome : IfSome old.state.told (λ c. Outcome (verdict_of words c.files 16) old.state new.state new_bench after ended status)
+  -- what words, files and bench decide was answered and left; where the host tells nothing of its files, of the bytes that its reads returned
+  pub outcome : IfSome old.state.told (λ c. Outcome (verdict_of words c.files 16) (after_reads old.state new.state) new.state new_bench after ended status)
   pub some : OutcomeOfSome (command_of_words words) 16 old.state new.state new_bench after ended status
   -- Usage is for words that are no command, and what was decided comes unless a fault or want of memory does
   pub usage : TellsUsageFor (command_of_words words) status
@@ -53,10 +53,6 @@ abbrev pub IsCodeOfWords : List (List ℕ) → HostAt → HostAt → ℕ → Typ
 IsCodeOfWords words old new number = ((number ≡ 6) × (new ≡ old)) ⊎ IsCodeOfCall words old new number
 
 -- THE PROGRAM
-
--- the number for words over real files, of which nothing is told, none is open, and no call has failed
-abbrev pub IsCodeOfFiles : List (List ℕ) → ℕ → Type 0
-IsCodeOfFiles words number = (new : HostAt) × IsCodeOfWords words (host_at (untold []) 0) new number
 
 -- the number for arguments that can't be had: 6 for want of memory, and 9 for every other cause
 pub record IsErrorCode (error : Error) (number : ℕ) : Type 0 where
@@ -81,7 +77,7 @@ abbrev pub TellsTexts : Result Line Error → Result (Vec (String Global) Global
 TellsTexts (Ok line) result = AreTextsOf line result
 TellsTexts (Err error) result = GivesErrorCode error result
 
--- The exit status for the arguments that the program was given.
-abbrev pub IsCodeOfLine : Result Line Error → ℕ → Type 0
-IsCodeOfLine (Ok line) number = IsCodeOfFiles (map string_bytes (drop 1 (into_iter_items line))) number
-IsCodeOfLine (Err error) number = IsErrorCode error number
+-- The exit status for the arguments that the program was given, over a host. Arguments that can't be had leave it as it was.
+abbrev pub IsCodeOfLine : Result Line Error → HostAt → HostAt → ℕ → Type 0
+IsCodeOfLine (Ok line) old new number = IsCodeOfWords (map string_bytes (drop 1 (into_iter_items line))) old new number
+IsCodeOfLine (Err error) old new number = IsErrorCode error number × (new ≡ old)

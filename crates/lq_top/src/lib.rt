@@ -13,5 +13,5 @@ mod trace;
 
 pub use lq_files::Status;
 pub use lq_senders::{Free, Gate, Resources};
-pub use program::{run_program, run_words};
+pub use program::{NO_MEMORY, run_program, run_words};
 pub use top::lqtx;

@@ -1,15 +1,16 @@
-//! What the program does: the top call over real files, standard output and the built-in bench.
-ghost use Rattle.std.specs.Prelude.{◌≡◌, IfOk, map, drop, string_bytes};
+//! What the program does: the top call over a host and the built-in bench.
+ghost use Rattle.std.specs.Prelude.{◌≡◌, ℕ, List, IfOk, map, drop, string_bytes};
 ghost use Rattle.std.specs.Process.{exit_status};
 ghost use Rattle.std.specs.Vec.Iter.{into_iter_items};
 ghost use Rattle.lq_device.specs.Bench.{bench_state};
+ghost use Rattle.lq_host.specs.Host.{IsUnused};
 ghost use Rattle.lq_files.specs.Command.{command_of_words, bytes_of_words};
 ghost use Rattle.lq_top.specs.Names.{MayDo};
-ghost use Rattle.lq_top.specs.Program.{IsCodeOfCall, IsCodeOfFiles, IsCodeOfLine, IsCodeOfWords, TellsTexts, host_at, new_bench};
+ghost use Rattle.lq_top.specs.Program.{IsCodeOfCall, IsCodeOfLine, IsCodeOfWords, TellsTexts, host_at, new_bench};
 
 use crate::top::lqtx;
 use lq_device::{BenchDevice, TxDevice};
-use lq_host::{FileHost, Host};
+use lq_host::Host;
 use lq_model::NoMemory;
 use lq_senders::Free;
 use std::alloc::{AllocError, Global};
@@ -25,7 +26,7 @@ use std::thread::Threads;
 const DEVICES: usize = 16;
 
 /// The exit status where memory for the words, the devices or the host is wanting.
-const NO_MEMORY: u8 = 6;
+pub const NO_MEMORY: u8 = 6;
 
 /// The exit status where the words can't be had for another cause, as one that isn't UTF-8.
 const NO_WORDS: u8 = 9;
@@ -112,41 +113,43 @@ pub fn run_words<R: Threads + Wait + Sync, H: Host>(
     }
 }
 
-/// The exit status of the program with these words, over real files and standard output.
-fn code_with<R: Runtime + AllocGlobal + Threads + Wait + Sync>(rt: &R, words: &[&str]) -> u8
-    ensures { IsCodeOfFiles (bytes_of_words words.now) result }
-{
-    let Ok(own) = rt.clone() else {
-        return NO_MEMORY;
-    };
-    let mut host = FileHost::new(own);
-    run_words(rt, rt.alloc(), words, &mut host)
-}
-
 /// The exit status of the program, as `run_program` says.
 #[tactic(auto, using(crate::proofs::ProgramLemmas::code_without, crate::proofs::ProgramLemmas::code_for_memory, crate::proofs::ProgramLemmas::code_of_words))]
-fn code<R: Runtime + AllocGlobal + Threads + Wait + Sync>(rt: &R, args: io::Result<Args>) -> u8
-    ensures { IsCodeOfLine args result }
+fn code<R: Runtime + AllocGlobal + Threads + Wait + Sync, H: Host>(
+    rt: &R,
+    args: io::Result<Args>,
+    host: &mut H,
+) -> u8
+    requires may_open { (name : List ℕ) → H.may_open name }
+    requires may_create { (name : List ℕ) → H.may_create name }
+    ensures { IsCodeOfLine args (host_at (H.state host.old) (H.fault_count host.old))
+        (host_at (H.state host.new) (H.fault_count host.new)) result }
 {
     let texts = match texts_of(rt.alloc(), args) {
         Ok(texts) => texts,
         Err(code) => return code,
     };
     match words_of(rt.alloc(), &texts) {
-        Ok(words) => code_with(rt, &words),
+        Ok(words) => run_words(rt, rt.alloc(), &words, host),
         Err(_) => NO_MEMORY,
     }
 }
 
-/// All that `main` does with the arguments that the program was given: `lqtx` with the words behind the program's own name, over
-/// real files, standard output and a bench of 16 built-in devices that were never configured. The exit status is the code of the
-/// status that it answers; 6 where there was no memory for the words, the devices or the host; 9 where the arguments can't be had
-/// for another cause, as one that isn't UTF-8.
-pub fn run_program<R: Runtime + AllocGlobal + Threads + Wait + Sync>(
+/// All that `main` does with the arguments that the program was given and with a new host, over real files and standard output:
+/// `lqtx` with the words behind the program's own name, on a bench of 16 built-in devices that were never configured. The exit
+/// status is the code of the status that it answers; 6 where there was no memory for the words or the devices; 9 where the
+/// arguments can't be had for another cause, as one that isn't UTF-8.
+pub fn run_program<R: Runtime + AllocGlobal + Threads + Wait + Sync, H: Host>(
     rt: &R,
     args: io::Result<Args>,
+    host: &mut H,
 ) -> ExitCode
-    ensures { IsCodeOfLine args (exit_status result) }
+    requires may_open { (name : List ℕ) → H.may_open name }
+    requires may_create { (name : List ℕ) → H.may_create name }
+    // What the host tells at the end is what this call did: nothing was asked of it before.
+    requires unused { IsUnused (H.state host.old) }
+    ensures { IsCodeOfLine args (host_at (H.state host.old) (H.fault_count host.old))
+        (host_at (H.state host.new) (H.fault_count host.new)) (exit_status result) }
 {
-    ExitCode::from(code(rt, args))
+    ExitCode::from(code(rt, args, host))
 }

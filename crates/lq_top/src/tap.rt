@@ -5,6 +5,7 @@ ghost use Rattle.lq_tap_fates.specs.Fates.{IsTapWithin};
 ghost use Rattle.lq_files.specs.Command.{OfTap, tap_words};
 ghost use Rattle.lq_top.specs.Decision.{verdict_of_command};
 ghost use Rattle.lq_top.specs.Names.{MayDo};
+ghost use Rattle.lq_top.specs.Reads.{after_reads};
 ghost use Rattle.lq_top.specs.Outcome.{CompletesOrStops, CompletesOrStopsOfSome, IsCommandStatus};
 ghost use Rattle.lq_files.specs.Stop.{StopsFor};
 ghost use Rattle.lq_top.specs.Tapped.{HasCutTap, HasTapped};
@@ -55,7 +56,7 @@ pub fn tap_command<R: Threads + Wait + Sync, H: Host, G: Gate>(
     requires may { MayDo H.may_open H.may_create (Some (OfTap (tap_words words.now))) }
     requires within { IsTapWithin words.now.senders words.now.len words.now.batch }
     ensures does { (have : ℕ) (before after : List DeviceState) → IfSome (H.state host.old).told (λ c.
-        CompletesOrStops (verdict_of_command (Some (OfTap (tap_words words.now))) have c.files c.files) (H.state host.old) (H.state host.new) before after [] result) }
+        CompletesOrStops (verdict_of_command (Some (OfTap (tap_words words.now))) have c.files c.files) (after_reads (H.state host.old) (H.state host.new)) (H.state host.new) before after [] result) }
     ensures some { (have : ℕ) (before after : List DeviceState)
         → CompletesOrStopsOfSome (Some (OfTap (tap_words words.now))) have (H.state host.old) (H.state host.new) before after [] result }
     ensures answer { IfOk result IsCommandStatus }

@@ -11,6 +11,7 @@ ghost use Rattle.lq_top.specs.Headline.{HasRun};
 ghost use Rattle.lq_files.specs.Reports.{run_of_inputs};
 ghost use Rattle.lq_top.specs.Names.{MayDo};
 ghost use Rattle.lq_files.specs.RunFiles.{MayWrite};
+ghost use Rattle.lq_top.specs.Reads.{after_reads};
 ghost use Rattle.lq_top.specs.Outcome.{CompletesOrStops, CompletesOrStopsOfSome, OutcomeOfSome, IsAnswerOf, IsCommandStatus, LeavesNone, Outcome, Stops, TellsUsageFor, refuses};
 ghost use Rattle.lq_files.specs.Stop.{StopsFor};
 
@@ -76,7 +77,7 @@ fn run_command<R: Threads + Wait + Sync, H: Host, G: Gate, D: TxDevice>(
     requires may { MayDo H.may_open H.may_create (Some (OfRun (run_words words.now))) }
     requires none_yet { ended.old.items ≡ [] }
     ensures does { IfSome (H.state host.old).told (λ c.
-        CompletesOrStops (verdict_of_command (Some (OfRun (run_words words.now))) (vec_len bench.old) c.files c.files) (H.state host.old) (H.state host.new)
+        CompletesOrStops (verdict_of_command (Some (OfRun (run_words words.now))) (vec_len bench.old) c.files c.files) (after_reads (H.state host.old) (H.state host.new)) (H.state host.new)
         (map D.state bench.old.items) (map D.state bench.new.items) (map ended_state ended.new.items) result) }
     ensures some { CompletesOrStopsOfSome (Some (OfRun (run_words words.now))) (vec_len bench.old) (H.state host.old) (H.state host.new)
         (map D.state bench.old.items) (map D.state bench.new.items) (map ended_state ended.new.items) result }
@@ -122,7 +123,7 @@ fn do_command<R: Threads + Wait + Sync, H: Host, G: Gate, D: TxDevice>(
     requires within { AreOperandsWithin (Some (command_words command.now)) }
     requires none_yet { ended.old.items ≡ [] }
     ensures does { IfSome (H.state host.old).told (λ c.
-        CompletesOrStops (verdict_of_command (Some (command_words command.now)) (vec_len bench.old) c.files c.files) (H.state host.old) (H.state host.new)
+        CompletesOrStops (verdict_of_command (Some (command_words command.now)) (vec_len bench.old) c.files c.files) (after_reads (H.state host.old) (H.state host.new)) (H.state host.new)
         (map D.state bench.old.items) (map D.state bench.new.items) (map ended_state ended.new.items) result) }
     ensures some { CompletesOrStopsOfSome (Some (command_words command.now)) (vec_len bench.old) (H.state host.old) (H.state host.new)
         (map D.state bench.old.items) (map D.state bench.new.items) (map ended_state ended.new.items) result }
@@ -190,9 +191,9 @@ pub fn lqtx<R: Threads + Wait + Sync, H: Host, G: Gate, D: TxDevice>(
 
     // What the words, the files and the bench decide is answered and left, the headline for a run that is done; after a
     // fault or want of memory, a part of what was to be written. Where the host doesn't tell what its files hold, that is
-    // so of some bytes of theirs.
+    // so of the bytes that its reads returned: each file that the command reads is read once, in order, and no other is.
     ensures outcome { IfSome (H.state host.old).told (λ c.
-        Outcome (verdict_of (bytes_of_words words.now) c.files (vec_len bench.old)) (H.state host.old) (H.state host.new)
+        Outcome (verdict_of (bytes_of_words words.now) c.files (vec_len bench.old)) (after_reads (H.state host.old) (H.state host.new)) (H.state host.new)
         (map D.state bench.old.items) (map D.state bench.new.items) (map ended_state ended.new.items) result) }
 
     ensures some { OutcomeOfSome (command_of_words (bytes_of_words words.now)) (vec_len bench.old) (H.state host.old) (H.state host.new)

@@ -3,6 +3,7 @@ ghost use Rattle.std.specs.Prelude.{◌≡◌, [], ℕ, List, IfOk, IfSome, Some
 ghost use Rattle.lq_model.specs.Device.{DeviceState};
 ghost use Rattle.lq_files.specs.Command.{OfTrace};
 ghost use Rattle.lq_top.specs.Decision.{verdict_of_command};
+ghost use Rattle.lq_top.specs.Reads.{after_reads};
 ghost use Rattle.lq_top.specs.Outcome.{CompletesOrStops, CompletesOrStopsOfSome, IsCommandStatus};
 ghost use Rattle.lq_files.specs.Stop.{StopsFor};
 
@@ -14,7 +15,7 @@ use std::alloc::Global;
 pub fn trace_command<H: Host>(alloc: Global, host: &mut H, file: &str) -> Result<Status, Stop>
     requires { H.may_open file.now }
     ensures does { (have : ℕ) (before after : List DeviceState) → IfSome (H.state host.old).told (λ c.
-        CompletesOrStops (verdict_of_command (Some (OfTrace file.now)) have c.files c.files) (H.state host.old) (H.state host.new) before after [] result) }
+        CompletesOrStops (verdict_of_command (Some (OfTrace file.now)) have c.files c.files) (after_reads (H.state host.old) (H.state host.new)) (H.state host.new) before after [] result) }
     ensures some { (have : ℕ) (before after : List DeviceState)
         → CompletesOrStopsOfSome (Some (OfTrace file.now)) have (H.state host.old) (H.state host.new) before after [] result }
     ensures answer { IfOk result IsCommandStatus }

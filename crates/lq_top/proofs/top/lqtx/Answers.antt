@@ -4,6 +4,8 @@ use Rattle.lq_table.specs.Ended.{ended_state}
 use Rattle.lq_files.specs.Command.{CommandWords, AreOperandsWithin, bytes_of_words, command_words}
 use Rattle.lq_top.specs.Decision.{most_units_changed_by, units_changed_by, verdict_of_command}
 use Rattle.lq_top.specs.Outcome.{IsAnswerOf, Outcome, OutcomeOfSome}
+use Rattle.lq_top.specs.Reads.{HasReadFiles, after_reads, files_read}
+use Rattle.lq_top.proofs.ReadLemmas.{ends_read, stops_read}
 use Rattle.lq_files.specs.declared.answer.Status.{Status}
 use Rattle.lq_files.proofs.CommandLemmas.{within_limits}
 use Rattle.lq_top.proofs.RunLemmas.{all_answered, all_ends, all_stopped, ends_outcome, stops_outcome}
@@ -15,7 +17,7 @@ returns-in-Ok-clause-complete g c =
     let have = vec_len c.args.bench.now in
     let command = command_words c.in-Ok-Some.command in
     subst (λ (is : Option CommandWords). IfSome told (λ k. IsAnswerOf (verdict_of_command is have k.files k.files) c.in-Ok.status)) (ap (option_map command_words) (sym c.in-Ok-Some.field-0-is) ∙ c.in-Ok-Some.ensures)
-    (all_answered told (λ k. verdict_of_command (Some command) have k.files k.files) (g.H.Host.state c.args.host.now) (g.H.Host.state c.do_command.new.host) (map g.D.TxDevice.state c.args.bench.now.items)
+    (all_answered told (λ k. verdict_of_command (Some command) have k.files k.files) (after_reads (g.H.Host.state c.args.host.now) (g.H.Host.state c.do_command.new.host)) (g.H.Host.state c.do_command.new.host) (map g.D.TxDevice.state c.args.bench.now.items)
     (map g.D.TxDevice.state c.do_command.new.bench.items) (map ended_state c.do_command.new.ended.items) c.in-Ok.status c.in-Ok.ensures.does)
 
 pub returns-in-Ok-clause-some : goal.returns-in-Ok-clause-some
@@ -28,8 +30,12 @@ returns-in-Ok-clause-some g c =
     let ended = map ended_state c.do_command.new.ended.items in
     let command = command_words c.in-Ok-Some.command in
     let found = c.in-Ok.ensures.some in
-    subst (λ (is : Option CommandWords). OutcomeOfSome is have old new before after ended c.in-Ok.status) (ap (option_map command_words) (sym c.in-Ok-Some.field-0-is) ∙ c.in-Ok-Some.ensures)
-    (found.0, found.1, ends_outcome (verdict_of_command (Some command) have (λ _. Some found.0) (λ _. Some found.1)) old new before after ended c.in-Ok.status c.in-Ok.ensures.answer found.2)
+    subst (λ (is : Option CommandWords). OutcomeOfSome is have old new before after ended c.in-Ok.status) (ap (option_map command_words) (sym c.in-Ok-Some.field-0-is) ∙ c.in-Ok-Some.ensures) (
+      found.0,
+      found.1,
+      ends_read (files_read (Some command) have found.0 found.1) old new c.in-Ok.status c.in-Ok.ensures.answer found.2,
+      ends_outcome (verdict_of_command (Some command) have (λ _. Some found.0) (λ _. Some found.1)) (after_reads old new) new before after ended c.in-Ok.status c.in-Ok.ensures.answer found.3,
+    )
 
 pub returns-in-Err-do_command-clause-some : goal.returns-in-Err-do_command-clause-some
 returns-in-Err-do_command-clause-some g c =
@@ -44,8 +50,9 @@ returns-in-Err-do_command-clause-some g c =
     subst (λ (is : Option CommandWords). OutcomeOfSome is have old new before after ended c.status.result) (ap (option_map command_words) (sym c.in-Ok-Some.field-0-is) ∙ c.in-Ok-Some.ensures) (
       found.0,
       found.1,
-      subst (λ (answer : Status). Outcome (verdict_of_command (Some command) have (λ _. Some found.0) (λ _. Some found.1)) old new before after ended answer) (sym c.status.ensures)
-          (stops_outcome (verdict_of_command (Some command) have (λ _. Some found.0) (λ _. Some found.1)) old new before after ended c.in-Err-do_command.stop found.2),
+      subst (HasReadFiles (files_read (Some command) have found.0 found.1) old new) (sym c.status.ensures) (stops_read (files_read (Some command) have found.0 found.1) old new c.in-Err-do_command.stop found.2),
+      subst (λ (answer : Status). Outcome (verdict_of_command (Some command) have (λ _. Some found.0) (λ _. Some found.1)) (after_reads old new) new before after ended answer) (sym c.status.ensures)
+          (stops_outcome (verdict_of_command (Some command) have (λ _. Some found.0) (λ _. Some found.1)) (after_reads old new) new before after ended c.in-Err-do_command.stop found.3),
     )
 
 pub do_command-requires-clause-within : goal.do_command-requires-clause-within
@@ -84,8 +91,8 @@ returns-in-Ok-clause-outcome g c =
     let after = map g.D.TxDevice.state c.do_command.new.bench.items in
     let ended = map ended_state c.do_command.new.ended.items in
     let command = command_words c.in-Ok-Some.command in
-    subst (λ (is : Option CommandWords). IfSome told (λ k. Outcome (verdict_of_command is have k.files k.files) old new before after ended c.in-Ok.status)) (ap (option_map command_words) (sym c.in-Ok-Some.field-0-is) ∙ c.in-Ok-Some.ensures)
-    (all_ends told (λ k. verdict_of_command (Some command) have k.files k.files) old new before after ended c.in-Ok.status c.in-Ok.ensures.answer c.in-Ok.ensures.does)
+    subst (λ (is : Option CommandWords). IfSome told (λ k. Outcome (verdict_of_command is have k.files k.files) (after_reads old new) new before after ended c.in-Ok.status)) (ap (option_map command_words) (sym c.in-Ok-Some.field-0-is) ∙ c.in-Ok-Some.ensures)
+    (all_ends told (λ k. verdict_of_command (Some command) have k.files k.files) (after_reads old new) new before after ended c.in-Ok.status c.in-Ok.ensures.answer c.in-Ok.ensures.does)
 
 pub returns-in-Err-do_command-clause-outcome : goal.returns-in-Err-do_command-clause-outcome
 returns-in-Err-do_command-clause-outcome g c =
@@ -97,6 +104,6 @@ returns-in-Err-do_command-clause-outcome g c =
     let after = map g.D.TxDevice.state c.do_command.new.bench.items in
     let ended = map ended_state c.do_command.new.ended.items in
     let command = command_words c.in-Ok-Some.command in
-    subst (λ (is : Option CommandWords). IfSome told (λ k. Outcome (verdict_of_command is have k.files k.files) old new before after ended c.status.result)) (ap (option_map command_words) (sym c.in-Ok-Some.field-0-is) ∙ c.in-Ok-Some.ensures)
-    (subst (λ (answer : Status). IfSome told (λ k. Outcome (verdict_of_command (Some command) have k.files k.files) old new before after ended answer)) (sym c.status.ensures)
-    (all_stopped told (λ k. verdict_of_command (Some command) have k.files k.files) old new before after ended c.in-Err-do_command.stop c.in-Err-do_command.ensures.does))
+    subst (λ (is : Option CommandWords). IfSome told (λ k. Outcome (verdict_of_command is have k.files k.files) (after_reads old new) new before after ended c.status.result)) (ap (option_map command_words) (sym c.in-Ok-Some.field-0-is) ∙ c.in-Ok-Some.ensures)
+    (subst (λ (answer : Status). IfSome told (λ k. Outcome (verdict_of_command (Some command) have k.files k.files) (after_reads old new) new before after ended answer)) (sym c.status.ensures)
+    (all_stopped told (λ k. verdict_of_command (Some command) have k.files k.files) (after_reads old new) new before after ended c.in-Err-do_command.stop c.in-Err-do_command.ensures.does))

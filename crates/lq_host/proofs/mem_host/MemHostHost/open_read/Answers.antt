@@ -1,10 +1,14 @@
-use Rattle.std.proofs.Common.{◌∙◌, ap, Some, List, ℕ}
+use Rattle.std.proofs.Common.{◌∙◌, ap, ap₂, Some, List, ℕ}
 use Rattle.lq_host.specs.Host.{Handles, Reads, with_handle}
+use Rattle.lq_host.specs.Journal.{Kept}
 use Rattle.lq_host.specs.MemHost.{mem_state}
+use Rattle.lq_host.specs.declared.journal.Entry.TheVariants.{Asked}
+use Rattle.lq_host.proofs.JournalLemmas.{kept-more}
 use Rattle.lq_host.proofs.mem_host.MemHostHost.open_read.Goals as goal
 
 pub returns-clause-ok : goal.returns-clause-ok
 returns-clause-ok c =
-    let old = mem_state c.args.self.now in
-    ap (λ (hs : Handles). record { told = old.told; handles = hs })
-    (c.in_ok-h.ensures.ok ∙ ap (λ (n : List ℕ). with_handle old.handles c.in_ok-h.h (Some (Reads n 0))) c.in_ok-from_str.ensures.ok)
+    let old = c.args.self.now in
+    ap₂ (λ (kept : Kept) (hs : Handles). record { told = (mem_state old).told; handed = kept.handed; given = kept.given; handles = hs })
+    (kept-more old.journal.seen.log c.tell.new.self.seen.log (Asked c.args.name.now) c.tell.ensures)
+    (c.in_ok-h.ensures.ok ∙ ap (λ (n : List ℕ). with_handle (mem_state old).handles c.in_ok-h.h (Some (Reads n 0))) c.in_ok-from_str.ensures.ok)
