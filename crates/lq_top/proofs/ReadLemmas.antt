@@ -1,11 +1,11 @@
 -- What a command leaves of a host whose files it has read.
-use Rattle.std.proofs.Common.{◌≡◌, ◌⊎◌, ℕ, Bool, true, false, cond, List, [], ◌∷◌, ◌++◌, drop, Some, Result, Ok, Err, IsErrAnd, is_ok, refl, sym, ap, ◌∙◌, subst, inl, inr}
+use Rattle.std.proofs.Common.{◌≡◌, ◌⊎◌, ℕ, Bool, true, false, cond, List, [], ◌∷◌, ◌++◌, drop, Option, None, Some, Result, Ok, Err, IsErrAnd, is_ok, refl, sym, ap, ◌∙◌, subst, inl, inr}
 use Rattle.lq_host.specs.Host.{GivenFile, HostState, filed}
 use Rattle.lq_model.specs.Device.{DeviceState}
 use Rattle.lq_model.specs.Plan.{Plan}
 use Rattle.lq_table.specs.Ended.{EndedState}
 use Rattle.lq_files.specs.Accepted.{plan_for}
-use Rattle.lq_files.specs.Command.{OfRun, RunWords}
+use Rattle.lq_files.specs.Command.{CommandWords, OfGen, OfRun, OfTap, OfTrace, RunWords}
 use Rattle.lq_files.specs.Input.{MayHaveRead, file_read}
 use Rattle.lq_files.specs.Refusal.{refusal_line}
 use Rattle.lq_files.specs.RunFiles.{texts_of}
@@ -19,7 +19,7 @@ use Rattle.lq_files.specs.declared.answer.Stop.{Stop}
 use Rattle.lq_files.specs.declared.answer.Stop.TheVariants as stops
 use Rattle.lq_top.specs.Decision.{Verdict, Generates, LacksFile, Refuses, Runs, Taps, Traces, verdict_of_command}
 use Rattle.lq_top.proofs.RunLemmas.{stops_before}
-use Rattle.lq_top.specs.Outcome.{Completes, CompletesOrStops, CompletesOrStopsOfSome, IsCommandStatus, Stops}
+use Rattle.lq_top.specs.Outcome.{Completes, CompletesOrStops, CompletesOrStopsOfSome, IsCommandStatus, OutcomeOfSome, Stops}
 use Rattle.lq_top.specs.Reads.{HasReadFiles, HasReadOrStopped, after_reads, files_read}
 
 -- WRITING reads nothing
@@ -133,80 +133,96 @@ stops_reading v old new files before after is = stops_before v (after_reads old 
 abbrev LeftAt : List ℕ → HostState → HostState → List GivenFile → Type 0
 LeftAt name old new files = (new ≡ record old { given = files }) ⊎ ((bytes : List ℕ) × (new ≡ record old { given = record { name = name; bytes = bytes } ∷ files }))
 
-pub stopped_reading : {Q : Stop → Type 0} (v : Verdict) (old new : HostState) (name : List ℕ) (files : List GivenFile) (before after : List DeviceState) (ended : List EndedState) (r : Result Status Stop)
+pub stopped_reading : (Q : Stop → Type 0) (v : Verdict) (old new : HostState) (name : List ℕ) (files : List GivenFile) (before after : List DeviceState) (ended : List EndedState) (r : Result Status Stop)
     → IsErrAnd r Q → LeftAt name old new files → CompletesOrStops v (after_reads old new) new before after ended r
-stopped_reading v old new name files before after ended (Ok answer) exit left = absurd exit
-stopped_reading v old new name files before after ended (Err stop) exit left =
+stopped_reading Q v old new name files before after ended (Ok answer) exit left = absurd exit
+stopped_reading Q v old new name files before after ended (Err stop) exit left =
     elim left [ inl same ↦ stops_reading v old new files before after same | inr part ↦ stops_reading v old new _ before after part.1 ]
 
-stopped_read : {Q : Stop → Type 0} (files : List GivenFile) (old new : HostState) (r : Result Status Stop) (n : ℕ) → IsErrAnd r Q → new.given ≡ drop n files ++ old.given → HasReadOrStopped files old new r
-stopped_read files old new (Ok answer) n exit is = absurd exit
-stopped_read files old new (Err stop) n exit is = (n, is)
+stopped_read : (Q : Stop → Type 0) (files : List GivenFile) (old new : HostState) (r : Result Status Stop) (n : ℕ) → IsErrAnd r Q → new.given ≡ drop n files ++ old.given → HasReadOrStopped files old new r
+stopped_read Q files old new (Ok answer) n exit is = absurd exit
+stopped_read Q files old new (Err stop) n exit is = (n, is)
 
 -- a run was stopped while it read its plan
-pub run_stopped_at_plan : {Q : Stop → Type 0} (words : RunWords) (have : ℕ) (old new : HostState) (before after : List DeviceState) (ended : List EndedState) (r : Result Status Stop)
+pub run_stopped_at_plan : (Q : Stop → Type 0) (words : RunWords) (have : ℕ) (old new : HostState) (before after : List DeviceState) (ended : List EndedState) (r : Result Status Stop)
     → IsErrAnd r Q → LeftAt words.plan old new old.given → CompletesOrStopsOfSome (Some (OfRun words)) have old new before after ended r
-run_stopped_at_plan words have old new before after ended r exit left = elim left [
+run_stopped_at_plan Q words have old new before after ended r exit left = elim left [
   | inl same ↦ (
     [],
     [],
-    stopped_read (files_read (Some (OfRun words)) have [] []) old new r 2 exit
+    stopped_read Q (files_read (Some (OfRun words)) have [] []) old new r 2 exit
         (ap (λ (s : HostState). s.given) same ∙ ap (λ (files : List GivenFile). files ++ old.given) (sym (neither (is_ok (plan_for have [])) (record { name = words.plan; bytes = [] }) (record { name = words.capture; bytes = [] })))),
-    stopped_reading (verdict_of_command (Some (OfRun words)) have (λ _. Some []) (λ _. Some [])) old new words.plan old.given before after ended r exit left,
+    stopped_reading Q (verdict_of_command (Some (OfRun words)) have (λ _. Some []) (λ _. Some [])) old new words.plan old.given before after ended r exit (inl same),
   )
   | inr part ↦ (
       let n = first_alone (is_ok (plan_for have part.0)) (record { name = words.plan; bytes = part.0 }) (record { name = words.capture; bytes = [] }) in (
         part.0,
         [],
-        stopped_read (files_read (Some (OfRun words)) have part.0 []) old new r n.0 exit
+        stopped_read Q (files_read (Some (OfRun words)) have part.0 []) old new r n.0 exit
             (ap (λ (s : HostState). s.given) part.1 ∙ ap (λ (files : List GivenFile). files ++ old.given) (sym n.1)),
-        stopped_reading (verdict_of_command (Some (OfRun words)) have (λ _. Some part.0) (λ _. Some [])) old new words.plan old.given before after ended r exit left,
+        stopped_reading Q (verdict_of_command (Some (OfRun words)) have (λ _. Some part.0) (λ _. Some [])) old new words.plan old.given before after ended r exit (inr part),
       )
       )
 ]
 
 -- and while it read its capture, after a plan that was accepted
 pub run_stopped_at_capture :
-    {Q : Stop → Type 0} (words : RunWords) (have : ℕ) (plan : Plan) (first : List ℕ) → plan_for have first ≡ Ok plan → (old new : HostState) (before after : List DeviceState) (ended : List EndedState)
+    (Q : Stop → Type 0) (words : RunWords) (have : ℕ) (plan : Plan) (first : List ℕ) → plan_for have first ≡ Ok plan → (old new : HostState) (before after : List DeviceState) (ended : List EndedState)
     (r : Result Status Stop) → IsErrAnd r Q → LeftAt words.capture old new (record { name = words.plan; bytes = first } ∷ old.given) → CompletesOrStopsOfSome (Some (OfRun words)) have old new before after ended r
-run_stopped_at_capture words have plan first is old new before after ended r exit left =
+run_stopped_at_capture Q words have plan first is old new before after ended r exit left =
     let none : List GivenFile = record { name = words.plan; bytes = first } ∷ old.given in
     elim left [
       | inl same ↦ (
         first,
         [],
-        stopped_read (files_read (Some (OfRun words)) have first []) old new r 1 exit
+        stopped_read Q (files_read (Some (OfRun words)) have first []) old new r 1 exit
             (ap (λ (s : HostState). s.given) same ∙ ap (λ (files : List GivenFile). drop 1 files ++ old.given) (sym (run_reads words have plan first [] is))),
-        stopped_reading (verdict_of_command (Some (OfRun words)) have (λ _. Some first) (λ _. Some [])) old new words.capture none before after ended r exit left,
+        stopped_reading Q (verdict_of_command (Some (OfRun words)) have (λ _. Some first) (λ _. Some [])) old new words.capture none before after ended r exit (inl same),
       )
       | inr part ↦ (
         first,
         part.0,
-        stopped_read (files_read (Some (OfRun words)) have first part.0) old new r 0 exit
+        stopped_read Q (files_read (Some (OfRun words)) have first part.0) old new r 0 exit
             (ap (λ (s : HostState). s.given) part.1 ∙ ap (λ (files : List GivenFile). files ++ old.given) (sym (run_reads words have plan first part.0 is))),
-        stopped_reading (verdict_of_command (Some (OfRun words)) have (λ _. Some first) (λ _. Some part.0)) old new words.capture none before after ended r exit left,
+        stopped_reading Q (verdict_of_command (Some (OfRun words)) have (λ _. Some first) (λ _. Some part.0)) old new words.capture none before after ended r exit (inr part),
       )
     ]
 
 -- a command that reads one file was stopped while it read it
 pub one_stopped :
-    {Q : Stop → Type 0} (v : List ℕ → List ℕ → Verdict) (name : List ℕ) (old new : HostState) (before after : List DeviceState) (ended : List EndedState) (r : Result Status Stop)
+    (Q : Stop → Type 0) (v : List ℕ → List ℕ → Verdict) (name : List ℕ) (old new : HostState) (before after : List DeviceState) (ended : List EndedState) (r : Result Status Stop)
     → IsErrAnd r Q → LeftAt name old new old.given
     → (first second : List ℕ) × HasReadOrStopped (record { name = name; bytes = first } ∷ []) old new r × CompletesOrStops (v first second) (after_reads old new) new before after ended r
-one_stopped v name old new before after ended r exit left = elim left [
+one_stopped Q v name old new before after ended r exit left = elim left [
   | inl same ↦ (
     [],
     [],
-    stopped_read (record { name = name; bytes = [] } ∷ []) old new r 1 exit (ap (λ (s : HostState). s.given) same),
-    stopped_reading (v [] []) old new name old.given before after ended r exit left,
+    stopped_read Q (record { name = name; bytes = [] } ∷ []) old new r 1 exit (ap (λ (s : HostState). s.given) same),
+    stopped_reading Q (v [] []) old new name old.given before after ended r exit (inl same),
   )
   | inr part ↦ (
     part.0,
     [],
-    stopped_read (record { name = name; bytes = part.0 } ∷ []) old new r 0 exit (ap (λ (s : HostState). s.given) part.1),
-    stopped_reading (v part.0 []) old new name old.given before after ended r exit left,
+    stopped_read Q (record { name = name; bytes = part.0 } ∷ []) old new r 0 exit (ap (λ (s : HostState). s.given) part.1),
+    stopped_reading Q (v part.0 []) old new name old.given before after ended r exit (inr part),
   )
 ]
+
+-- a call that came to no file
+none_come_to : (command : Option CommandWords) (have : ℕ) (first second : List ℕ) → drop 2 (files_read command have first second) ≡ []
+none_come_to None have first second = refl
+none_come_to (Some (OfRun words)) have first second = neither (is_ok (plan_for have first)) (record { name = words.plan; bytes = first }) (record { name = words.capture; bytes = second })
+none_come_to (Some (OfGen words)) have first second = refl
+none_come_to (Some (OfTrace file)) have first second = refl
+none_come_to (Some (OfTap words)) have first second = refl
+
+pub nothing_done : (command : Option CommandWords) (have : ℕ) (host : HostState) (devices : List DeviceState) (ended : List EndedState) → OutcomeOfSome command have host host devices devices ended status.NoMemory
+nothing_done command have host devices ended = (
+  [],
+  [],
+  (2, ap (λ (files : List GivenFile). files ++ host.given) (sym (none_come_to command have [] []))),
+  stops_before (verdict_of_command command have (λ _. Some []) (λ _. Some [])) (after_reads host host) host devices devices refl,
+)
 
 -- THE STATUS
 

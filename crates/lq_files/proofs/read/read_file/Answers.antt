@@ -1,5 +1,5 @@
 use Rattle.std.proofs.Common.{Result, IfOk, IfSome, inr, subst}
-use Rattle.lq_host.specs.Host.{Reads, left}
+use Rattle.lq_host.specs.Host.{left}
 use Rattle.lq_host.proofs.HostLemmas.{opened-reader, read_whole, left-opened}
 use Rattle.lq_files.specs.Input.{IsInput}
 use Rattle.lq_files.specs.declared.read.Input.{Input}

@@ -16,7 +16,7 @@ returns-in_err-capture-clause-does g c = λ have before after. (
     let old : HostState = g.H.Host.state c.args.host.now in
     let new : HostState = g.H.Host.state c.read_capture_file.new.host in
     any_told old.told (λ k.
-    stopped_reading (verdict_of_command (Some (OfTap (tap_words c.args.words.now))) have k.files k.files) old new c.args.words.now.capture.now old.given before after [] c.from_residual.result
+    stopped_reading _ (verdict_of_command (Some (OfTap (tap_words c.args.words.now))) have k.files k.files) old new c.args.words.now.capture.now old.given before after [] c.from_residual.result
     c.from_residual.ensures.1 (stopped-at c.args.words.now.capture.now old old new old.given refl c.in_err-capture.ensures.stopped))
     )
 
@@ -24,7 +24,7 @@ pub returns-in_err-capture-clause-some : goal.returns-in_err-capture-clause-some
 returns-in_err-capture-clause-some g c = λ have before after. (
     let old : HostState = g.H.Host.state c.args.host.now in
     let new : HostState = g.H.Host.state c.read_capture_file.new.host in
-    one_stopped (λ first second. verdict_of_command (Some (OfTap (tap_words c.args.words.now))) have (λ _. Some first) (λ _. Some second)) c.args.words.now.capture.now old new before after []
+    one_stopped _ (λ first second. verdict_of_command (Some (OfTap (tap_words c.args.words.now))) have (λ _. Some first) (λ _. Some second)) c.args.words.now.capture.now old new before after []
     c.from_residual.result c.from_residual.ensures.1 (stopped-at c.args.words.now.capture.now old old new old.given refl c.in_err-capture.ensures.stopped)
     )
 

@@ -1,11 +1,11 @@
 use Rattle.std.proofs.Common.{◌≡◌, ℕ, ◌∙◌, ap, sym, subst, IfSome, Option, Some, drop, map, vec_len}
 use Rattle.std.specs.Option.{option_map}
 use Rattle.lq_table.specs.Ended.{ended_state}
-use Rattle.lq_files.specs.Command.{CommandWords, AreOperandsWithin, bytes_of_words, command_words}
+use Rattle.lq_files.specs.Command.{CommandWords, AreOperandsWithin, bytes_of_words, command_of_words, command_words}
 use Rattle.lq_top.specs.Decision.{most_units_changed_by, units_changed_by, verdict_of_command}
 use Rattle.lq_top.specs.Outcome.{IsAnswerOf, Outcome, OutcomeOfSome}
 use Rattle.lq_top.specs.Reads.{HasReadFiles, after_reads, files_read}
-use Rattle.lq_top.proofs.ReadLemmas.{ends_read, stops_read}
+use Rattle.lq_top.proofs.ReadLemmas.{ends_read, nothing_done, stops_read}
 use Rattle.lq_files.specs.declared.answer.Status.{Status}
 use Rattle.lq_files.proofs.CommandLemmas.{within_limits}
 use Rattle.lq_top.proofs.RunLemmas.{all_answered, all_ends, all_stopped, ends_outcome, stops_outcome}
@@ -107,3 +107,8 @@ returns-in-Err-do_command-clause-outcome g c =
     subst (λ (is : Option CommandWords). IfSome told (λ k. Outcome (verdict_of_command is have k.files k.files) (after_reads old new) new before after ended c.status.result)) (ap (option_map command_words) (sym c.in-Ok-Some.field-0-is) ∙ c.in-Ok-Some.ensures)
     (subst (λ (answer : Status). IfSome told (λ k. Outcome (verdict_of_command (Some command) have k.files k.files) (after_reads old new) new before after ended answer)) (sym c.status.ensures)
     (all_stopped told (λ k. verdict_of_command (Some command) have k.files k.files) (after_reads old new) new before after ended c.in-Err-do_command.stop c.in-Err-do_command.ensures.does))
+
+pub returns-in-Err-clause-some : goal.returns-in-Err-clause-some
+returns-in-Err-clause-some g c =
+    nothing_done (command_of_words (bytes_of_words c.args.words.now)) (vec_len c.args.bench.now) (g.H.Host.state c.args.host.now) (map g.D.TxDevice.state c.args.bench.now.items)
+    (map ended_state c.args.ended.now.items)

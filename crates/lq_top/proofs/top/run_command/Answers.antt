@@ -158,7 +158,7 @@ returns-in_err-plan-clause-does g c =
     let ended = map ended_state c.args.ended.now.items in
     let left = stopped-at c.args.words.now.plan.now old old new old.given refl c.in_err-plan.ensures.stopped in
     any_told old.told (λ k.
-    stopped_reading (verdict_of_command (Some (OfRun (run_words c.args.words.now))) (vec_len c.args.bench.now) k.files k.files) old new c.args.words.now.plan.now old.given devices devices ended
+    stopped_reading _ (verdict_of_command (Some (OfRun (run_words c.args.words.now))) (vec_len c.args.bench.now) k.files k.files) old new c.args.words.now.plan.now old.given devices devices ended
     c.from_residual.result c.from_residual.ensures.1 left)
 
 pub returns-in_err-plan-clause-some : goal.returns-in_err-plan-clause-some
@@ -168,7 +168,7 @@ returns-in_err-plan-clause-some g c =
     let devices = map g.D.TxDevice.state c.args.bench.now.items in
     let ended = map ended_state c.args.ended.now.items in
     let left = stopped-at c.args.words.now.plan.now old old new old.given refl c.in_err-plan.ensures.stopped in
-    run_stopped_at_plan (run_words c.args.words.now) (vec_len c.args.bench.now) old new devices devices ended c.from_residual.result c.from_residual.ensures.1 left
+    run_stopped_at_plan _ (run_words c.args.words.now) (vec_len c.args.bench.now) old new devices devices ended c.from_residual.result c.from_residual.ensures.1 left
 
 pub returns-in-Err-clause-len : goal.returns-in-Err-clause-len
 returns-in-Err-clause-len g c = refl
@@ -229,7 +229,7 @@ returns-in_err-capture-clause-does g c =
     let plan_file : GivenFile = record { name = c.args.words.now.plan.now; bytes = read.0 } in
     let left = stopped-at c.args.words.now.capture.now old (g.H.Host.state c.read_plan_file.new.host) new (plan_file ∷ old.given) read.2 c.in_err-capture.ensures.stopped in
     any_told old.told (λ k.
-    stopped_reading (verdict_of_command (Some (OfRun (run_words c.args.words.now))) (vec_len c.args.bench.now) k.files k.files) old new c.args.words.now.capture.now (plan_file ∷ old.given) devices devices ended
+    stopped_reading _ (verdict_of_command (Some (OfRun (run_words c.args.words.now))) (vec_len c.args.bench.now) k.files k.files) old new c.args.words.now.capture.now (plan_file ∷ old.given) devices devices ended
     c.from_residual-in_err-capture.result c.from_residual-in_err-capture.ensures.1 left)
 
 pub returns-in_err-capture-clause-some : goal.returns-in_err-capture-clause-some
@@ -242,7 +242,7 @@ returns-in_err-capture-clause-some g c =
     let plan_file : GivenFile = record { name = c.args.words.now.plan.now; bytes = read.0 } in
     let left = stopped-at c.args.words.now.capture.now old (g.H.Host.state c.read_plan_file.new.host) new (plan_file ∷ old.given) read.2 c.in_err-capture.ensures.stopped in
     let plan_is : plan_for (vec_len c.args.bench.now) read.0 ≡ Ok c.in-Ok.plan = subst (λ n. plan_for n read.0 ≡ c.in_ok-plan.field-0) c.len.ensures read.1 ∙ c.in-Ok.is in
-    run_stopped_at_capture (run_words c.args.words.now) (vec_len c.args.bench.now) c.in-Ok.plan read.0 plan_is old new devices devices ended c.from_residual-in_err-capture.result
+    run_stopped_at_capture _ (run_words c.args.words.now) (vec_len c.args.bench.now) c.in-Ok.plan read.0 plan_is old new devices devices ended c.from_residual-in_err-capture.result
     c.from_residual-in_err-capture.ensures.1 left
 
 pub returns-in-Ok-2-clause-len : goal.returns-in-Ok-2-clause-len

@@ -18,7 +18,7 @@ returns-in_err-text-clause-does g c = λ have before after. (
     let old : HostState = g.H.Host.state c.args.host.now in
     let mid : HostState = g.H.Host.state c.read_schedule_file.new.host in
     any_told old.told (λ k.
-    stopped_reading (verdict_of_command (Some (OfTrace c.args.file.now)) have k.files k.files) old mid c.args.file.now old.given before after [] c.from_residual.result c.from_residual.ensures.1
+    stopped_reading _ (verdict_of_command (Some (OfTrace c.args.file.now)) have k.files k.files) old mid c.args.file.now old.given before after [] c.from_residual.result c.from_residual.ensures.1
     (stopped-at c.args.file.now old old mid old.given refl c.in_err-text.ensures.stopped))
     )
 
@@ -26,7 +26,7 @@ pub returns-in_err-text-clause-some : goal.returns-in_err-text-clause-some
 returns-in_err-text-clause-some g c = λ have before after. (
     let old : HostState = g.H.Host.state c.args.host.now in
     let mid : HostState = g.H.Host.state c.read_schedule_file.new.host in
-    one_stopped (λ first second. verdict_of_command (Some (OfTrace c.args.file.now)) have (λ _. Some first) (λ _. Some second)) c.args.file.now old mid before after [] c.from_residual.result
+    one_stopped _ (λ first second. verdict_of_command (Some (OfTrace c.args.file.now)) have (λ _. Some first) (λ _. Some second)) c.args.file.now old mid before after [] c.from_residual.result
     c.from_residual.ensures.1 (stopped-at c.args.file.now old old mid old.given refl c.in_err-text.ensures.stopped)
     )
 
