@@ -1,0 +1,14 @@
+-- what is so where a call answered Ok
+pub mod OnOk
+-- what is taken back from a driver's ring
+pub mod Left
+-- steps of a station with its card
+pub mod Stepped
+-- openings and interrupts, one after the other
+pub mod Openings
+-- events before a packet
+pub mod Changes
+-- the station of a plan, with nothing brought yet
+pub mod Starts
+-- a packet, and what follows it
+pub mod Turns

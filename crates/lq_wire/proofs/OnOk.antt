@@ -1,0 +1,10 @@
+-- What is so where a call answered Ok.
+use Rattle.std.proofs.Common.{Result, Ok, Err, IfOk, OnOk}
+
+pub on-ok : {T E A B : Type 0} (r : Result T E) → OnOk r A → (A → B) → OnOk r B
+on-ok (Ok x) a f = f a
+on-ok (Err e) a f = a
+
+pub if-ok : {T E : Type 0} {P Q : T → Type 0} (r : Result T E) → IfOk r P → ((x : T) → P x → Q x) → IfOk r Q
+if-ok (Ok x) holds f = f x holds
+if-ok (Err e) holds f = holds

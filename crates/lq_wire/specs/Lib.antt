@@ -1,0 +1,4 @@
+-- the ring of a driver
+pub mod Wire
+-- a station with its card, as code has them
+pub mod Wired

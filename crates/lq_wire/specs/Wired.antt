@@ -1,0 +1,76 @@
+-- A station with its card, as code has them.
+use Rattle.std.specs.Prelude.{◌≡◌, ◌<◌, ℕ, ◌+◌, Bool, true, false, nat_le, if◌then◌else◌, List, ◌++◌, Some, slice_get}
+use Rattle.lq_model.specs.Alone.{RunningStation}
+use Rattle.lq_model.specs.Capture.{Packets}
+use Rattle.lq_model.specs.Plan.{Plan, is_at, is_swap_kind}
+use Rattle.lq_model.specs.Wire.{Opened, Wired, after_wired, first_wired, interrupted_while, opened_while, openings_of_card, sent_now, stepped}
+use Rattle.lq_model.specs.declared.fate.Info.{Info}
+use Rattle.lq_model.specs.declared.plan.Card.{Card}
+use Rattle.lq_model.specs.declared.plan.EventPlan.{EventPlan}
+use Rattle.lq_model.specs.declared.plan.StationPlan.{StationPlan}
+use Rattle.lq_lone.specs.Lone.{IsLone, state_of, waiting}
+use Rattle.lq_wire.specs.declared.wire.Wire.{Wire}
+use Rattle.lq_wire.specs.declared.wired.Wired.{Wired as Linked}
+
+-- it is the ring and the wire of this one
+pub record IsWire (m : Wire) (w : Wired) : Type 0 where
+  pub ring : m.ring.items ≡ w.ring
+  pub free : m.free ≡ w.free
+
+-- it is this station with its card
+pub record IsWired (m : Linked) (w : Wired) : Type 0 where
+  pub station : IsLone (state_of m.station) w.station
+  pub wire : IsWire m.wire w
+
+-- how many packets wait or were accepted
+abbrev pub load : Linked → ℕ
+load m = waiting (state_of m.station) + m.wire.accepted
+
+-- 1 of a queue that is stopped
+abbrev pub stop_count : Linked → ℕ
+stop_count m = if m.station.stopped then 1 else 0
+
+-- a step of the station at a moment leads to it; the step sent these packets
+pub record StepsTo (card : Card) (packets : Packets) (now : ℕ) (step : RunningStation → RunningStation) (w : Wired) (m : Linked) : Type 0 where
+  pub wired : IsWired m (stepped card packets now step w)
+  pub more : List ℕ
+  pub sent : sent_now (step w.station) ≡ sent_now w.station ++ more
+
+-- an interrupt is due up to a moment
+abbrev pub due_by : ℕ → ℕ → Bool
+due_by until now = nat_le now until
+
+-- what was opened so often is it
+pub record HasOpened (last first : Opened) (count : ℕ) (m : Linked) : Type 0 where
+  pub wired : IsWired m last.wired
+  pub times : last.times ≡ first.times + count
+
+-- so many openings, or interrupts, are left at most, and lead from here to the end
+pub record OpensOn (card : Card) (packets : Packets) (infos : List Info) (now : ℕ) (last first : Opened) (left count : ℕ) (m : Linked) : Type 0 where
+  pub here : Opened
+  pub same : last ≡ opened_while card packets infos now left here
+  pub opened : HasOpened here first count m
+
+pub record GoesOn (card : Card) (packets : Packets) (infos : List Info) (due : ℕ → Bool) (last first : Opened) (left count : ℕ) (m : Linked) : Type 0 where
+  pub here : Opened
+  pub same : last ≡ interrupted_while card packets infos due left here
+  pub opened : HasOpened here first count m
+
+-- THE STATION OF A PLAN
+
+-- one queue, and a device that stops it at each packet
+pub record HasOneStop (s : StationPlan) : Type 0 where
+  pub queues : s.queues ≡ 1
+  pub burst : s.params.burst ≡ 1
+  pub never_busy : s.params.busy_every ≡ 0
+  pub never_hangs : s.params.hang_after ≡ 0
+
+-- all events are done to the station, and none swaps its device
+pub record AreForCard (plan : Plan) : Type 0 where
+  pub at : (e : ℕ) (event : EventPlan) → slice_get plan.events e ≡ Some event → is_at 0 event ≡ true
+  pub no_swap : (e : ℕ) (event : EventPlan) → slice_get plan.events e ≡ Some event → is_swap_kind event.kind ≡ false
+
+-- behind packet n the queue is opened so often, and it is the station of the next one, if there is one
+pub record HasTurned (card : Card) (plan : Plan) (packets : Packets) (infos : List Info) (station : StationPlan) (n times : ℕ) (m : Linked) : Type 0 where
+  pub opens : times ≡ openings_of_card card plan packets infos n
+  pub next : n + 1 < packets.count → IsWired m (after_wired card plan packets infos (first_wired station) (n + 1))
