@@ -1,5 +1,5 @@
 -- The station of a plan, with nothing brought yet.
-use Rattle.std.proofs.Common.{◌≡◌, ℕ, false, true, Option, None, [], refl, ap₂, ◌∙◌}
+use Rattle.std.proofs.Common.{ℕ, true, None, [], refl, ap₂, ◌∙◌}
 use Rattle.lq_model.specs.Account.{new_account}
 use Rattle.lq_model.specs.Alone.{RunningStation, new_station}
 use Rattle.lq_model.specs.Band.{empty_band}

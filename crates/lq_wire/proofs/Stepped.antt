@@ -73,8 +73,8 @@ module _ (card : Card) (packets : Packets) (now : ℕ) where
       let sent : sent_now (next t) ≡ sent_now t ++ ys = subst (λ (s : RunningStation). sent_now (next s) ≡ sent_now s ++ ys) station two.sent in
       let all : sent_now (next t) ≡ sent_now w.station ++ (xs ++ ys) = sent ∙ (ap (λ (l : List ℕ). l ++ ys) one.sent ∙ append-both (sent_now w.station) xs ys) in
       let last : stepped card packets now next (stepped card packets now first w) ≡ stepped card packets now (λ s. next (first s)) w =
-          ap (stepped card packets now next) here
-          ∙ (stepped-as next (record (all_accepted_at card packets now xs w) { station = t }) ys sent
-          ∙ (ap (λ (v : Wired). record v { station = next t }) (moved ys (all_accepted_at card packets now xs w) t ∙ ap (λ (v : Wired). record v { station = t }) (sym (both xs ys w)))
-          ∙ sym (stepped-as (λ s. next (first s)) w (xs ++ ys) all))) in
+      ap (stepped card packets now next) here
+      ∙ (stepped-as next (record (all_accepted_at card packets now xs w) { station = t }) ys sent
+      ∙ (ap (λ (v : Wired). record v { station = next t }) (moved ys (all_accepted_at card packets now xs w) t ∙ ap (λ (v : Wired). record v { station = t }) (sym (both xs ys w)))
+      ∙ sym (stepped-as (λ s. next (first s)) w (xs ++ ys) all))) in
       record { wired = subst (IsWired n) last two.wired; more = xs ++ ys; sent = all }

@@ -1,12 +1,12 @@
 -- A packet, and what follows it.
-use Rattle.std.proofs.Common.{◌≡◌, ℕ, suc, ◌+◌, ◌*◌, ◌<◌, ◌≤◌, Bool, true, cond, List, [], ◌∷◌, Option, Some, None, nat_lt, slice_get, refl, sym, ap, ap₂, subst, ◌∙◌, arith}
+use Rattle.std.proofs.Common.{◌≡◌, ℕ, suc, ◌+◌, ◌*◌, ◌<◌, ◌≤◌, Bool, cond, List, [], ◌∷◌, nat_lt, slice_get, sym, ap, ap₂, subst, ◌∙◌, arith}
 use Rattle.std.proofs.lemmas.Bool.{cond-false, le-leb, lt-leb}
 use Rattle.std.specs.Option.{option_map_or}
 use Rattle.std.specs.Prelude.{min}
 use Rattle.lq_model.specs.Alone.{brought_in, bypass_of, events_before, served}
 use Rattle.lq_model.specs.Capture.{Packets}
 use Rattle.lq_model.specs.Plan.{Plan}
-use Rattle.lq_model.specs.Wire.{Opened, Wired, after_wired, all_interrupted, come, first_wired, moment, opened_at, openings_of_card, stepped, turned, wired_with, with_changes}
+use Rattle.lq_model.specs.Wire.{Opened, Wired, after_wired, all_interrupted, first_wired, moment, opened_at, openings_of_card, stepped, turned, wired_with, with_changes}
 use Rattle.lq_model.specs.declared.fate.Info.{Info}
 use Rattle.lq_model.specs.declared.plan.Card.{Card}
 use Rattle.lq_model.specs.declared.plan.StationPlan.{StationPlan}

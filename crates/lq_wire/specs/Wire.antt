@@ -1,5 +1,5 @@
 -- A card on a wire, as code has it.
-use Rattle.std.specs.Prelude.{◌≡◌, ℕ, ◌+◌, Bool, false, nat_le, if◌then◌else◌, List, [], ◌∷◌, Option, Some, None}
+use Rattle.std.specs.Prelude.{ℕ, ◌+◌, Bool, false, nat_le, if◌then◌else◌, List, [], ◌∷◌, Option, Some, None}
 use Rattle.std.specs.List.{sum_by}
 use Rattle.lq_model.specs.Wire.{delay}
 use Rattle.lq_model.specs.declared.flight.Flight.{Flight}

@@ -1,4 +1,4 @@
-use Rattle.std.proofs.Common.{◌≡◌, sym, ap, ◌∙◌, arith}
+use Rattle.std.proofs.Common.{sym, ◌∙◌}
 use Rattle.lq_wire.proofs.Left.{left-stops}
 use Rattle.lq_wire.proofs.wire.Wire.reclaim.Goals as goal
 

@@ -1,4 +1,4 @@
-use Rattle.std.proofs.Common.{◌≡◌, ℕ, ◌+◌, length}
+use Rattle.std.proofs.Common.{◌≡◌, ◌+◌, length}
 use Rattle.lq_model.specs.Wire.{left_at}
 use Rattle.lq_wire.proofs.wire.Wire.reclaim.Given as goal
 

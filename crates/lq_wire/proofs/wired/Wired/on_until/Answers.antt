@@ -1,4 +1,4 @@
-use Rattle.std.proofs.Common.{◌≡◌, ◌+◌, ◌-◌, ◌<◌, ◌≤◌, ℕ, List, length, None, Some, refl, sym, ap, subst, ◌∙◌, arith}
+use Rattle.std.proofs.Common.{◌+◌, ◌-◌, ◌<◌, length, refl, sym, ap, subst, ◌∙◌, arith}
 use Rattle.lq_model.specs.Account.{held}
 use Rattle.lq_model.specs.Wire.{Opened, all_interrupted, interrupted, left_at}
 use Rattle.lq_model.specs.declared.plan.Card.{Card}
@@ -10,9 +10,11 @@ use Rattle.lq_wire.proofs.wired.Wired.on_until.Goals as goal
 pub loop-interrupt-init : goal.loop-interrupt-init
 loop-interrupt-init g c = record {
   on = λ infos o queues wired.
-      let is = c.held.ensures.held o.wired.station wired.station in let count = c.held.ensures.count in let ring = ap length wired.wire.ring in
-      (length o.wired.ring + length (held o.wired.station.account), omega arith,
-      goes-first c.args.self.now.wire.card (g.F.Frames.packets c.args.frames.now) infos c.args.until (length o.wired.ring + length (held o.wired.station.account)) o c.args.self.now wired);
+      let is = c.held.ensures.held o.wired.station wired.station in let count = c.held.ensures.count in let ring = ap length wired.wire.ring in (
+        length o.wired.ring + length (held o.wired.station.account),
+        omega arith,
+        goes-first c.args.self.now.wire.card (g.F.Frames.packets c.args.frames.now) infos c.args.until (length o.wired.ring + length (held o.wired.station.account)) o c.args.self.now wired,
+      );
   count = omega arith;
   load = refl;
   bypass = refl;
@@ -38,17 +40,20 @@ loop-interrupt-preserved g c =
           let sum = at.1 in let test = c.loop-interrupt-test.true in let turns = c.held.ensures.count in let long = c.len.ensures in
           let some : 0 < at.0 = omega arith in
           let comes = ap (λ (k : Card). due_at k c.args.until on.here.wired.ring) (sym inv.card)
-              ∙ (ap (due_at c.loop-interrupt.self.wire.card c.args.until) (sym on.opened.wired.wire.ring) ∙ (sym c.due.ensures.due ∙ c.in-Some.is)) in
+          ∙ (ap (due_at c.loop-interrupt.self.wire.card c.args.until) (sym on.opened.wired.wire.ring) ∙ (sym c.due.ensures.due ∙ c.in-Some.is)) in
           let left : Opened = record on.here { wired = record on.here.wired { ring = left_at now on.here.wired.ring } } in
           let has = done.opens infos left queues (record {
             station = on.opened.wired.station;
             wire = record { ring = c.reclaim.ensures.ring ∙ ap (left_at now) on.opened.wired.wire.ring; free = c.reclaim.ensures.free ∙ on.opened.wired.wire.free };
           }) in
           let here : HasOpened (interrupted card packets infos now on.here) on.here c.in_ok-times.field-0 c.open_while_room.new.self =
-              subst (λ (k : Card). HasOpened (interrupted k packets infos now on.here) on.here c.in_ok-times.field-0 c.open_while_room.new.self) (c.reclaim.ensures.card ∙ inv.card)
-              (record { wired = has.wired; times = has.times }) in
-          (at.0 - 1, omega arith, goes-next card packets infos c.args.until now at.0 c.loop-interrupt.times c.in_ok-times.field-0 (all_interrupted card packets infos (due_by c.args.until) o) o c.loop-interrupt.self
-          c.open_while_room.new.self on some comes here);
+          subst (λ (k : Card). HasOpened (interrupted k packets infos now on.here) on.here c.in_ok-times.field-0 c.open_while_room.new.self) (c.reclaim.ensures.card ∙ inv.card)
+          (record { wired = has.wired; times = has.times }) in (
+            at.0 - 1,
+            omega arith,
+            goes-next card packets infos c.args.until now at.0 c.loop-interrupt.times c.in_ok-times.field-0 (all_interrupted card packets infos (due_by c.args.until) o) o c.loop-interrupt.self
+                c.open_while_room.new.self on some comes here,
+          );
       count = omega arith;
       load = omega arith;
       bypass = done.bypass ∙ inv.bypass;

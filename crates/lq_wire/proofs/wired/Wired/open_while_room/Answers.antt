@@ -1,4 +1,4 @@
-use Rattle.std.proofs.Common.{◌≡◌, ◌+◌, ◌-◌, ◌<◌, ◌≤◌, ◌&&◌, ℕ, Bool, true, false, cond, length, refl, sym, ap, subst, ◌∙◌, arith}
+use Rattle.std.proofs.Common.{◌≡◌, ◌+◌, ◌-◌, ◌<◌, ◌≤◌, ◌&&◌, Bool, true, false, cond, length, refl, sym, ap, subst, ◌∙◌, arith}
 use Rattle.lq_model.specs.Account.{held}
 use Rattle.lq_model.specs.Alone.{opened, served}
 use Rattle.lq_model.specs.Wire.{has_room, is_shut, opened_at}
@@ -15,9 +15,11 @@ pub loop-turn-init : goal.loop-turn-init
 loop-turn-init g c =
     let few = stops-few c.args.self.now.station.stopped in record {
       on = λ infos o queues wired.
-          let is = c.held-turn-end.ensures.held o.wired.station wired.station in let count = c.held-turn-end.ensures.count in
-          (length (held o.wired.station.account) + 1, omega arith,
-          opens-first c.args.self.now.wire.card (g.F.Frames.packets c.args.frames.now) infos c.args.now (length (held o.wired.station.account) + 1) o c.args.self.now wired);
+          let is = c.held-turn-end.ensures.held o.wired.station wired.station in let count = c.held-turn-end.ensures.count in (
+            length (held o.wired.station.account) + 1,
+            omega arith,
+            opens-first c.args.self.now.wire.card (g.F.Frames.packets c.args.frames.now) infos c.args.now (length (held o.wired.station.account) + 1) o c.args.self.now wired,
+          );
       count = omega arith;
       load = refl;
       bypass = refl;
