@@ -2,3 +2,5 @@
 pub mod Often
 -- the run of one sender beside a card
 pub mod Beside
+-- the frames of a wire, one after the other
+pub mod InTurn

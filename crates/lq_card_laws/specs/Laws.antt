@@ -1,10 +1,11 @@
 -- What a card on a wire does to its station.
-use Rattle.std.specs.Prelude.{◌≡◌, ◌<◌, ℕ, zero, suc, true, false, List, [], ◌∷◌, Some, slice_get}
+use Rattle.std.specs.Prelude.{◌≡◌, ◌<◌, ◌+◌, max, ℕ, zero, suc, true, false, List, [], ◌∷◌, Some, slice_get}
 use Rattle.lq_model.specs.Alone.{RunningStation, after_packets, new_stations, opened, served}
 use Rattle.lq_model.specs.Capture.{Packets}
 use Rattle.lq_model.specs.Plan.{Plan, band_in, is_at, is_swap_kind, queue_in, station_in}
-use Rattle.lq_model.specs.Wire.{Wired, after_wired, first_wired, openings_of_card, turned, wired_with}
+use Rattle.lq_model.specs.Wire.{Wired, after_wired, first_wired, flights_of_card, openings_of_card, turned, wire_time, wired_with}
 use Rattle.lq_model.specs.declared.fate.Info.{Info}
+use Rattle.lq_model.specs.declared.flight.Flight.{Flight}
 use Rattle.lq_model.specs.declared.plan.Card.{Card}
 use Rattle.lq_model.specs.declared.plan.EventPlan.{EventPlan}
 use Rattle.lq_model.specs.declared.plan.StationPlan.{StationPlan}
@@ -42,3 +43,14 @@ abbrev pub RunsBeside : Type 0
 RunsBeside = (card : Card) (plan : Plan) (packets : Packets) (infos : List Info) (station : StationPlan) → FitsCard plan infos station
     → (n : ℕ) → n < packets.count
     → after_packets plan infos (openings_of_card card plan packets infos) (λ m. true) (new_stations 0 plan.stations) n ≡ (after_wired card plan packets infos (first_wired station) n).station ∷ []
+
+-- each frame begins when it is accepted, or when the frame before it ends, whichever is later, and takes the time of its bytes; before the first one the wire is free
+-- from a moment on
+abbrev pub AreInTurn : Card → ℕ → List Flight → Type 0
+AreInTurn card free [] = Unit {0}
+AreInTurn card free (flight ∷ flights) =
+    (flight.begins ≡ max flight.accepted free) × (flight.ends ≡ flight.begins + wire_time card flight.length) × AreInTurn card flight.ends flights
+
+-- so the wire has never two frames at once, and doesn't wait while an accepted one is there
+abbrev pub NeverTwoAtOnce : Type 0
+NeverTwoAtOnce = (card : Card) (plan : Plan) (packets : Packets) (infos : List Info) → AreInTurn card 0 (flights_of_card card plan packets infos)

@@ -1,7 +1,7 @@
 //! Laws of a card on a wire.
 #![tactic(auto)]
 
-ghost use Rattle.lq_card_laws.specs.Laws.{OpensSoOften, RunsBeside};
+ghost use Rattle.lq_card_laws.specs.Laws.{NeverTwoAtOnce, OpensSoOften, RunsBeside};
 
 /// Behind a packet the station of a card was opened and served just as often as the openings that are counted, and else nothing was done to it.
 pub fn card_opens_so_often()
@@ -11,4 +11,9 @@ pub fn card_opens_so_often()
 /// In a plan of one station, the station that a card opens is that of the run of one sender whose queues are opened as the card opens them.
 pub fn card_runs_beside()
     ensures { RunsBeside }
+{}
+
+/// The frames of a card are on its wire one after the other: each begins when it is accepted, or when the frame before it ends, whichever is later.
+pub fn never_two_frames_at_once()
+    ensures { NeverTwoAtOnce }
 {}
