@@ -9,8 +9,8 @@ use Rattle.lq_model.specs.declared.fate.Info.{Info}
 use Rattle.lq_host.specs.Host.{HostState, filed, wrote}
 use Rattle.lq_pcapng.specs.File.{packets_of_file, text_of}
 use Rattle.lq_pcapng.specs.declared.file.CaptureFile.{CaptureFile}
-use Rattle.lq_tap_fates.specs.Texts.{tap_counts_line, tap_fates_text}
-use Rattle.lq_tap_fates.specs.declared.fate.TapFate.{TapFate}
+use Rattle.lq_fates.specs.TapTexts.{tap_counts_line, tap_fates_text}
+use Rattle.lq_fates.specs.declared.tap_fate.TapFate.{TapFate}
 use Rattle.lq_files.specs.Groups.{group_files}
 use Rattle.lq_files.specs.RunFiles.{Run, counts_output, fates_name, unit_files, texts_of}
 use Rattle.lq_files.specs.TapFiles.{read_name, tap_texts_of}

@@ -4,7 +4,7 @@ use Rattle.std.specs.Borrow.{Bor}
 use Rattle.std.specs.List.{list_all}
 use Rattle.std.specs.Str.{bytes_eq}
 use Rattle.lq_run_core.specs.Schedule.{number_in}
-use Rattle.lq_tap_fates.specs.Fates.{IsTapWithin}
+use Rattle.lq_fates.specs.Tap.{IsTapWithin}
 use Rattle.lq_files.specs.declared.command.Command.{Command}
 use Rattle.lq_files.specs.declared.command.Command.TheVariants.{Run, Gen, Trace, Tap}
 use Rattle.lq_files.specs.declared.command.RunOperands.{RunOperands}

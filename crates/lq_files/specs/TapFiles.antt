@@ -2,8 +2,8 @@
 use Rattle.std.specs.Prelude.{ℕ, List, [], ◌∷◌, ◌++◌, codes}
 use Rattle.lq_pcapng.specs.File.{text_of}
 use Rattle.lq_pcapng.specs.declared.file.CaptureFile.{CaptureFile}
-use Rattle.lq_tap_fates.specs.Texts.{tap_fates_text, tap_counts_line}
-use Rattle.lq_tap_fates.specs.declared.fate.TapFate.{TapFate}
+use Rattle.lq_fates.specs.TapTexts.{tap_fates_text, tap_counts_line}
+use Rattle.lq_fates.specs.declared.tap_fate.TapFate.{TapFate}
 use Rattle.lq_files.specs.RunFiles.{fates_name}
 use Rattle.lq_files.specs.Written.{Texts}
 

@@ -4,7 +4,7 @@ use lq_fates::Fates;
 use lq_model::Info;
 use lq_pcapng::CaptureFile;
 use lq_plan::Plan;
-use lq_tap_fates::TapFate;
+use lq_fates::TapFate;
 
 /// A run before it begins: the name that its files will begin with, its plan and its capture.
 #[derive(Clone, Copy)]

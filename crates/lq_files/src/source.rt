@@ -6,7 +6,7 @@ ghost use Rattle.lq_files.specs.Parts.{lines_from, packets_from};
 use lq_fates::{Fates, push_fate_line};
 use lq_model::NoMemory;
 use lq_pcapng::CaptureFile;
-use lq_tap_fates::{TapFate, push_tap_fate_line};
+use lq_fates::{TapFate, push_tap_fate_line};
 use std::marker::Sync;
 
 /// A text of numbered pieces, of which threads may make some each.
@@ -87,7 +87,7 @@ pub struct TapLines<'a> {
 
 impl<'a> Source for TapLines<'a> {
     ghost use Rattle.std.specs.Prelude.{⊤};
-    ghost use Rattle.lq_tap_fates.specs.Texts.{tap_fate_words};
+    ghost use Rattle.lq_fates.specs.TapTexts.{tap_fate_words};
 
     ghost count = { λ l. length l.fates.now };
 

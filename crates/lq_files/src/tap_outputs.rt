@@ -2,7 +2,7 @@
 ghost use Rattle.std.specs.Prelude.{◌≡◌, ◌<◌, ◌⊎◌, All, IfOk, OnErr, OnOk, string_bytes};
 ghost use Rattle.lq_host.specs.Host.{filed, wrote};
 ghost use Rattle.lq_pcapng.specs.File.{packets_of_file, text_of};
-ghost use Rattle.lq_tap_fates.specs.Texts.{tap_counts_line};
+ghost use Rattle.lq_fates.specs.TapTexts.{tap_counts_line};
 ghost use Rattle.lq_files.specs.RunFiles.{fates_name};
 ghost use Rattle.lq_files.specs.Stop.{StopsFor};
 ghost use Rattle.lq_files.specs.Reports.{tap_texts};
@@ -14,7 +14,7 @@ use crate::report::TapReport;
 use crate::source::{Packets, TapLines};
 use crate::write::{write_fates, write_output, write_packets_file};
 use lq_host::Host;
-use lq_tap_fates::{TapFate, tap_total_line};
+use lq_fates::{TapFate, tap_total_line};
 use std::alloc::{AllocError, Global};
 use std::marker::Sync;
 use std::thread::Threads;

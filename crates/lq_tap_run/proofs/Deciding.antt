@@ -11,9 +11,9 @@ use Rattle.lq_tap.specs.Settled.{IsSettled}
 use Rattle.lq_tap.specs.Views.{Setup, View}
 use Rattle.lq_tap.specs.declared.shared.Tap.{Tap}
 use Rattle.lq_tap.specs.declared.shared.TapSeat.{TapSeat}
-use Rattle.lq_tap_fates.specs.Fates.{IsFateOf, IsFullTapFate, IsTapRun, is_full_tap, is_lost, is_read, put_count}
-use Rattle.lq_tap_fates.specs.declared.fate.TapFate.{TapFate}
-use Rattle.lq_tap_fates.specs.declared.fate.TapFate.TheVariants.{Read, Full, Lost}
+use Rattle.lq_fates.specs.Tap.{IsFateOf, IsFullTapFate, IsTapRun, is_full_tap, is_lost, is_read, put_count}
+use Rattle.lq_fates.specs.declared.tap_fate.TapFate.{TapFate}
+use Rattle.lq_fates.specs.declared.tap_fate.TapFate.TheVariants.{Read, Full, Lost}
 use Rattle.lq_tap_run.specs.Lanes.{brought_by_lane, numbers_of, one_where}
 use Rattle.lq_tap_run.specs.Marks.{AreMarked, IsMarked}
 use Rattle.lq_tap_run.specs.Reads.{HasRead}

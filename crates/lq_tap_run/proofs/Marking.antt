@@ -6,8 +6,8 @@ use Rattle.std.proofs.lemmas.List.Elements.{Contains-append_left, Contains-push}
 use Rattle.std.proofs.lemmas.Option.{same_Some, slice_get-get_or}
 use Rattle.lq_account_laws.proofs.Lists.{get-push-cases, get-push-new, get-push-old}
 use Rattle.lq_band_laws.specs.Times.{times}
-use Rattle.lq_tap_fates.specs.declared.fate.TapFate.{TapFate}
-use Rattle.lq_tap_fates.specs.declared.fate.TapFate.TheVariants.{Read, Full, Lost}
+use Rattle.lq_fates.specs.declared.tap_fate.TapFate.{TapFate}
+use Rattle.lq_fates.specs.declared.tap_fate.TapFate.TheVariants.{Read, Full, Lost}
 use Rattle.lq_tap_run.specs.Lanes.{numbers_of, one_where}
 use Rattle.lq_tap_run.specs.Marks.{AreMarked, AreMarkedFull, IsMarked, IsMarkedFull}
 use Rattle.lq_tap_run.proofs.Bringing.{numbers_more, times_more}

@@ -1,8 +1,8 @@
 -- Which fates are known.
 use Rattle.std.specs.Prelude.{◌≡◌, ℕ, List, length, slice_get, Some, Contains}
 use Rattle.lq_band_laws.specs.Times.{times}
-use Rattle.lq_tap_fates.specs.declared.fate.TapFate.{TapFate}
-use Rattle.lq_tap_fates.specs.declared.fate.TapFate.TheVariants.{Read, Full, Lost}
+use Rattle.lq_fates.specs.declared.tap_fate.TapFate.{TapFate}
+use Rattle.lq_fates.specs.declared.tap_fate.TapFate.TheVariants.{Read, Full, Lost}
 use Rattle.lq_tap_run.specs.Lanes.{numbers_of}
 
 -- a packet that wasn't found full has no fate yet, which the fate of a lost one stands for

@@ -5,7 +5,7 @@ use Rattle.lq_tap.specs.Views.{counting}
 use Rattle.lq_tap.specs.declared.shared.Tap.{Tap}
 use Rattle.lq_tap.specs.declared.shared.TapSeat.{TapSeat}
 use Rattle.lq_tap.specs.Settled.{IsSettled}
-use Rattle.lq_tap_fates.specs.declared.fate.TapFate.{TapFate}
+use Rattle.lq_fates.specs.declared.tap_fate.TapFate.{TapFate}
 use Rattle.lq_tap_run.specs.Lanes.{brought_by_lane, one_where}
 use Rattle.lq_tap_run.specs.Marks.{AreMarked}
 

@@ -9,5 +9,5 @@ mod run;
 mod shared;
 
 pub use lq_gate::{Free, Gate};
-pub use lq_tap_fates::TapFate;
+pub use lq_fates::TapFate;
 pub use run::{Tapped, tap_all};

@@ -6,9 +6,9 @@ use Rattle.std.proofs.lemmas.Option.{slice_get-get_or, slice_get_within}
 use Rattle.lq_host.specs.Host.{HostState, Contents}
 use Rattle.lq_model.specs.Device.{DeviceState}
 use Rattle.lq_pcapng.specs.declared.file.CaptureFile.{CaptureFile}
-use Rattle.lq_tap_fates.specs.Fates.{IsTapRun}
-use Rattle.lq_tap_fates.specs.declared.fate.TapFate.{TapFate}
-use Rattle.lq_tap_fates.specs.declared.fate.TapFate.TheVariants.{Read}
+use Rattle.lq_fates.specs.Tap.{IsTapRun}
+use Rattle.lq_fates.specs.declared.tap_fate.TapFate.{TapFate}
+use Rattle.lq_fates.specs.declared.tap_fate.TapFate.TheVariants.{Read}
 use Rattle.lq_files.specs.Command.{OfTap, TapWords}
 use Rattle.lq_top.specs.Decision.{Verdict, Taps, if_accepted, verdict_of_command}
 use Rattle.lq_files.specs.Accepted.{limited_capture_of}

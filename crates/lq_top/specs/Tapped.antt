@@ -3,8 +3,8 @@ use Rattle.std.specs.Prelude.{◌≡◌, ◌⊎◌, ℕ, List}
 use Rattle.lq_host.specs.Host.{HostState}
 use Rattle.lq_pcapng.specs.File.{packets_of_file}
 use Rattle.lq_pcapng.specs.declared.file.CaptureFile.{CaptureFile}
-use Rattle.lq_tap_fates.specs.Fates.{IsTapRun}
-use Rattle.lq_tap_fates.specs.declared.fate.TapFate.{TapFate}
+use Rattle.lq_fates.specs.Tap.{IsTapRun}
+use Rattle.lq_fates.specs.declared.tap_fate.TapFate.{TapFate}
 use Rattle.lq_files.specs.Command.{TapWords}
 use Rattle.lq_files.specs.Written.{IsCut, written}
 use Rattle.lq_files.specs.TapFiles.{tap_texts_of}

@@ -1,7 +1,7 @@
 //! The command `tap`: a capture through one ring, whose reader gives back what it doesn't read.
 ghost use Rattle.std.specs.Prelude.{◌≡◌, [], ℕ, List, IfOk, IfSome, OnErr, OnOk, Some};
 ghost use Rattle.lq_model.specs.Device.{DeviceState};
-ghost use Rattle.lq_tap_fates.specs.Fates.{IsTapWithin};
+ghost use Rattle.lq_fates.specs.Tap.{IsTapWithin};
 ghost use Rattle.lq_files.specs.Command.{OfTap, tap_words};
 ghost use Rattle.lq_top.specs.Decision.{verdict_of_command};
 ghost use Rattle.lq_top.specs.Names.{MayDo};

@@ -1,6 +1,6 @@
 use Rattle.std.proofs.Common.{◌<◌, ℕ, List, All, subst, sym}
 use Rattle.lq_pcapng.specs.File.{packets_of_file}
-use Rattle.lq_tap_fates.specs.Fates.{IsTapRun}
+use Rattle.lq_fates.specs.Tap.{IsTapRun}
 use Rattle.lq_files.specs.Command.{tap_words}
 use Rattle.lq_files.proofs.MoveLemmas.{on_err_any}
 use Rattle.lq_top.proofs.TapLemmas.{has_cut, read_below}

@@ -1,4 +1,4 @@
-use Rattle.lq_tap_fates.specs.Texts.{tap_fate_words}
+use Rattle.lq_fates.specs.TapTexts.{tap_fate_words}
 use Rattle.lq_files.proofs.PieceLemmas.{lines_end}
 use Rattle.lq_files.proofs.source.TapLinesSource.len.Goals as goal
 

@@ -1,5 +1,5 @@
 use Rattle.std.proofs.lemmas.Result.{on_ok_weaker}
-use Rattle.lq_tap_fates.specs.Texts.{tap_fate_words}
+use Rattle.lq_fates.specs.TapTexts.{tap_fate_words}
 use Rattle.lq_files.proofs.PieceLemmas.{line_next}
 use Rattle.lq_files.proofs.source.TapLinesSource.push_piece.Goals as goal
 

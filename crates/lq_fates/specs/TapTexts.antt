@@ -2,9 +2,9 @@
 use Rattle.std.specs.Prelude.{ℕ, List, [], ◌∷◌, ◌++◌, length, count_by, codes}
 use Rattle.std.specs.List.{enumerate_from, flat_map}
 use Rattle.std.specs.Fmt.{decimal}
-use Rattle.lq_tap_fates.specs.Fates.{is_full_tap, is_lost, is_read}
-use Rattle.lq_tap_fates.specs.declared.fate.TapFate.{TapFate}
-use Rattle.lq_tap_fates.specs.declared.fate.TapFate.TheVariants.{Read, Full, Lost}
+use Rattle.lq_fates.specs.Tap.{is_full_tap, is_lost, is_read}
+use Rattle.lq_fates.specs.declared.tap_fate.TapFate.{TapFate}
+use Rattle.lq_fates.specs.declared.tap_fate.TapFate.TheVariants.{Read, Full, Lost}
 
 abbrev pub tap_fate_words : TapFate → List ℕ
 tap_fate_words (Read place) = codes " read " ++ (decimal place ++ 10 ∷ [])

@@ -1,11 +1,11 @@
 //! The lines that tell the fates of a tap's packets.
 ghost use Rattle.std.specs.Prelude.{◌≡◌, ◌++◌, IfOk, OnOk, count_by};
 ghost use Rattle.std.specs.Fmt.{decimal};
-ghost use Rattle.lq_tap_fates.specs.Fates.{is_full_tap, is_lost, is_read};
-ghost use Rattle.lq_tap_fates.specs.Texts.{tap_fate_words, tap_counts_line};
+ghost use Rattle.lq_fates.specs.Tap.{is_full_tap, is_lost, is_read};
+ghost use Rattle.lq_fates.specs.TapTexts.{tap_fate_words, tap_counts_line};
 
-use crate::fate::TapFate;
-use lq_fates::{push_bytes, push_counted, push_number};
+use crate::tap_fate::TapFate;
+use crate::text::{push_bytes, push_counted, push_number};
 use lq_model::NoMemory;
 use std::alloc::Global;
 

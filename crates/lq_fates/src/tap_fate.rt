@@ -1,6 +1,6 @@
 //! What becomes of a packet of a tap.
 ghost use Rattle.std.specs.Prelude.{◌≡◌};
-ghost use Rattle.lq_tap_fates.specs.Fates.{is_full_tap, is_lost, is_read};
+ghost use Rattle.lq_fates.specs.Tap.{is_full_tap, is_lost, is_read};
 
 /// What became of a packet that a sender brought to the ring.
 #[derive(Clone, Copy, Debug, PartialEq, Eq)]

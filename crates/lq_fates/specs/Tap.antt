@@ -1,8 +1,8 @@
 -- What becomes of a tap's packets, read off a list that has the fate of packet n at place n.
 use Rattle.std.specs.Prelude.{◌≡◌, ◌≢◌, ◌↔◌, ◌<◌, ◌≤◌, ℕ, ◌-◌, ◌%◌, Bool, true, false, not, List, length, count_by, slice_get, Some, AllPairs}
 use Rattle.lq_model.specs.Band.{batch}
-use Rattle.lq_tap_fates.specs.declared.fate.TapFate.{TapFate}
-use Rattle.lq_tap_fates.specs.declared.fate.TapFate.TheVariants.{Read, Full, Lost}
+use Rattle.lq_fates.specs.declared.tap_fate.TapFate.{TapFate}
+use Rattle.lq_fates.specs.declared.tap_fate.TapFate.TheVariants.{Read, Full, Lost}
 
 -- FATES
 

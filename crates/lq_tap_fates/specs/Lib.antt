@@ -1,4 +1,0 @@
--- the fates of a tap's packets, and what they may be
-pub mod Fates
--- the lines that tell them
-pub mod Texts
