@@ -63,7 +63,8 @@ def make_module(tools, kernel, room, name):
     shutil.copy(HERE / f"{name}.c", room)
     (room / "Makefile").write_text(f"obj-m := {name}.o\n", encoding="utf-8")
     # type information of modules would need one more package
-    run(["make", "-s", "-C", str(kernel.headers()), f"M={room}", "CONFIG_DEBUG_INFO_BTF_MODULES=", *kernel.compiler(), "modules"], environment=tools.environment())
+    run(["make", "-s", "-C", str(kernel.headers()), f"M={room}", "CONFIG_DEBUG_INFO_BTF_MODULES=", *kernel.compiler(), "modules"],
+        environment=tools.environment())
     return (room / f"{name}.ko").read_bytes()
 
 
