@@ -49,7 +49,7 @@ BREAKS = [
     _break("no-look-under-the-lock", THREE, True, ("__dev_xmit_skb", r"if \(unlikely\(!nolock_qdisc_is_empty\(q\)\)\)", "if (0)")),
     _break("run-end-clears-missed", THREE, True, ("qdisc_run_end", r"unlikely\(test_bit\(", "unlikely(test_and_clear_bit(")),
     _break("no-look-after-a-direct-transmit", {}, False, ("__dev_xmit_skb", r"&&\s*!nolock_qdisc_is_empty\(q\)\)\s*__qdisc_run", "&& 0) __qdisc_run")),
-    _break("sched-cleared-after-the-run", {}, True, ("net_tx_action", r"clear_bit\(__QDISC_STATE_SCHED, &q->state\);\s*qdisc_run\(q\);", "qdisc_run(q); clear_bit(__QDISC_STATE_SCHED, &q->state);")),
+    _break("sched-cleared-after-the-run", {}, True, ("net_tx_action", r"clear_bit\(__QDISC_STATE_SCHED, &q->state\);(\s*(?:to_free = )?qdisc_run\(q\);)", r"\1 clear_bit(__QDISC_STATE_SCHED, &q->state);")),
     _break("missed-kept-where-stopped", STOP, False, ("qdisc_maybe_clear_missed", r"clear_bit\([^)]*\);", ";")),
     _break("wake-without-schedule", STOP, True, ("netif_tx_wake_queue", r"__netif_schedule\(q\);", ";")),
     _break("wake-schedules-before-it-opens", STOP, True, ("netif_tx_wake_queue", r"if \(test_and_clear_bit\(([^)]*)\)\) \{", r"if (netif_tx_queue_stopped(dev_queue)) {"),
@@ -76,7 +76,7 @@ class Order(NamedTuple):
 
 MODELS = ("x86", "weak")
 _BARRIER = r"smp_mb__after_atomic\(\);"
-ADDED = Change("net_tx_action", r"(clear_bit\(__QDISC_STATE_SCHED, &q->state\);)(\s*qdisc_run\(q\);)", r"\1 smp_mb__after_atomic();\2")
+ADDED = Change("net_tx_action", r"(clear_bit\(__QDISC_STATE_SCHED, &q->state\);)(\s*(?:to_free = )?qdisc_run\(q\);)", r"\1 smp_mb__after_atomic();\2")
 STOP_ONLY = {**NO_BYPASS, **STOP}
 BUSY_ONLY = {**NO_BYPASS, "busy": 1}
 IN_MODELS = (NO_BYPASS, {}, BUSY_ONLY, STOP_ONLY)  # where a text is searched in a model of memory, unless a size is named
