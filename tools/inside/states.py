@@ -13,7 +13,7 @@ def applies(size):
 def settled(m, i, bypass):
     """The steps that no operation of the text is are taken with the one before."""
     for name in ("enter", "check", "leave"):
-        if m.seats[i].position[0] == name and (name != "check" or not bypass):
+        if m.seats[i].at == name and (name != "check" or not bypass):
             m = machine.step(m, i)
     return m
 
@@ -22,7 +22,7 @@ def moves(state, values):
     """What may come next: the machine, the seat that moved, and what may still come."""
     m, sent, wakes, stops, busy = state
     for i, seat in enumerate(m.seats):
-        name = seat.position[0]
+        name = seat.at
         if name == "idle":
             if sent[i] < values["sends"] and sum(sent) < (values["total"] or MANY):
                 rest = (sent[:i] + (sent[i] + 1,) + sent[i + 1 :], wakes, stops, busy)
@@ -40,24 +40,13 @@ def moves(state, values):
             yield machine.step(m, i, "busy"), i, (sent, wakes, stops, busy - 1)
 
 
-def without_bands(it):
-    """A position with packets as numbers: the band of one that was put or taken is of no use any more."""
-    if isinstance(it, machine.Packet):
-        return it.number
-    return tuple(map(without_bands, it)) if isinstance(it, tuple) else it
-
-
 def forgotten(m):
-    """The machine without what nobody reads: how many were sent, and of each seat its run, the packet that it has put, and bands."""
+    """The machine without what nobody reads: how many were sent, of each seat its run, and bands of packets that were put or taken."""
 
-    def seat(it):
-        name = it.position[0]
-        if name in ("try1", "miss", "try2") and it.position[1][0] == "queued":
-            return it._replace(run=0, position=(name, ("queued",)))
-        needs_band = name in ("check", "put", "recheck", "try1", "miss", "try2")
-        return it._replace(run=0, position=it.position if needs_band else without_bands(it.position))
+    def number(packet):
+        return packet and packet.number
 
-    return m._replace(qdisc=m.qdisc._replace(sent=0, slot=without_bands(m.qdisc.slot)), seats=tuple(map(seat, m.seats)))
+    return m._replace(qdisc=m.qdisc._replace(sent=0, slot=number(m.qdisc.slot)), seats=tuple(it._replace(run=0, packet=number(it.packet)) for it in m.seats))
 
 
 def count(size):

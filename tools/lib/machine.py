@@ -1,20 +1,18 @@
 """A small model of the machine of the run lock, as the schedules of `lqtx trace` work it: one station with one queue.
 
-It is not proved, and nothing that is proved rests on it. `tools/compare PROGRAM` compares it with the program's `trace`.
-What it has beside the program is every step, and the machine with one of six mistakes that were once made: the first form, without
-MISSED, and the five of crates/lq_run_core/specs/Mistakes.antt. These change what a step does and not how many steps there are, so that an
+Its steps are those of tools/orders/steps.h, translated, with numbered packets. It is not proved, and nothing that is proved rests on it. `tools/compare PROGRAM`
+compares it with the program's `trace`. What it has beside the program is every step, and the machine with one of six mistakes that were once made: the first
+form, without MISSED, and the five of crates/lq_run_core/specs/Mistakes.antt. A mistake changes what a step does and not how many steps there are, so that an
 order of steps means the same on both machines.
 """
+import functools
 from typing import NamedTuple, Optional
 
-MISTAKES = {
-    "begin_sets_no_missed": "the machine before MISSED: a sender that found the run lock held leaves",
-    "end_looks_before_it_releases": "run end goes by what MISSED was before the release of the run lock",
-    "begin_gives_up_after_one_try": "a sender that found the run lock held sets MISSED and doesn't try again",
-    "missed_cleared_after_the_second_look": "MISSED and DRAINING are cleared after the second look at the bands, and not before it",
-    "draining_set_without_looking_again": "DRAINING is set with no second look at the stop word",
-    "soft_interrupt_gives_up_when_deactivated": "a soft interrupt that loaded DEACTIVATED clears SCHED and leaves, and no deactivation waits for it, as Linux's does (--waits 1)",
-}
+from orders import python
+from orders import text as steps_text
+
+# the first six of edits.txt
+MISTAKES = {name: it.about for name, it in list(steps_text.edits().items())[:6]}
 MOST = 18446744073709551615
 QUOTA = 64
 
@@ -61,15 +59,24 @@ class Qdisc(NamedTuple):
 
 
 class Seat(NamedTuple):
-    """Where a seat stands: the name of its next step, and what it remembers there."""
+    """Where a seat stands, which is what it does next, and what it remembers there: as the seat of tools/orders/state.h, with its packet."""
 
-    position: tuple = ("idle",)
+    at: str = "idle"
     raised: bool = False
+    band: int = 0
+    queue: int = 0
+    how: int = 0
     run: int = 0
+    second: bool = False
+    taken: bool = False
+    hung: bool = False
+    was: bool = False
+    found: bool = False
+    packet: Optional[Packet] = None
 
     @property
     def name(self):
-        return " ".join(["scan", str(self.position[1]), "second" if self.position[2] else "first"]) if self.position[0] == "scan" else self.position[0]
+        return f"{self.at} {'second' if self.second else 'first'}" if self.at.startswith("scan") else self.at
 
 
 class Machine(NamedTuple):
@@ -88,140 +95,132 @@ def batch(length):
     return 16 if length >= 32 else 1
 
 
-# WHAT ONE STEP DOES
+# WHAT ONE STEP DOES: tools/orders/steps.h says it, in C
 
 
-def gives_up(attempt):
-    """The answer of a run begin is no: a packet that would go past the bands is put into its band."""
-    return ("put", attempt[1], False) if attempt[0] == "direct" else ("leave",)
+class Ring:
+    """A band's packets, first to last."""
+
+    __slots__ = ("packets",)
+
+    def __init__(self, packets):
+        self.packets = list(packets)
+
+    @property
+    def held(self):
+        return len(self.packets)
 
 
-def try_lock(attempt, otherwise, q, s):
-    if q.locked:
-        return q, s._replace(position=otherwise)
-    q = q._replace(locked=True)
-    return (q, s._replace(position=("recheck", attempt[1]))) if attempt[0] == "direct" else (q, s._replace(position=("deq",), run=0))
+class Words:
+    """What the seats share, by the names of steps.h."""
+
+    def __init__(self, q):
+        self.SCHED = self.listed = q.sched
+        self.DEACTIVATED, self.MISSED, self.DRAINING, self.seqlock, self.inside = q.deactivated, q.missed, q.draining, q.locked, q.inside
+        self.slot, self.gso_skb, self.gso_queue, self.hand, self.noop = q.slot, q.slot is not None, 0, 0, 0
+        self.xoff, self.ring = [q.xoff], [Ring(it) for it in q.bands]
 
 
-def after_sent(direct, s):
-    return ("post",) if direct else ("quota",) if s.run == QUOTA else ("deq",)
+class Place:
+    """A seat, for its step to change."""
+
+    def __init__(self, seat):
+        self.__dict__.update(seat._asdict())
 
 
-def with_band(q, band, packets):
-    return q._replace(bands=q.bands[:band] + (packets,) + q.bands[band + 1 :])
+class Lost(Exception):
+    """A step that must not come: it loses a packet, or calls a device that is stopped."""
 
 
-def requeue(blocked, q):
-    """A packet in hand goes to the requeue slot."""
-    return (q._replace(slot=blocked[1]), ("again",)) if blocked[0] == "hand" else (q, ("unlock",))
+def lost(words):
+    raise Lost(words)
 
 
-def step_at(q, s, answer, mistake):
-    """The words and the seat after its step; crates/lq_model/specs/Steps.antt, `step_at`, by positions."""
-    name, *of = s.position
+said = ""  # what the last step did, in words
 
-    def to(*position, q=q, **seat):
-        return q, s._replace(position=position, **seat)
 
-    if name == "enter":
-        return to(*(("check", of[0][1]) if of[0][0] == "transmit" else ("soft",)), q=q._replace(inside=q.inside + 1))
-    if name == "check":
-        if q.deactivated:
-            return to("leave")
-        return to("try1", ("direct", of[0])) if q.bypass and not q.non_empty else to("put", of[0], False)
-    if name == "put":
-        packet, holds = of
-        if answer == "plain":
-            q = with_band(q, packet.band, q.bands[packet.band] + (packet,))
-        elif answer == "full":
-            q = q._replace(full=min(q.full + 1, MOST))
-        return to("deq", q=q, run=0) if holds else to("try1", ("queued", packet), q=q)
-    if name == "try1":
-        return try_lock(of[0], gives_up(of[0]) if mistake == "begin_sets_no_missed" else ("miss", of[0]), q, s)
-    if name == "miss":
-        return to(*gives_up(of[0])) if q.missed else to("try2", of[0], q=q._replace(missed=True))
-    if name == "try2":
-        if mistake == "begin_gives_up_after_one_try":
-            return to(*gives_up(of[0]))
-        return try_lock(of[0], gives_up(of[0]), q, s)
-    if name == "recheck":
-        return to("put", of[0], True) if q.non_empty else to("gate", of[0], True)
-    if name == "gate":
-        return to("xmit", *of) if q.xoff == 0 else to("cclear", ("hand", *of))
-    if name == "xmit":
-        packet, direct = of
-        if answer == "busy":
-            return to("again", q=q._replace(slot=packet))
-        q, s = q._replace(sent=min(q.sent + 1, MOST)), s._replace(run=min(s.run + 1, QUOTA))
-        return q, s._replace(position=after_sent(direct, s) if answer == "plain" else ("stop", answer == "hang", direct))
-    if name == "stop":
-        return to(*after_sent(of[1], s), q=q._replace(xoff=2 if of[0] else 1))
-    if name == "post":
-        return to("deq", run=0) if q.non_empty else to("unlock")
-    if name == "deq":
-        if q.xoff:
-            return to("cclear", ("none",))
-        return to("gate", q.slot, False, q=q._replace(slot=None)) if q.slot else to("scan", 0, False)
-    if name == "scan":
-        band, second = of
-        if q.bands[band]:
-            return to("gate", q.bands[band][0], False, q=with_band(q, band, q.bands[band][1:]))
-        if band == 2 and second and mistake == "missed_cleared_after_the_second_look":
-            return to("unlock", "clears")
-        return to("scan", band + 1, second) if band < 2 else to("unlock") if second else to("test")
-    if name == "test":
-        return to("clearm") if q.non_empty else to("unlock")
-    if name in ("clearm", "cleard"):
-        after = ("cleard",) if name == "clearm" else ("scan", 0, True)
-        if mistake == "missed_cleared_after_the_second_look":
-            return to(*after)
-        return to(*after, q=q._replace(missed=False) if name == "clearm" else q._replace(draining=False))
-    if name == "cclear":
-        return to("cload", of[0], q=q._replace(missed=False))
-    if name == "cload":
-        return to("cdrain" if q.xoff or mistake == "draining_set_without_looking_again" else "cmiss", of[0])
-    if name in ("cmiss", "cdrain"):
-        q, position = requeue(of[0], q._replace(missed=True) if name == "cmiss" else q._replace(draining=True))
-        return to(*position, q=q)
-    if name in ("again", "quota"):
-        return to("unlock", q=q._replace(missed=True))
-    if name == "unlock":
-        if of == ["clears"]:
-            return to("tail", True, q=q._replace(missed=False, draining=False, locked=False))
-        return to("tail", True, *of, q=q._replace(locked=False))
-    if name == "tail":
-        found = of[1] if len(of) > 1 else q.missed
-        return to("sched", of[0]) if found else to("leave" if of[0] else "idle")
-    if name == "sched":
-        return to("leave" if of[0] else "idle", q=q._replace(sched=True), raised=s.raised or not q.sched)
-    if name == "leave":
-        return to("idle", q=q._replace(inside=q.inside - 1))
-    if name == "soft":
-        return to("sclear", q.deactivated)
-    if name == "sclear":
-        q = q._replace(sched=False)
-        if of[0]:
-            return to("leave" if mistake == "soft_interrupt_gives_up_when_deactivated" else "late", q=q)
-        return to("try1", ("interrupt",), q=q)
-    if name == "late":
-        return to("leave") if q.deactivated else to("try1", ("interrupt",))
-    if name == "wake":
-        return to("sched", False, q=q._replace(xoff=0)) if q.xoff == 1 else to("idle")
-    raise ValueError(name)
+def to(place, at, words):
+    global said
+    place.at, said = at, words
+    return 1
+
+
+def forget(place):
+    place.band = place.queue = place.how = place.run = 0
+    place.second = place.taken = place.hung = place.was = place.found = False
+
+
+def ring_put(words, place):
+    words.ring[place.band].packets.append(place.packet)
+
+
+def ring_take(words, place, band):
+    place.packet = words.ring[band].packets.pop(0)
+
+
+def slot_put(words, place):
+    words.slot, words.gso_skb = place.packet, 1
+
+
+def slot_take(words, place):
+    place.packet, words.slot, words.gso_skb = words.slot, None, 0
+
+
+HOW = ("QUEUED", "DIRECT", "INTERRUPT", "WAKER", "SWAPPER")
+QUEUED, DIRECT, INTERRUPT, WAKER, SWAPPER = range(5)
+ANSWERS = {"plain": 0, "full": 1, "stop": 2, "hang": 3, "busy": 4}
+CONSTANTS = {**{it.upper(): number for it, number in ANSWERS.items()}, "STOPS": 2, "HANGS": 3, **{it: n for n, it in enumerate(HOW)}, "QUEUES": 1, "QUOTA": QUOTA, "WAITS": 0}
+
+
+@functools.lru_cache(maxsize=None)
+def steps_with(mistake):
+    """The step of each position, of the right machine or of one with a mistake, and what the steps look up: the length of a ring, and bypass."""
+    text = steps_text.STEPS.read_text(encoding="utf-8")
+    if mistake:
+        text = steps_text.edited(text, steps_text.edits()[mistake])
+    names = steps_text.names()
+    room = {**CONSTANTS, **names, "NON_EMPTY": lambda q: q.MISSED or q.DRAINING}
+    room.update({it.__name__: it for it in (to, lost, forget, ring_put, ring_take, slot_put, slot_take)})
+    exec(compile(python.python_of(text), str(steps_text.STEPS), "exec"), room)
+    return {name: room[f"step_{constant}"] for constant, name in names.items() if f"step_{constant}" in room}, room
+
+
+def frozen_words(q, words, before, answer):
+    """The shared words after a step, with what is counted beside them."""
+    sent, full = q.sent + (before == "xmit" and answer != "busy"), q.full + (before == "put" and answer == "full")
+    return Qdisc(q.len, q.bypass, bool(words.SCHED), bool(words.DEACTIVATED), bool(words.MISSED), bool(words.DRAINING), bool(words.seqlock), words.xoff[0], words.inside,
+                 tuple(tuple(it.packets) for it in words.ring), words.slot, min(sent, MOST), min(full, MOST))  # fmt: skip
+
+
+def frozen_seat(place):
+    seat = Seat(place.at, bool(place.raised), place.band, place.queue, place.how, place.run, bool(place.second), bool(place.taken), bool(place.hung), bool(place.was), bool(place.found), place.packet)
+    return seat if carries(seat) else seat._replace(packet=None)
+
+
+def stepped(m, i, answer="plain", mistake=None):
+    """The machine after a step of a seat that can do it, and what the step did, in words."""
+    steps, room = steps_with(mistake)
+    q, words, place = m.qdisc, Words(m.qdisc), Place(m.seats[i])
+    room.update(LEN=q.len, BYPASS=q.bypass, BATCH=batch(q.len))
+    before = place.at
+    steps[before](words, place, ANSWERS[answer])
+    return m.with_seat(i, frozen_words(q, words, before, answer), frozen_seat(place)), said
+
+
+def step(m, i, answer="plain", mistake=None):
+    return stepped(m, i, answer, mistake)[0]
 
 
 def why_not_step(m, i, answer):
     """Why a seat can't do its next step with this answer, or None where it can."""
     q, s = m.qdisc, m.seats[i]
-    name = s.position[0]
     if answer in ("stop", "hang", "busy"):
-        return None if name == "xmit" else f"it is at {s.name}, and only at xmit does the device answer {answer}"
-    if name == "idle":
+        return None if s.at == "xmit" else f"it is at {s.name}, and only at xmit does the device answer {answer}"
+    if s.at == "idle":
         return "it is idle: it can begin " + ", ".join(f"`{i} {it}`" for it in ["send B", "wake"] + ["softirq"] * s.raised)
-    if name == "put":
-        packet = s.position[1]
-        there = len(q.bands[packet.band])
-        room = f"it is at put, and band {packet.band} has {there} of {q.len} packets"
+    if s.at == "put":
+        there = len(q.bands[s.band])
+        room = f"it is at put, and band {s.band} has {there} of {q.len} packets"
         if answer == "plain" and there >= q.len:
             return f"{room}: write `{i} full`"
         if answer == "full" and there < q.len - batch(q.len):
@@ -230,19 +229,10 @@ def why_not_step(m, i, answer):
     return f"it is at {s.name}, and only at put can a band be full" if answer == "full" else None
 
 
-def step(m, i, answer="plain", mistake=None):
-    """The machine after a step of a seat that can do it."""
-    q, s = step_at(m.qdisc, m.seats[i], answer, mistake)
-    if mistake == "end_looks_before_it_releases" and s.position == ("unlock",):
-        # it looks at MISSED as it comes to the release
-        s = s._replace(position=("unlock", q.missed))
-    return m.with_seat(i, q, s)
-
-
 def why_not_begin(m, i, start):
     s = m.seats[i]
-    if s.position[0] != "idle":
-        return f"it is in a call, at {s.name}: it can do `{i} step K`" + (f", `{i} stop`, `{i} hang` or `{i} busy`" if s.position[0] == "xmit" else "")
+    if s.at != "idle":
+        return f"it is in a call, at {s.name}: it can do `{i} step K`" + (f", `{i} stop`, `{i} hang` or `{i} busy`" if s.at == "xmit" else "")
     if start[0] == "softirq" and not s.raised:
         return "no soft interrupt is scheduled on it: it can begin " + f"`{i} send B` or `{i} wake`"
     return None
@@ -252,9 +242,11 @@ def begin(m, i, start, number):
     """The machine after a seat has begun a call: ("send", band), ("softirq",) or ("wake",)."""
     s = m.seats[i]
     if start[0] == "send":
-        s = s._replace(position=("enter", ("transmit", Packet(number, i, start[1]))))
+        s = s._replace(at="enter", band=start[1], packet=Packet(number, i, start[1]))
+    elif start[0] == "softirq":
+        s = s._replace(at="enter", how=INTERRUPT, raised=False)
     else:
-        s = s._replace(position=("enter", ("softirq",)), raised=False) if start[0] == "softirq" else s._replace(position=("wake",))
+        s = s._replace(at="wake", how=WAKER)
     return m.with_seat(i, m.qdisc, s)
 
 
@@ -275,7 +267,7 @@ def activated(m):
 def is_over(m):
     """No call, no run, none scheduled, no stopped queue, and active: nobody comes of itself."""
     q = m.qdisc
-    return not (q.sched or q.locked or q.xoff or q.inside or q.deactivated) and all(it.position == ("idle",) and not it.raised for it in m.seats)
+    return not (q.sched or q.locked or q.xoff or q.inside or q.deactivated) and all(it.at == "idle" and not it.raised for it in m.seats)
 
 
 # SCHEDULES
@@ -349,6 +341,7 @@ class Event(NamedTuple):
     what: str  # "send 1", "softirq", "wake", "step", "full", "stop", "hang", "busy", "down", "up"
     before: Machine
     after: Machine
+    said: str = ""  # what a step did, in words: {packet} and {band} are its packet's
 
 
 def work(data):
@@ -376,8 +369,8 @@ def work(data):
             if why:
                 of = f"step {number} of {count}" if answer == "plain" else f"`{answer}`"
                 raise Fault(SEAT_WAITS, line, f"seat {seat} can't do {of}: {why}")
-            before, m = m, step(m, seat, answer)
-            yield Event(line, seat, "step" if answer == "plain" else answer, before, m)
+            before, (m, words) = m, stepped(m, seat, answer)
+            yield Event(line, seat, "step" if answer == "plain" else answer, before, m, words)
 
 
 def text_of(m, steps):
@@ -404,7 +397,7 @@ def trace(data):
 def to_the_end(m, mistake, line=0):
     """Each seat goes on to the end of its call, and soft interrupts that are scheduled come."""
     for _ in range(100000):
-        moving = next((i for i, s in enumerate(m.seats) if s.position[0] != "idle"), None)
+        moving = next((i for i, s in enumerate(m.seats) if s.at != "idle"), None)
         raised = next((i for i, s in enumerate(m.seats) if s.raised), None)
         if moving is None and raised is None:
             return
@@ -412,12 +405,10 @@ def to_the_end(m, mistake, line=0):
         if moving is None:
             m = begin(m, raised, ("softirq",), 0)
             yield Event(line, raised, "softirq", before, m)
-        elif why_not_step(m, moving, "plain"):
-            m = step(m, moving, "full", mistake)
-            yield Event(line, moving, "full", before, m)
         else:
-            m = step(m, moving, "plain", mistake)
-            yield Event(line, moving, "step", before, m)
+            answer = "full" if why_not_step(m, moving, "plain") else "plain"
+            m, words = stepped(m, moving, answer, mistake)
+            yield Event(line, moving, "step" if answer == "plain" else answer, before, m, words)
 
 
 def is_same(right, wrong):
@@ -445,11 +436,10 @@ def work_with_mistake(data, mistake):
         if with_control and event.what == "softirq" and may_deactivate(wrong):
             events.append(Event(line, None, "down", wrong, deactivated(wrong)))
             wrong = deactivated(wrong)
-        before = wrong
+        before, told = wrong, ""
         if event.what.split()[0] in ("send", "softirq", "wake"):
-            start = event.after.seats[i].position
             words = event.what.split()
-            number = start[1][1].number if words[0] == "send" else 0
+            number = event.after.seats[i].packet.number if words[0] == "send" else 0
             if why_not_begin(wrong, i, (words[0],)):
                 continue
             wrong = begin(wrong, i, (words[0], *map(int, words[1:])), number)
@@ -457,14 +447,14 @@ def work_with_mistake(data, mistake):
             answer = "plain" if event.what == "step" else event.what
             if why_not_step(wrong, i, answer):
                 continue
-            wrong = step(wrong, i, answer, mistake)
-        events.append(Event(line, i, event.what, before, wrong))
+            wrong, told = stepped(wrong, i, answer, mistake)
+        events.append(Event(line, i, event.what, before, wrong, told))
         if parted is None and not with_control and not is_same(event.after, wrong):
             parted = len(events) - 1
-        if with_control and before.seats[i].position[0] == "soft" and wrong.qdisc.deactivated:
+        if with_control and before.seats[i].at == "soft" and wrong.qdisc.deactivated:
             events.append(Event(line, None, "up", wrong, activated(wrong)))
             wrong = activated(wrong)
-        if with_control and parted is None and before.seats[i].position == ("sclear", True):
+        if with_control and parted is None and before.seats[i].at == "sclear" and before.seats[i].was:
             parted = len(events) - 1
     events += to_the_end(wrong, mistake)
     return events, parted
@@ -482,47 +472,45 @@ WAY = {
 }  # fmt: skip
 
 
-def carries(position):
-    """Whether a seat there has a packet: that of its own transmit until it is put, or the one in hand."""
-    name, *of = position
-    if name == "enter":
-        return of[0][0] == "transmit"
-    if name in ("try1", "miss", "try2"):
-        return of[0][0] == "direct"
-    if name in ("cclear", "cload", "cmiss", "cdrain"):
-        return of[0][0] == "hand"
-    return name in ("check", "put", "recheck", "gate", "xmit")
+def carries(s):
+    """Whether a seat has a packet: that of its own transmit until it is put, or the one in hand."""
+    if s.at == "enter":
+        return s.how != INTERRUPT
+    if s.at in ("try1", "miss", "try2"):
+        return s.how == DIRECT
+    if s.at in ("cclear", "cload", "cmiss", "cdrain"):
+        return s.taken
+    return s.at in ("check", "put", "recheck", "gate", "xmit")
 
 
-def has_lock(position):
-    """Whether a seat there has the run lock."""
-    return position[2] if position[0] == "put" else position[0] not in "idle enter check try1 miss try2 tail sched leave soft sclear late wake".split()
+def has_lock(s):
+    """Whether a seat has the run lock."""
+    return s.found if s.at == "put" else s.at not in "idle enter check try1 miss try2 tail sched leave soft sclear late wake".split()
 
 
-def way(q, position):
-    name, *of = position
-    if name == "enter":
-        return 15 if of[0][0] == "transmit" else 13
-    if name == "put":
-        return 7 if of[1] else 10
-    if name in ("try1", "miss", "try2"):
-        return WAY[name] + 4 * (of[0][0] == "direct")
-    if name == "deq":
+def way(q, s):
+    if s.at == "enter":
+        return 13 if s.how == INTERRUPT else 15
+    if s.at == "put":
+        return 7 if s.found else 10
+    if s.at in ("try1", "miss", "try2"):
+        return WAY[s.at] + 4 * (s.how == DIRECT)
+    if s.at == "deq":
         return 6 + (0 if q.held else FIRST_LOOK)
-    if name == "scan":
-        band, second = of
-        return 3 + (2 - band) + (0 if any(q.bands[band:]) else SECOND_LOOK if second else FIRST_LOOK)
-    return WAY[name]
+    if s.at.startswith("scan"):
+        band = int(s.at[-1])
+        return 3 + (2 - band) + (0 if any(q.bands[band:]) else SECOND_LOOK if s.second else FIRST_LOOK)
+    return WAY[s.at]
 
 
 def left(m):
     """How many steps may still come at most, the starts of soft interrupts among them, if nobody brings a packet or wakes a queue and the device
     is never busy; None where no packet is held or with the holder of the run lock, or the queue isn't open."""
     q = m.qdisc
-    if q.xoff or not (q.held or any(has_lock(it.position) and carries(it.position) for it in m.seats)):
+    if q.xoff or not (q.held or any(has_lock(it) and carries(it) for it in m.seats)):
         return None
-    packets = q.held + sum(carries(it.position) for it in m.seats)
-    return PACKET_PAYS * packets + sum(way(q, it.position) + INTERRUPT_PAYS * it.raised for it in m.seats)
+    packets = q.held + sum(carries(it) for it in m.seats)
+    return PACKET_PAYS * packets + sum(way(q, it) + INTERRUPT_PAYS * it.raised for it in m.seats)
 
 
 # TELLING A STEP
@@ -549,76 +537,32 @@ def changes(event):
     if a.inside != b.inside:
         said.append(f"inside {b.inside}")
     if a.sent != b.sent:
-        said.append(f"packet {event.before.seats[event.seat].position[1].number} sent")
+        said.append(f"packet {event.before.seats[event.seat].packet.number} sent")
     if a.full != b.full:
-        said.append(f"packet {event.before.seats[event.seat].position[1].number} dropped: full")
+        said.append(f"packet {event.before.seats[event.seat].packet.number} dropped: full")
     if event.seat is not None and event.what != "softirq":
         if event.after.seats[event.seat].raised and not event.before.seats[event.seat].raised:
             said.append(f"seat {event.seat} raised")
     return said
 
 
-def sentence(event, mistake=None):
-    """A step as a sentence, or None where it is of no interest to who reads the order."""
-    a, b, i = event.before.qdisc, event.after.qdisc, event.seat
+# what is of no interest to who reads an order: a call comes in or leaves, and looks that find what is usual
+DULL_PLACES = ("enter", "leave")
+DULL_WORDS = ("loads the state: the packet goes to its band", "loads the stop word: open", "finds the queue open, the requeue slot empty", "finds band 0 empty",
+              "finds band 1 empty", "loads the state: active")  # fmt: skip
+
+
+def sentence(event):
+    """A step as a sentence, or None where it is of no interest."""
     if event.what == "down":
         return "deactivates: sets DEACTIVATED, finds no call inside, purges"
     if event.what == "up":
         return "activates: clears DEACTIVATED"
     if event.what.split()[0] in ("send", "softirq", "wake"):
-        return {"send": None, "softirq": "a soft interrupt comes", "wake": None}[event.what.split()[0]]
-    s, t = event.before.seats[i], event.after.seats[i]
-    name, *of = s.position
-    bits = "both bits clear" if not a.non_empty else " and ".join(it for it in ("MISSED", "DRAINING") if getattr(a, it.lower())) + " set"
-    told = {
-        "enter": None,
-        "check": "loads the state: deactivated" if a.deactivated else "loads the state: both bits clear" if a.bypass and not a.non_empty else None,
-        "put": f"puts packet {of[0].number} into band {of[0].band}" if event.what == "step" and name == "put" else "finds its band full",
-        "try1": "gets the lock" if not a.locked else "tries the lock: held" + ", and leaves" * (mistake == "begin_sets_no_missed"),
-        "miss": "finds MISSED set, and goes" if a.missed else "sets MISSED",
-        "try2": "gives up without a second try" if mistake == "begin_gives_up_after_one_try" else "tries the lock again: held" if a.locked else "tries the lock again: gets it",
-        "recheck": f"loads the state under the lock: {bits}",
-        "gate": "loads the stop word: not open" if a.xoff else None,
-        "xmit": f"sends packet {of[0].number}" + {"stop": ": the device stops", "hang": ": the device hangs"}.get(event.what, "") if name == "xmit" else None,
-        "stop": f"stores {b.xoff} in the stop word",
-        "post": f"loads the state: {bits}",
-        "deq": "loads the stop word: not open" if a.xoff else f"takes packet {a.slot.number} from the requeue slot" if a.slot else None,
-        "test": f"loads the state: {bits}",
-        "clearm": "clears MISSED",
-        "cleard": "clears DRAINING" if a.draining else None,
-        "cclear": "clears MISSED",
-        "cload": "loads the stop word again: " + ("open" if a.xoff == 0 else "not open"),
-        "cmiss": "sets MISSED",
-        "cdrain": "sets DRAINING: a wake will come",
-        "again": "sets MISSED",
-        "quota": "sets MISSED: its quota is sent",
-        "unlock": "releases the lock",
-        "tail": "loads MISSED: " + ("set" if a.missed else "clear"),
-        "sched": "finds SCHED set: somebody is to come" if a.sched else "sets SCHED: a soft interrupt will come",
-        "leave": None,
-        "soft": "loads the state: DEACTIVATED" if a.deactivated else None,
-        "sclear": "clears SCHED",
-        "late": "loads the state again: " + ("DEACTIVATED" if a.deactivated else "active"),
-        "wake": "opens the queue" if a.xoff == 1 else "finds the queue open",
-    }
-    if name == "scan":
-        band, second = of
-        if t.position[0] == "gate":
-            return f"takes packet {t.position[1].number} from band {band}"
-        return f"looks at the bands{' again' * second}: empty" if band == 2 else None
-    if name == "xmit" and event.what == "busy":
-        return f"finds the device busy: packet {of[0].number} goes to the requeue slot"
-    if mistake == "missed_cleared_after_the_second_look":
-        if name in ("clearm", "cleard"):
-            return "doesn't clear MISSED yet" if name == "clearm" else None
-        if of == ["clears"]:
-            return "clears MISSED, and releases the lock"
-    if mistake == "end_looks_before_it_releases" and name == "unlock":
-        return f"releases the lock, with MISSED loaded before: {'set' if of[0] else 'clear'}"
-    if mistake == "end_looks_before_it_releases" and name == "tail":
-        return "schedules" if of[1] else "leaves without a look"
-    if mistake == "draining_set_without_looking_again" and name == "cload":
-        return "doesn't look at the stop word again" + (", which is open" if a.xoff == 0 else "")
-    if mistake == "soft_interrupt_gives_up_when_deactivated" and name == "sclear" and of[0]:
-        return "clears SCHED, and gives up"
-    return told[name]
+        return "a soft interrupt comes" if event.what == "softirq" else None
+    s, t = event.before.seats[event.seat], event.after.seats[event.seat]
+    if s.at in DULL_PLACES or event.said in DULL_WORDS or s.at == "cleard" and not event.before.qdisc.draining:
+        return None
+    set_bits = " and ".join(name for name, it in (("MISSED", event.before.qdisc.missed), ("DRAINING", event.before.qdisc.draining)) if it)
+    packet, words = s.packet or t.packet, event.said.replace("a bit is set", f"{set_bits} set")
+    return words.replace("{packet}", f"packet {packet.number}").replace("{band}", str(packet.band)) if packet else words

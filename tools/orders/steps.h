@@ -4,7 +4,8 @@
  * it goes on and what happened, in words; it answers 0 where it has to wait. A comment behind `case` says what the step does, and behind
  * the colon what the kernel has there; a line of dashes names the function. The proved text of the same steps is
  * crates/lq_model/specs/Steps.antt and Control.antt. tools/explore searches all orders of these steps, tools/compare compares them with
- * `lqtx trace`, and tools/make-play makes docs/play.html from them: it reads simple C, so use no other forms than those below.
+ * `lqtx trace`, tools/lib/machine.py is made of them, and tools/make-play makes docs/play.html from them: both read simple C, so use no other
+ * forms than those below.
  *
  * To try a change of yours: copy this file, change the copy, and run tools/explore --steps COPY. An access that isn't atomic in your
  * change is two positions. An edit of one line may have a name in edits.txt. */

@@ -155,7 +155,7 @@ def states_apart(seats, sends):
         m, left = layer.pop()
         for i, s in enumerate(m.seats):
             after = []
-            if s.position[0] != "idle":
+            if s.at != "idle":
                 after = [(machine.step(m, i), left)] if not machine.why_not_step(m, i, "plain") else []
             else:
                 after += [(machine.begin(m, i, ("send", 0), 0), left[:i] + (left[i] - 1,) + left[i + 1 :])] if left[i] else []
@@ -168,17 +168,14 @@ def states_apart(seats, sends):
     return len(seen)
 
 
-def without_numbers(of):
-    """The same without the numbers and owners of packets, which are nothing to a step."""
-    if isinstance(of, machine.Packet):
-        return machine.Packet(0, 0, of.band)
-    return type(of)(map(without_numbers, of)) if type(of) is tuple else of
-
-
 def plain(m):
-    """A machine by all that decides what comes next."""
-    q = m.qdisc._replace(bands=without_numbers(m.qdisc.bands), slot=without_numbers(m.qdisc.slot), sent=0, full=0)
-    return m._replace(qdisc=q, seats=tuple(it._replace(run=0, position=without_numbers(it.position)) for it in m.seats))
+    """A machine by all that decides what comes next: the numbers and owners of packets are nothing to a step."""
+
+    def unnumbered(packet):
+        return packet and machine.Packet(0, 0, packet.band)
+
+    q = m.qdisc._replace(bands=tuple(tuple(map(unnumbered, it)) for it in m.qdisc.bands), slot=unnumbered(m.qdisc.slot), sent=0, full=0)
+    return m._replace(qdisc=q, seats=tuple(it._replace(run=0, packet=unnumbered(it.packet)) for it in m.seats))
 
 
 @case

@@ -73,10 +73,10 @@ def random_moves(of, seats):
     """Machines and moves, as they come in some order: each seat goes on, begins a call, or takes a soft interrupt."""
     m = machine.first_machine(seats, of.choice((1, 2, 8)), of.randrange(2))
     for number in range(200):
-        moves = [("step", i, it) for i, s in enumerate(m.seats) for it in ("plain", "full", "busy", "stop") if s.position != ("idle",) and not machine.why_not_step(m, i, it)]
-        moves += [("softirq", i, ("softirq",)) for i, s in enumerate(m.seats) if s.position == ("idle",) and s.raised]
+        moves = [("step", i, it) for i, s in enumerate(m.seats) for it in ("plain", "full", "busy", "stop") if s.at != "idle" and not machine.why_not_step(m, i, it)]
+        moves += [("softirq", i, ("softirq",)) for i, s in enumerate(m.seats) if s.at == "idle" and s.raised]
         if not moves or of.random() < 0.1:
-            moves += [(it[0], i, it) for i, s in enumerate(m.seats) if s.position == ("idle",) for it in (("send", of.randrange(3)), ("wake",))]
+            moves += [(it[0], i, it) for i, s in enumerate(m.seats) if s.at == "idle" for it in (("send", of.randrange(3)), ("wake",))]
         if not moves:
             continue
         what, i, it = of.choice(moves)
