@@ -1,7 +1,6 @@
 """The program of the same sources without its proof: how it is made, what it answers while the proof is under way, and whether the proved one agrees.
 
-Checks at run time stop it at an index out of bounds, an overflow, a cast that loses bits or a zero divisor; nothing else is known of it. Its outputs are
-OUT.unproved.* and never OUT.*. Only one program is made at a time: a second call waits, and takes what the first made.
+Checks at run time stop it at an index out of bounds, an overflow, a cast that loses bits or a zero divisor. Its outputs are OUT.unproved.* and never OUT.*.
 """
 import contextlib
 import fcntl
@@ -21,10 +20,7 @@ from lib.outputs import Command, file_of, is_foreign
 from lib.words import Failed, ignore_signals, say
 
 NOT_COMPARED = {5: "a file can't be opened, read or written", 6: "not enough memory"}
-TRY_LIMIT = 60  # seconds that `rt try` gives a program
 FREE = 3 * 2**30  # bytes of memory that are to be free where the proof is under way too
-
-
 tell = functools.partial(say, "lqtx")
 
 
@@ -38,7 +34,7 @@ def digests(command):
 
 
 def make(program):
-    """Makes it unless it is there, once nothing else makes one here."""
+    """Makes it unless it is there. Only one is made at a time: a second call waits, and takes what the first made."""
     if kept.is_made(program):
         return
     try:
@@ -60,12 +56,8 @@ def make(program):
 
 def run(program, words):
     """Runs a program on the caller's standard input: its exit code and what it wrote to standard output. It ends with this one."""
-    process = subprocess.Popen([program, *words], stdout=subprocess.PIPE, stderr=subprocess.DEVNULL, start_new_session=True)
-    try:
-        wrote = process.communicate()[0]
-    finally:
-        without_proof.end_group(process)
-    return process.returncode if process.returncode >= 0 else 128 - process.returncode, wrote
+    said = subprocess.run([program, *words], stdout=subprocess.PIPE, stderr=subprocess.DEVNULL)
+    return said.returncode if said.returncode >= 0 else 128 - said.returncode, said.stdout
 
 
 def run_apart(program, command):
@@ -206,7 +198,7 @@ def try_itself(command):
     if "within the time limit" in said:
         # of plan and capture the last is the long one
         what = [f"{it} is too large for it" for it in command.inputs[-1:]] or ["that is too much for it"]
-        tell(f"{what[0]}: it didn't end within {TRY_LIMIT} seconds, which is the limit of `rt try`")
+        tell(f"{what[0]}: it didn't end within 60 seconds, which is the limit of `rt try`")
     else:
         print("\n".join(without_proof.faults_in(said)[:20]), file=sys.stderr)
     raise Failed("the program without its proof gave no answer")

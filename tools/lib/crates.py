@@ -60,25 +60,37 @@ def files_of(crate):
     return sorted(it for it in files if it.is_file() and not it.is_symlink())
 
 
-def checksum_of_sources(crate="lqtx"):
-    """The checksum of all that a crate is built from: sources, crates and what they may use."""
+def crates_below(crate):
+    """A crate and those of the repository below it, lowest first, as crates.txt has them."""
     try:
-        order = in_order(uses_of_crates(), crate)
+        return in_order(uses_of_crates(), crate)
     except KeyError:
         raise Failed(f"no crate {crate} in {CRATES}") from None
+
+
+def checksum_of_sources(crate="lqtx"):
+    """The checksum of all that a crate is built from: sources, crates and what they may use."""
+    order = crates_below(crate)
     lines = [it for it in CRATES.read_bytes().splitlines(True) if it.replace(b":", b" ").split(b" ")[0].decode() in order]
     sums = [f"{hashlib.sha256(it.read_bytes()).hexdigest()}  {it.relative_to(TOP / 'crates')}\n".encode() for below in order for it in files_of(below)]
     handles = [it.read_bytes() for it in [TOP / "HANDLES"] if it.exists()]
     return hashlib.sha256(b"".join(["\n".join(order).encode() + b"\n", *lines, *handles, *sorted(sums)])).hexdigest()[:32]
 
 
+def told_by_toolchain():
+    """The file that says which toolchain it is, where there is one."""
+    try:
+        return [kit() / "KIT-ID"]
+    except NoKit:
+        return []
+
+
 def checksum_of_toolchain():
     """The toolchain in a few letters, or nothing where there is none."""
-    try:
-        told = kit() / "KIT-ID"
-    except NoKit:
+    found = told_by_toolchain()
+    if not found:
         return ""
-    if os.access(told, os.R_OK):
-        return hashlib.sha256(told.read_bytes()).hexdigest()[:8]
+    if os.access(found[0], os.R_OK):
+        return hashlib.sha256(found[0].read_bytes()).hexdigest()[:8]
     said = subprocess.run(["rt", "version"], stdin=subprocess.DEVNULL, stdout=subprocess.PIPE, stderr=subprocess.DEVNULL)
     return hashlib.sha256(said.stdout).hexdigest()[:8]

@@ -1,7 +1,7 @@
 """What `./lqtx` does unless a built program can be started at once: it judges words and outputs, builds the program, runs it, and explains its exit code.
 
     front.py WORD...                            as ./lqtx
-    front.py --after STATUS SIGNAL WORD...      the same once the shell has run the program: SIGNAL is the one that the shell got, or 0
+    front.py --after STATUS SIGNAL WORD...      explains the program's end once the shell has run it with these words; SIGNAL is the one that it got, or 0
     front.py --answer PROGRAM NOTE WORD...      the answer of the program without its proof, on standard error, while the proof is under way
 """
 import os
@@ -30,11 +30,11 @@ MEANINGS = {2: f"the manual: man {TOP}/docs/lqtx.1, and {TOP}/README.md", 6: "no
 class Call:
     """A call of the wrapper: its options, and the words of the program with its outputs."""
 
-    def __init__(self, given):
-        options = list(itertools.takewhile(("--unproved", "--force").__contains__, given))
+    def __init__(self, given, ending=".unproved"):
+        options = list(itertools.takewhile(("--lqtx", "--unproved", "--force").__contains__, given))
         self.is_proved, words.forced = "--unproved" not in options, "--force" in options
         self.given = given[len(options) :]
-        self.command = outputs.Command(self.given, "" if self.is_proved else ".unproved")
+        self.command = outputs.Command(self.given, "" if self.is_proved else ending)
         self.kind = kept.PROVED if self.is_proved else kept.UNPROVED
         # whether `rt try` runs the program, and the note of the answer before the proof
         self.is_tried, self.note = False, kept.KEPT / f"answer.{os.getpid()}"
@@ -112,7 +112,7 @@ def build(call, sources):
     try:
         with contextlib.ExitStack() as stack:
             if call.given:
-                command = [sys.executable, "-B", __file__, "--answer", sources.program(kept.UNPROVED), call.note, *call.given]
+                command = [sys.executable, "-S", "-B", __file__, "--answer", sources.program(kept.UNPROVED), call.note, *call.given]
                 beside = subprocess.Popen(command, stdout=subprocess.DEVNULL)
                 stack.callback(beside.wait)
                 stack.callback(beside.terminate)
@@ -194,11 +194,8 @@ def full_disk(command):
     return f"the disk is full: {max(files, key=os.path.getmtime) if files else command.names}"
 
 
-def explain_plan(plan):
-    said = subprocess.run([TOP / "tools/check-plan", plan], stdin=subprocess.DEVNULL, stdout=sys.stderr, stderr=subprocess.DEVNULL) if os.path.isfile(plan) else None
-    # it ends with 3 where it found what is wrong
-    if not said or said.returncode != 3:
-        say("docs/FORMATS.md, 'Plans', explains each reason, and lists common mistakes")
+def told_by(tool, *given):
+    return subprocess.run([TOP / "tools" / tool, *given], stdin=subprocess.DEVNULL, capture_output=True, encoding="utf-8", errors="replace")
 
 
 def explain_capture(call, program):
@@ -210,23 +207,22 @@ def explain_capture(call, program):
         say(ways_out.way_out(int(reason[1]) if reason else None, capture))
 
 
-def explain_schedule(schedule):
-    """Which step failed, where the seat stood, and what can be done there."""
-    said = subprocess.run([TOP / "tools/show-schedule", "--why", schedule], stdin=subprocess.DEVNULL, capture_output=True, text=True, errors="replace").stderr
-    print(re.sub("^show-schedule: ", "lqtx: ", said, flags=re.M), end="", file=sys.stderr)
-
-
 def explain(call, program, code):
     if code in MEANINGS:
         say(MEANINGS[code])
     elif code == 3:
-        explain_plan(call.given[1])
+        said = told_by("check-plan", call.given[1])
+        print(said.stdout, end="", file=sys.stderr)
+        # it ends with 3 where it found what is wrong
+        if said.returncode != 3:
+            say("docs/FORMATS.md, 'Plans', explains each reason, and lists common mistakes")
     elif code == 4:
         explain_capture(call, program)
     elif code == 5:
         explain_fault(call)
     elif code == 7 and os.path.isfile(call.given[1]):
-        explain_schedule(call.given[1])
+        # which step failed, where the seat stood, and what can be done there
+        print(re.sub("^show-schedule: ", "lqtx: ", told_by("show-schedule", "--why", call.given[1]).stderr, flags=re.M), end="", file=sys.stderr)
     elif code > 128:
         say_signal(code - 128)
 
@@ -261,18 +257,14 @@ def answer_of(call, program):
     return code
 
 
-def after(call, code, number):
-    """What is left to say once the shell has run the program."""
-    if number:
-        say_signal(number)
-        raise KeyboardInterrupt(number)
-    explain(call, kept.KEPT / (kept.KEPT / f"current.{call.kind}").read_text(encoding="utf-8").split("\n")[0], code)
-    return code
-
-
 def main(given):
     if given[:1] == ["--after"]:
-        return after(Call(given[3:]), int(given[1]), int(given[2]))
+        call, code, number = Call(given[3:], ""), int(given[1]), int(given[2])
+        if number:
+            say_signal(number)
+            raise KeyboardInterrupt(number)
+        explain(call, kept.KEPT / (kept.KEPT / f"current.{call.kind}").read_text(encoding="utf-8").split("\n")[0], code)
+        return code
     if given[:1] == ["--answer"]:
         try:
             return answers.answer(pathlib.Path(given[1]), pathlib.Path(given[2]), given[3:])

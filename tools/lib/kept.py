@@ -1,14 +1,12 @@
 """The programs that `./lqtx` keeps in build/: each under the checksum of all that it is built from, and of the toolchain.
 
-So nothing is built twice, and a program whose sources have changed is never run. `build/current.*` tells the wrapper's shell which program is the
-one of the sources as they are, as long as none of the files that it names has changed since.
+So nothing is built twice, and a program whose sources have changed is never run. `build/current.*` tells the wrapper's shell which program is that of
+the sources as they are, as long as none of the files in `build/sources.*` has changed since.
 """
 import contextlib
 import os
-import pathlib
-import time
 
-from lib.crates import CRATES, TOP, NoKit, checksum_of_sources, checksum_of_toolchain, files_of, folders_of, in_order, kit, uses_of_crates
+from lib.crates import CRATES, TOP, NoKit, checksum_of_sources, checksum_of_toolchain, crates_below, files_of, folders_of, kit, told_by_toolchain
 
 KEPT = TOP / "build"
 PROVED, UNPROVED = "lqtx", "unproved"
@@ -24,8 +22,9 @@ class Sources:
     """The sources as they are: their checksum, and where their programs are kept."""
 
     def __init__(self):
-        # what changes within the clock's step counts as changed afterwards
-        self.since = time.time_ns() - 20_000_000
+        # before they are summed: what changes meanwhile counts as changed afterwards
+        self.parts = [CRATES, TOP / "HANDLES", *told_by_toolchain(), *(it for crate in crates_below("lqtx") for it in [*folders_of(crate), *files_of(crate)])]
+        self.last_change = max(os.lstat(it).st_ctime_ns for it in self.parts if os.path.lexists(it))
         self.checksum, self.toolchain = checksum_of_sources(), checksum_of_toolchain()
 
     def program(self, kind):
@@ -36,15 +35,13 @@ class Sources:
         return found[-1] if found else KEPT / f"{kind}.{self.checksum}.none"
 
     def tell_shell(self, kind):
-        """Notes that this program is that of the sources as they are, and the files and folders that have to be older than the note."""
+        """Notes that this program is that of the sources as they are, and the files and folders of which none may have changed since their last change."""
         with contextlib.suppress(OSError, NoKit):
-            parts = [it for crate in in_order(uses_of_crates(), "lqtx") for it in [*folders_of(crate), *files_of(crate)]]
-            names = [os.path.relpath(it, TOP) for it in [*parts, CRATES, TOP / "HANDLES"]]
-            texts = {"sources": "".join(f"{it}\0" for it in [*names, kit() / "KIT-ID"]), "current": f"{self.program(kind).name}\n{kit()}/bin/rt\n"}
-            for name, text in texts.items():
+            names = "".join(f"{os.path.relpath(it, TOP)}\0" for it in self.parts)
+            for name, text in (("sources", names), ("current", f"{self.program(kind).name}\n{kit()}/bin/rt\n")):
                 part = KEPT / f"{name}.{kind}.{os.getpid()}"
                 part.write_text(text, encoding="utf-8")
-                os.utime(part, ns=(self.since, self.since))
+                os.utime(part, ns=(self.last_change, self.last_change))
                 part.replace(KEPT / f"{name}.{kind}")
 
 

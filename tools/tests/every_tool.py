@@ -9,7 +9,7 @@ import subprocess
 import sys
 from concurrent.futures import ThreadPoolExecutor
 
-from tests.bench import HERE, ROOM, TOP, case, expect, expect_picture, fates_of, fault, heeding, repository, run
+from tests.bench import HERE, ROOM, TOP, case, expect, expect_none, expect_picture, fates_of, fault, heeding, repository, run
 from lib import toml_text
 
 TOOLS = sorted(it for it in HERE.iterdir() if it.is_file() and os.access(it, os.X_OK))
@@ -174,6 +174,20 @@ def outputs_that_are_the_user_s():
             with open(out, "ab") as it:
                 it.write(b"\n")
             expect(f"{tool}: {call}, once the file is changed", run(*words, cwd=room), 2, "--force")
+
+
+@case
+def outputs_of_the_program_without_its_proof():
+    """They are shown where there are no others, which is said, and none of them is written."""
+    room = ROOM / "unproved"
+    files = inputs_of(room, "")
+    call = [HERE / "show-run", files["plan"], files["capture"], "run"]
+    expect_none("show-run, outputs of the proved program", run(*call, cwd=room), "unproved")
+    files["fates"].rename(room / "run.unproved.fates")
+    said = run(*call, cwd=room)
+    expect("show-run, outputs without a proof", said, 0, "dropped 117", "show-run: there is no run.fates: run.unproved.* are shown, which the program without its proof wrote\n")
+    for name in ("run.unproved.fates", "run.unproved.0.pcap"):
+        expect(f"show-run, {name} as an output", run(*call, "--dropped", name, cwd=room), 2, f"{name} is an input")
 
 
 def short_of_room():
