@@ -1,10 +1,9 @@
 //! What is written of a run and of a tap: what became of which packets.
 
-use lq_fates::Fates;
+use lq_fates::{Fates, TapFate};
 use lq_model::Info;
 use lq_pcapng::CaptureFile;
 use lq_plan::Plan;
-use lq_fates::TapFate;
 
 /// A run before it begins: the name that its files will begin with, its plan and its capture.
 #[derive(Clone, Copy)]

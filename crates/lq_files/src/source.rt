@@ -3,10 +3,9 @@ ghost use Rattle.std.specs.Prelude.{◌≡◌, ◌+◌, ◌<◌, ◌++◌, [], A
 ghost use Rattle.lq_pcapng.specs.File.{packets_of_file};
 ghost use Rattle.lq_files.specs.Parts.{lines_from, packets_from};
 
-use lq_fates::{Fates, push_fate_line};
+use lq_fates::{Fates, TapFate, push_fate_line, push_tap_fate_line};
 use lq_model::NoMemory;
 use lq_pcapng::CaptureFile;
-use lq_fates::{TapFate, push_tap_fate_line};
 use std::marker::Sync;
 
 /// A text of numbered pieces, of which threads may make some each.

@@ -4,8 +4,8 @@ ghost use Rattle.lq_band_laws.specs.Times.{times};
 ghost use Rattle.lq_tap_run.specs.Lanes.{numbers_of};
 ghost use Rattle.lq_tap_run.specs.Marks.{AreMarked, AreMarkedFull};
 
-use lq_model::NoMemory;
 use lq_fates::TapFate;
+use lq_model::NoMemory;
 use std::alloc::Global;
 
 /// A fate for each packet, none of which is known.

@@ -8,6 +8,6 @@ mod reader;
 mod run;
 mod shared;
 
-pub use lq_gate::{Free, Gate};
 pub use lq_fates::TapFate;
+pub use lq_gate::{Free, Gate};
 pub use run::{Tapped, tap_all};

@@ -221,6 +221,7 @@ const ALL: Said = Said {
                 hang_after: 1_000_000,
             },
             queues: 1,
+            card: None,
         },
         StationPlan {
             len: 4096,
