@@ -19,10 +19,6 @@ module _ (card : Card) (packets : Packets) (infos : List Info) where
   pub stepped-station : (now : ℕ) (step : RunningStation → RunningStation) (w : Wired) → (stepped card packets now step w).station ≡ step w.station
   stepped-station now step w = same-station now (newly_sent w.station (step w.station)) (record w { station = step w.station })
 
-  shift : (k : ℕ) (s : RunningStation) → reopened infos k (served infos (opened s)) ≡ reopened infos (suc k) s
-  shift zero s = refl
-  shift (suc k) s = ap (λ (t : RunningStation). served infos (opened t)) (shift k s)
-
   more : (j k : ℕ) (s : RunningStation) → reopened infos k (reopened infos j s) ≡ reopened infos (j + k) s
   more j zero s = ap (λ (i : ℕ). reopened infos i s) (let same : j ≡ j + 0 = omega arith in same)
   more j (suc k) s = ap (λ (t : RunningStation). served infos (opened t)) (more j k s) ∙ ap (λ (i : ℕ). reopened infos i s) (let next : suc (j + k) ≡ j + suc k = omega arith in next)

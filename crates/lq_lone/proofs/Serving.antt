@@ -12,17 +12,6 @@ use Rattle.lq_model.specs.declared.fate.Fate.TheVariants as fate
 use Rattle.lq_model.specs.declared.fate.Info.{Info}
 use Rattle.lq_lone.specs.Lone.{HaveOneQueue, Rest, station_with}
 
--- a station that is stopped or deactivated isn't served
-pub served-stopped : (infos : List Info) (x : Rest) (len : ℕ) (slot : Option ℕ) (clean : Bool) → served infos (station_with x len slot true clean) ≡ station_with x len slot true clean
-served-stopped infos x len slot clean = go x.down
-  where
-    go : (o : Option ℕ) → served infos (station_with (record x { down = o }) len slot true clean) ≡ station_with (record x { down = o }) len slot true clean
-    go None = refl
-    go (Some e) = refl
-
-pub served-down : (infos : List Info) (x : Rest) (e len : ℕ) (slot : Option ℕ) (stopped clean : Bool) → served infos (station_with (record x { down = Some e }) len slot stopped clean) ≡ station_with (record x { down = Some e }) len slot stopped clean
-served-down infos x e len slot stopped clean = refl
-
 -- what the device answers: each packet stops the queue
 each-stops : (n : ℕ) → ((n + 1) % 1 == 0) ≡ true
 each-stops n = grind arith
