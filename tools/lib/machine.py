@@ -11,8 +11,10 @@ from typing import NamedTuple, Optional
 from orders import python
 from orders import text as steps_text
 
-# the first six of edits.txt
-MISTAKES = {name: it.about for name, it in list(steps_text.edits().items())[:6]}
+# of the changes in tools/orders/edits.txt the first form, and those that crates/lq_run_core/specs/Mistakes.antt has
+MISTAKES = {name: steps_text.edits()[name].about for name in (
+    "begin_sets_no_missed", "begin_gives_up_after_one_try", "end_looks_before_it_releases", "missed_cleared_after_the_second_look",
+    "draining_set_without_looking_again", "soft_interrupt_gives_up_when_deactivated")}  # fmt: skip
 MOST = 18446744073709551615
 QUOTA = 64
 
@@ -166,10 +168,10 @@ def slot_take(words, place):
     place.packet, words.slot, words.gso_skb = words.slot, None, 0
 
 
-HOW = ("QUEUED", "DIRECT", "INTERRUPT", "WAKER", "SWAPPER")
-QUEUED, DIRECT, INTERRUPT, WAKER, SWAPPER = range(5)
+QUEUED, DIRECT, INTERRUPT, WAKER, SWAPPER = range(5)  # why a seat is in a call
 ANSWERS = {"plain": 0, "full": 1, "stop": 2, "hang": 3, "busy": 4}
-CONSTANTS = {**{it.upper(): number for it, number in ANSWERS.items()}, "STOPS": 2, "HANGS": 3, **{it: n for n, it in enumerate(HOW)}, "QUEUES": 1, "QUOTA": QUOTA, "WAITS": 0}
+CONSTANTS = {"PLAIN": 0, "FULL": 1, "STOPS": 2, "HANGS": 3, "BUSY": 4, "QUEUED": QUEUED, "DIRECT": DIRECT, "INTERRUPT": INTERRUPT, "WAKER": WAKER, "SWAPPER": SWAPPER,
+             "QUEUES": 1, "QUOTA": QUOTA, "WAITS": 0}  # fmt: skip
 
 
 @functools.lru_cache(maxsize=None)
@@ -193,7 +195,8 @@ def frozen_words(q, words, before, answer):
 
 
 def frozen_seat(place):
-    seat = Seat(place.at, bool(place.raised), place.band, place.queue, place.how, place.run, bool(place.second), bool(place.taken), bool(place.hung), bool(place.was), bool(place.found), place.packet)
+    flags = (bool(it) for it in (place.second, place.taken, place.hung, place.was, place.found))
+    seat = Seat(place.at, bool(place.raised), place.band, place.queue, place.how, place.run, *flags, place.packet)
     return seat if carries(seat) else seat._replace(packet=None)
 
 
