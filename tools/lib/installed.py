@@ -11,9 +11,6 @@ from lib.words import Failed
 
 TOP = pathlib.Path(__file__).resolve().parent.parent.parent
 PROGRAM, MANUAL = TOP / "program", "the manual: man lqtx"
-# of each command with outputs, by its number of words: which words name inputs, which one the outputs, and what follows it in their names
-ENDINGS = [*(f".{it}.pcap" for it in range(16)), *(f".mq{it}.pcap" for it in range(8)), ".fates"]
-COMMANDS = {("run", 4): ([1, 2], 3, ENDINGS), ("tap", 6): ([4], 5, [".pcap", ".fates"]), ("gen", 4): ([], 3, [""])}
 PR_SET_PDEATHSIG = 1
 
 
@@ -21,13 +18,15 @@ def end_with_caller():
     ctypes.CDLL(None).prctl(PR_SET_PDEATHSIG, signal.SIGTERM)
 
 
-def judge_outputs(inputs, out, endings):
-    """Refuses outputs that are inputs, and makes their folder where the inputs can be read."""
-    outputs.refuse_inputs(inputs, [out + it for it in endings])
-    folder = os.path.dirname(out)
-    if folder and not os.path.exists(folder) and all(map(os.path.isfile, inputs)):
+def judge_outputs(command):
+    """Refuses outputs that are inputs or the user's own files, and makes their folder where the inputs can be read."""
+    outputs.refuse_inputs(command.inputs, command.files())
+    folder = os.path.dirname(command.out or "")
+    if folder and not os.path.exists(folder) and all(map(os.path.isfile, command.inputs)):
         os.makedirs(folder)
-        outputs.refuse_inputs(inputs, [out + it for it in endings])
+        outputs.refuse_inputs(command.inputs, command.files())
+    if command.out is not None:
+        command.refuse_foreign()
 
 
 def explain(code, given):
@@ -45,12 +44,13 @@ def main(given):
     if os.environ.get("LQTX_SHOW_PROGRAM"):
         print(PROGRAM)
         return 0
-    inputs, place, endings = COMMANDS.get((given[0] if given else "", len(given)), ([], None, []))
-    if place is not None and not given[place].startswith("-"):
-        judge_outputs([given[it] for it in inputs], given[place], endings)
-    if given[:1] == ["run"] and len(given) == 4:
-        findings.tell("lqtx", given[2], given[1])
+    command = outputs.Command(given)
+    judge_outputs(command)
+    if given[:1] == ["run"] and command.inputs:
+        findings.tell("lqtx", *reversed(command.inputs))
+    before = command.written()
     code = subprocess.run([PROGRAM, *given], preexec_fn=end_with_caller).returncode
+    command.leave(before)
     explain(code, given)
     if code < 0:
         words.end_by(-code)
