@@ -59,7 +59,7 @@ def several_processes():
 ONCE = {
     "lq_gate": (0, 14), "lq_model": (0, 53), "lq_host": (0, 258), "lq_run_laws": (53, 143), "lq_pcap": (53, 153), "lq_class": (53, 109),
     "lq_device": (53, 130), "lq_ring_core": (53, 189), "lq_account_laws": (53, 94), "lq_fates": (53, 179), "lq_mq": (53, 110),
-    "lq_run_core": (143, 505), "lq_plan": (153, 525), "lq_pcapng": (153, 247), "lq_tap_fates": (179, 228), "lq_band_laws": (189, 237),
+    "lq_run_core": (143, 505), "lq_plan": (153, 525), "lq_pcapng": (153, 247), "lq_band_laws": (189, 237),
     "lq_table": (237, 850), "lq_tap": (237, 1035), "lq_files": (525, 1673), "lq_ring": (850, 1259), "lq_run": (850, 1210),
     "lq_tap_run": (1035, 1498), "lq_qdisc": (1259, 1538), "lq_control": (1538, 1647), "lq_seat": (1647, 1704), "lq_senders": (1704, 1885),
     "lq_top": (1885, 2046), "lqtx": (2046, 2189),
@@ -91,7 +91,7 @@ def estimate_of_a_first_build():
 SLOW = {
     "lq_gate": (0, 47, 9), "lq_log": (0, 56, 41), "lq_model": (0, 80, 103), "lq_account_laws": (95, 120, 16), "lq_class": (95, 131, 23),
     "lq_mq": (95, 132, 23), "lq_device": (95, 151, 34), "lq_run_laws": (95, 159, 40), "lq_pcap": (95, 175, 50), "lq_fates": (95, 196, 61),
-    "lq_ring_core": (95, 206, 65), "lq_host": (0, 212, 134), "lq_tap_fates": (190, 218, 19), "lq_band_laws": (197, 224, 11), "lq_pcapng": (180, 230, 41),
+    "lq_ring_core": (95, 206, 65), "lq_host": (0, 212, 134), "lq_band_laws": (197, 224, 11), "lq_pcapng": (180, 230, 41),
     "lq_run_core": (160, 318, 134), "lq_plan": (180, 318, 124), "lq_table": (215, 399, 345), "lq_run": (414, 436, 34), "lq_ring": (414, 478, 111),
     "lq_tap": (215, 520, 83), "lq_qdisc": (493, 581, 180), "lq_files": (333, 598, 256), "lq_control": (583, 639, 139), "lq_tap_run": (535, 654, 74),
     "lq_seat": (639, 665, 51), "lq_senders": (680, 756, 244), "lq_top": (771, 826, 164), "lqtx": (826, 897, 88),
