@@ -1,12 +1,11 @@
--- The files that a host has once some were written, one after another.
+-- The files that were handed over to a host once some were written, one after another.
 use Rattle.std.proofs.Common.{◌≡◌, ◌⊎◌, ◌<◌, ◌++◌, ◌∷◌, [], ℕ, zero, suc, true, false, cond, List, map, Option, Some, refl, sym, ap, ◌∙◌, subst, arith, inl, inr}
-use Rattle.std.specs.Option.{option_map}
 use Rattle.std.specs.Str.{bytes_eq}
 use Rattle.std.proofs.lemmas.Bool.{cases_Bool}
 use Rattle.std.proofs.lemmas.List.{map-append}
 use Rattle.std.proofs.lemmas.Slice.Eq.{bytes_eq-Decides}
 use Rattle.lq_files.specs.Written.{FileText, Texts, files_written, written}
-use Rattle.lq_host.specs.Host.{Contents, Files, HostState, Opened, Output, appended, filed, with_file}
+use Rattle.lq_host.specs.Host.{Files, HostState, Opened, Output, appended, filed, with_file}
 use Rattle.lq_model.specs.Numbers.{first_numbers}
 
 -- the files in which each of these has its text, the last one of a name
@@ -14,25 +13,23 @@ pub put : Files → List FileText → Files
 put files [] = files
 put files (f ∷ fs) = put (with_file files f.name f.text) fs
 
--- a host that tells goes on telling, and its handles stay
-told_files : (fs : List FileText) (s : HostState) (c : Contents) → s.told ≡ Some c → (files_written s fs).told ≡ Some (record { files = put c.files fs; output = c.output })
+-- all of them are handed over, and the handles stay
+handed_files : (fs : List FileText) (s : HostState) → (files_written s fs).handed ≡ record { files = put s.handed.files fs; output = s.handed.output }
 unfolding put
-told_files [] s c told = told
-told_files (f ∷ fs) s c told =
-    told_files fs (filed s f.name f.text) (record { files = with_file c.files f.name f.text; output = c.output })
-    (ap (option_map (λ (c : Contents). record { files = with_file c.files f.name f.text; output = c.output })) told)
+handed_files [] s = refl
+handed_files (f ∷ fs) s = handed_files fs (filed s f.name f.text)
 
 same_handles : (fs : List FileText) (s : HostState) → (files_written s fs).handles ≡ s.handles
 same_handles [] s = refl
 same_handles (f ∷ fs) s = same_handles fs (filed s f.name f.text)
 
-pub told_written : (texts : Texts) (s : HostState) (c : Contents) → s.told ≡ Some c → s.handles 0 ≡ Some Output
-    → (written texts s).told ≡ Some (record { files = put c.files texts.files; output = c.output ++ texts.output })
-told_written texts s c told output =
+pub handed_written : (texts : Texts) (s : HostState) → s.handles 0 ≡ Some Output
+    → (written texts s).handed ≡ record { files = put s.handed.files texts.files; output = s.handed.output ++ texts.output }
+handed_written texts s output =
     let mid = files_written s texts.files in
     let open' : mid.handles 0 ≡ Some Output = ap (λ (h : ℕ → Option Opened). h 0) (same_handles texts.files s) ∙ output in
-    ap (λ (o : Option Opened). option_map (appended o texts.output) mid.told) open'
-    ∙ ap (option_map (appended (Some Output) texts.output)) (told_files texts.files s c told)
+    ap (λ (o : Option Opened). appended o texts.output mid.handed) open'
+    ∙ ap (appended (Some Output) texts.output) (handed_files texts.files s)
 
 -- WHAT A NAME HAS
 

@@ -1,6 +1,6 @@
 -- a capture file, taken apart
 pub mod Apart
--- the files that a host has once all were written
+-- the files that were handed over once all were written
 pub mod Files
 -- the names of the outputs
 pub mod Names

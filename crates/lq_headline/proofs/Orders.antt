@@ -7,9 +7,9 @@ use Rattle.lq_account_laws.proofs.Units.{one-station}
 use Rattle.lq_files.proofs.TextLemmas.{length-infos_of}
 use Rattle.lq_model.proofs.FirstNumbers.{first-at}
 use Rattle.lq_model.specs.Capture.{Packets}
-use Rattle.lq_model.specs.Class.{band_of, priority_of}
+use Rattle.lq_model.specs.Class.{band_of}
 use Rattle.lq_model.specs.Numbers.{first_numbers}
-use Rattle.lq_model.specs.Plan.{Plan, band_in, group_of, owner_of, info_of, infos_of, mq_at, owner_in, source_number, station_in, station_of, unit_count}
+use Rattle.lq_model.specs.Plan.{Plan, band_in, group_of, owner_of, info_of, infos_of, mq_at, owner_in, priority_by, source_number, station_in, station_of, unit_count}
 use Rattle.lq_model.specs.Settled.{IsInSenderOrder, IsSettled, IsUnitOf}
 use Rattle.lq_model.specs.declared.fate.Fate.{Fate}
 use Rattle.lq_model.specs.declared.fate.Fate.TheVariants.{Sent}
@@ -57,7 +57,7 @@ module _ (plan : Plan) (packets : Packets) (within : IsWithinLimits plan) where
 
     -- the lower number has the lower serial
     pub in-order : IsInSenderOrder (infos_of plan packets) fates → (unit m n j k : ℕ) → m < n → owner_of plan packets m ≡ owner_of plan packets n
-        → band_of (priority_of (packets.link m) (packets.frame m)) ≡ band_of (priority_of (packets.link n) (packets.frame n))
+        → band_of (priority_by plan.classify packets m) ≡ band_of (priority_by plan.classify packets n)
         → slice_get fates m ≡ Some (Sent unit j) → slice_get fates n ≡ Some (Sent unit k) → j < k
     in-order ordered unit m n j k less owner band sent-m sent-n =
         let infos = infos_of plan packets in

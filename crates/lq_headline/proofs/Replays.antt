@@ -1,5 +1,5 @@
 -- The headline of a run, from what `lqtx` says of it.
-use Rattle.std.proofs.Common.{◌≡◌, ◌<◌, ◌^◌, ◌++◌, ◌∷◌, [], ℕ, List, length, map, Option, Some, None, IfSome, refl, sym, ap, ◌∙◌, subst, arith, inl, inr, slice_get}
+use Rattle.std.proofs.Common.{◌≡◌, ◌<◌, ◌^◌, ◌++◌, ◌∷◌, [], ℕ, List, length, map, Option, Some, refl, sym, ap, ◌∙◌, subst, arith, inl, inr, slice_get}
 use Rattle.std.specs.Prelude.{codes}
 use Rattle.std.specs.Fmt.{decimal}
 use Rattle.std.proofs.lemmas.List.{append_assoc}
@@ -11,7 +11,7 @@ use Rattle.lq_files.specs.Written.{FileText}
 use Rattle.lq_fates.proofs.SentLemmas.{sent_is}
 use Rattle.lq_host.specs.Host.{Contents, Files, HostState, Output}
 use Rattle.lq_model.specs.Device.{DeviceState}
-use Rattle.lq_model.specs.Plan.{Plan, info_of, infos_of, owner_of, station_of, unit_count}
+use Rattle.lq_model.specs.Plan.{Plan, info_of, infos_of, owner_of, priority_by, station_of, unit_count}
 use Rattle.lq_model.specs.Sent.{sent_of}
 use Rattle.lq_model.specs.Settled.{IsSentList}
 use Rattle.lq_model.specs.Texts.{fates_text}
@@ -24,25 +24,25 @@ use Rattle.lq_senders.proofs.Units.{units-few}
 use Rattle.lq_table.specs.Ended.{EndedState}
 use Rattle.lq_top.specs.Headline.{AreFatesIn}
 use Rattle.lq_headline.proofs.Apart.{Apart, apart}
-use Rattle.lq_files.specs.Command.{command_of_words}
+use Rattle.lq_files.specs.Command.{CommandWords, command_of_words}
 use Rattle.lq_files.specs.declared.answer.Status.{Status}
 use Rattle.lq_files.specs.declared.answer.Status.TheVariants as status
-use Rattle.lq_top.specs.Decision.{verdict_of}
-use Rattle.lq_top.specs.Outcome.{Outcome, OutcomeOfSome}
+use Rattle.lq_top.specs.Outcome.{OutcomeOfSome}
 use Rattle.lq_top.specs.Program.{HostAt, IsCodeOfWords, new_bench}
+use Rattle.lq_top.specs.Reads.{after_reads}
 use Rattle.lq_files.specs.Status.{code_of}
 use Rattle.lq_headline.proofs.Decided.{HasReplayed, command_found, words_of_run}
-use Rattle.lq_headline.proofs.Files.{IsNamed, agree_both, agree_each, agree_numbers, has_text, named_first, named_number, named_then, put, told_written}
+use Rattle.lq_headline.proofs.Files.{IsNamed, agree_both, agree_each, agree_numbers, handed_written, has_text, named_first, named_number, named_then, put}
 use Rattle.lq_headline.proofs.Names.{no_fates, no_group, no_root_fates, one_unit}
 use Rattle.lq_headline.proofs.Orders.{at-packet, in-order, units-below}
 use Rattle.lq_headline.proofs.Texts.{same_counts, same_fates}
-use Rattle.lq_headline.specs.Page.{HaveAccepted, Headline, IfTold, IsCaptureFile, HasWritten, Replay, fate_lines, unit_capture}
+use Rattle.lq_headline.specs.Page.{HaveAccepted, Headline, IsCaptureFile, HasWritten, Replay, fate_lines, unit_capture}
 use Rattle.lq_headline.specs.Plans.{FollowsPlan}
 use Rattle.lq_model.specs.Capture.{Packets}
-use Rattle.lq_model.specs.Class.{band_of, priority_of}
+use Rattle.lq_model.specs.Class.{band_of}
 
-module _ (plan_name capture_file out : List ℕ) (have : ℕ) (early late : Files) (old new : HostState) (before after : List DeviceState) (ended : List EndedState)
-    (found : HasReplayed (words_of_run plan_name capture_file out) have early late old new before after ended) where
+module _ (plan_name capture_file out plan_bytes capture_bytes : List ℕ) (old new : HostState) (before after : List DeviceState) (ended : List EndedState)
+    (found : HasReplayed (words_of_run plan_name capture_file out) plan_bytes capture_bytes old new before after ended) where
   abbrev plan : Plan
   plan = found.plan
 
@@ -62,20 +62,20 @@ module _ (plan_name capture_file out : List ℕ) (have : ℕ) (early late : File
   are = found.has_run.1
 
   within : IsWithinLimits plan
-  within = plans.accepted_within found.plan_bytes found.plan found.plan_is
+  within = plans.accepted_within plan_bytes found.plan found.plan_is
 
-  abbrev parts : Apart found.capture_bytes found.capture
-  parts = apart _ found.capture_bytes found.capture found.capture_is
+  abbrev parts : Apart capture_bytes found.capture
+  parts = apart _ capture_bytes found.capture found.capture_is
 
   abbrev pub run : Replay
   run = record {
-    plan_text = found.plan_bytes;
-    capture_bytes = found.capture_bytes;
+    plan_text = plan_bytes;
+    capture_bytes = capture_bytes;
     head = parts.head;
     records = parts.records;
     sender = owner_of plan packets;
     station = station_of plan packets;
-    band = λ n. band_of (priority_of (packets.link n) (packets.frame n));
+    band = λ n. band_of (priority_by plan.classify packets n);
     units = unit_count plan;
     stations = length plan.stations;
     fates = fates;
@@ -165,71 +165,52 @@ module _ (plan_name capture_file out : List ℕ) (have : ℕ) (early late : File
   name-is : (unit : ℕ) → out ++ codes "." ++ decimal unit ++ codes ".pcap" ≡ capture_name out unit
   name-is unit = simp append_assoc
 
-  -- what the files and the output have
-  pub replay : (c : Contents) → old.told ≡ Some c → old.handles 0 ≡ Some Output → c.files plan_name ≡ Some found.plan_bytes → c.files capture_file ≡ Some found.capture_bytes
-      → (after : Contents) × (new.told ≡ Some after) × HasWritten plan_name capture_file out run c after
-  replay c told output plan_there capture_there = (
-    record { files = put c.files (texts_of run_is fates).files; output = c.output ++ (texts_of run_is fates).output },
-    ap (λ (s : HostState). s.told) found.has_run.3 ∙ told_written (texts_of run_is fates) old c told output,
-    record {
-      plan_file = plan_there;
-      capture_file = capture_there;
-      captures = λ unit below. ap (put c.files (texts_of run_is fates).files) (name-is unit) ∙ capture-there c.files unit below;
-      fates = fates-there c.files;
-      counts = (mq_lines plan fates, ap (λ (text : List ℕ). c.output ++ (text ++ mq_lines plan fates)) (same_counts run infos sent-list are.of_run.settled.one_each stations-at));
-    },
-  )
+  -- what was read, and what was handed over
+  pub has_written : old.handles 0 ≡ Some Output → HasWritten plan_name capture_file out run old new
+  has_written output =
+      let texts = texts_of run_is fates in
+      let handed : new.handed ≡ record { files = put old.handed.files texts.files; output = old.handed.output ++ texts.output } =
+      ap (λ (s : HostState). s.handed) found.has_run.3 ∙ handed_written texts (after_reads old new) output
+      in
+      record {
+        reads = found.reads;
+        captures = λ unit below.
+            ap (λ (c : Contents). c.files (out ++ codes "." ++ decimal unit ++ codes ".pcap")) handed
+            ∙ ap (put old.handed.files texts.files) (name-is unit) ∙ capture-there old.handed.files unit below;
+        fates = ap (λ (c : Contents). c.files (fates_name out)) handed ∙ fates-there old.handed.files;
+        counts = (
+          mq_lines plan fates,
+          ap (λ (c : Contents). c.output) handed
+              ∙ ap (λ (text : List ℕ). old.handed.output ++ (text ++ mq_lines plan fates)) (same_counts run infos sent-list are.of_run.settled.one_each stations-at),
+        );
+      }
 
 -- ANY HOST
 
 -- what is ensured of the call
 abbrev pub Replays : List ℕ → List ℕ → List ℕ → HostState → HostState → List (List ℕ) → Type 0
 Replays plan capture out old new accepted =
-    (run : Replay) × Headline run × IfTold (HasWritten plan capture out run) old.told new.told × HaveAccepted run accepted × IsCaptureFile run.capture_bytes run.head run.records
+    (run : Replay) × Headline run × HasWritten plan capture out run old new × HaveAccepted run accepted × IsCaptureFile run.capture_bytes run.head run.records
     × FollowsPlan run
 
 module _ (plan capture out : List ℕ) (have : ℕ) (old new : HostState) (before after : List DeviceState) (ended : List EndedState) (output : old.handles 0 ≡ Some Output) where
-  abbrev words : List (List ℕ)
-  words = codes "run" ∷ plan ∷ capture ∷ out ∷ []
+  abbrev command : Option CommandWords
+  command = command_of_words (codes "run" ∷ plan ∷ capture ∷ out ∷ [])
 
-  -- one that tells
-  telling : (c : Contents) → old.told ≡ Some c → Outcome (verdict_of words c.files have) old new before after ended status.Done → Replays plan capture out old new (map (λ (d : DeviceState). d.accepted) after)
-  telling c told outcome =
-      let found = command_found plan capture out have c.files c.files old new before after ended outcome in
-      let there = replay plan capture out have c.files c.files old new before after ended found c told output found.plan_there found.capture_there in (
-        run plan capture out have c.files c.files old new before after ended found,
-        headline plan capture out have c.files c.files old new before after ended found,
-        subst (λ (o : Option Contents). IfTold (HasWritten plan capture out (run plan capture out have c.files c.files old new before after ended found)) o new.told) (sym told)
-            (subst (λ (o : Option Contents). IfTold (HasWritten plan capture out (run plan capture out have c.files c.files old new before after ended found)) (Some c) o) (sym there.1) there.2),
-        accepted plan capture out have c.files c.files old new before after ended found,
-        is_capture plan capture out have c.files c.files old new before after ended found,
-        follows plan capture out have c.files c.files old new before after ended found,
+  done : OutcomeOfSome command have old new before after ended status.Done → Replays plan capture out old new (map (λ (d : DeviceState). d.accepted) after)
+  done some =
+      let found = command_found plan capture out have old new before after ended some in (
+        run plan capture out some.0 some.1 old new before after ended found,
+        headline plan capture out some.0 some.1 old new before after ended found,
+        has_written plan capture out some.0 some.1 old new before after ended found output,
+        accepted plan capture out some.0 some.1 old new before after ended found,
+        is_capture plan capture out some.0 some.1 old new before after ended found,
+        follows plan capture out some.0 some.1 old new before after ended found,
       )
 
-  -- one that doesn't
-  silent : old.told ≡ None → OutcomeOfSome (command_of_words words) have old new before after ended status.Done → Replays plan capture out old new (map (λ (d : DeviceState). d.accepted) after)
-  silent told some =
-      let early : Files = λ _. Some some.0 in
-      let late : Files = λ _. Some some.1 in
-      let found = command_found plan capture out have early late old new before after ended some.2 in (
-        run plan capture out have early late old new before after ended found,
-        headline plan capture out have early late old new before after ended found,
-        subst (λ (o : Option Contents). IfTold (HasWritten plan capture out (run plan capture out have early late old new before after ended found)) o new.told) (sym told) tt,
-        accepted plan capture out have early late old new before after ended found,
-        is_capture plan capture out have early late old new before after ended found,
-        follows plan capture out have early late old new before after ended found,
-      )
-
-  by_told : (o : Option Contents) → old.told ≡ o → IfSome o (λ c. Outcome (verdict_of words c.files have) old new before after ended status.Done)
-      → OutcomeOfSome (command_of_words words) have old new before after ended status.Done → Replays plan capture out old new (map (λ (d : DeviceState). d.accepted) after)
-  by_told None told outcome some = silent told some
-  by_told (Some c) told outcome some = telling c told outcome
-
-  pub replays : (answer : Status) → answer ≡ status.Done → IfSome old.told (λ c. Outcome (verdict_of words c.files have) old new before after ended answer)
-      → OutcomeOfSome (command_of_words words) have old new before after ended answer → Replays plan capture out old new (map (λ (d : DeviceState). d.accepted) after)
-  replays answer done outcome some =
-      by_told old.told refl (subst (λ (a : Status). IfSome old.told (λ c. Outcome (verdict_of words c.files have) old new before after ended a)) done outcome)
-      (subst (OutcomeOfSome (command_of_words words) have old new before after ended) done some)
+  pub replays : (answer : Status) → answer ≡ status.Done → OutcomeOfSome command have old new before after ended answer
+      → Replays plan capture out old new (map (λ (d : DeviceState). d.accepted) after)
+  replays answer is some = done (subst (OutcomeOfSome command have old new before after ended) is some)
 
 -- THE EXIT STATUS
 
@@ -247,11 +228,11 @@ done_is_0 (status.Trace reason line) e = absurd (omega arith)
 -- the same without the devices
 abbrev pub ReplaysFiles : List ℕ → List ℕ → List ℕ → HostState → HostState → Type 0
 ReplaysFiles plan capture out old new =
-    (run : Replay) × Headline run × IfTold (HasWritten plan capture out run) old.told new.told × IsCaptureFile run.capture_bytes run.head run.records × FollowsPlan run
+    (run : Replay) × Headline run × HasWritten plan capture out run old new × IsCaptureFile run.capture_bytes run.head run.records × FollowsPlan run
 
 pub programs : (plan capture out : List ℕ) (old new : HostAt) (number : ℕ) → old.state.handles 0 ≡ Some Output → number ≡ 0
     → IsCodeOfWords (codes "run" ∷ plan ∷ capture ∷ out ∷ []) old new number → ReplaysFiles plan capture out old.state new.state
 programs plan capture out old new number output is (inl none) = absurd (let six = none.0 in omega arith)
 programs plan capture out old new number output is (inr call) =
-    let found = replays plan capture out 16 old.state new.state new_bench call.after call.ended output call.status (done_is_0 call.status (sym call.code ∙ is)) call.outcome call.some in
+    let found = replays plan capture out 16 old.state new.state new_bench call.after call.ended output call.status (done_is_0 call.status (sym call.code ∙ is)) call.some in
     (found.0, found.1, found.2, found.4, found.5)

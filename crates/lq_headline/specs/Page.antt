@@ -1,6 +1,6 @@
 -- What `lqtx run PLAN CAPTURE OUT` is proved to do. Texts, files and names are lists of bytes; packets, units (devices), stations and
 -- serials are numbers from 0 on. docs/HEADLINE.md is this text in the order of the sentence.
-use Rattle.std.specs.Prelude.{◌≡◌, ◌↔◌, ◌<◌, ◌≤◌, ◌+◌, ◌==◌, ℕ, true, false, nat_eq, List, [], ◌∷◌, ◌++◌, All, length, map, filter, count_by, slice_get, slice_index_or, Option, Some, None, codes}
+use Rattle.std.specs.Prelude.{◌≡◌, ◌↔◌, ◌<◌, ◌≤◌, ◌+◌, ◌==◌, ℕ, true, false, nat_eq, List, [], ◌∷◌, ◌++◌, All, length, map, filter, count_by, slice_get, slice_index_or, Some, codes}
 use Rattle.std.specs.Fmt.{decimal}
 use Rattle.std.specs.List.{concat, enumerate_from, flat_map, starts_with}
 use Rattle.lq_model.specs.Capture.{is_little_endian}
@@ -8,7 +8,7 @@ use Rattle.lq_model.specs.Numbers.{first_numbers}
 use Rattle.lq_model.specs.declared.fate.Cause.TheVariants.{Event, Hung}
 use Rattle.lq_model.specs.declared.fate.Fate.{Fate}
 use Rattle.lq_model.specs.declared.fate.Fate.TheVariants.{Sent, Full, Shrunk, Purged, Refused}
-use Rattle.lq_host.specs.Host.{Contents}
+use Rattle.lq_host.specs.Host.{HostState}
 use Rattle.lq_pcapng.specs.File.{is_pcapng}
 use Rattle.lq_pcapng.specs.Pcapng.{is_interface, is_packet, number_in, without_length}
 use Rattle.lq_pcapng.specs.Pcapng as ng
@@ -89,25 +89,17 @@ count_lines run =
     ++ flat_map (λ station. codes "station " ++ decimal station ++ unsent_counts (fates_at run station)) (first_numbers run.stations)
     ++ (codes "total " ++ decimal (length run.fates) ++ codes " sent " ++ decimal (count run.fates (codes "sent")) ++ unsent_counts run.fates)
 
--- what the files of these names and the standard output held before the call (`old`), and hold after it (`new`)
-pub record HasWritten (plan capture out : List ℕ) (run : Replay) (old new : Contents) : Type 0 where
-  -- the two files that were read
-  pub plan_file : old.files plan ≡ Some run.plan_text
-  pub capture_file : old.files capture ≡ Some run.capture_bytes
-  -- OUT.0.pcap, OUT.1.pcap and so on are the units' written captures, and OUT.fates has the fates
-  pub captures : (unit : ℕ) → unit < run.units
-      → new.files (out ++ codes "." ++ decimal unit ++ codes ".pcap") ≡ Some (unit_capture run unit)
-  pub fates : new.files (out ++ codes ".fates") ≡ Some (fate_lines run.fates)
+-- what the host had given and been handed before the call (`old`), and after it (`new`)
+pub record HasWritten (plan capture out : List ℕ) (run : Replay) (old new : HostState) : Type 0 where
+  -- the plan was read and then the capture, each once, and no other file; the latest one stands first
+  pub reads : new.given ≡ record { name = capture; bytes = run.capture_bytes } ∷ record { name = plan; bytes = run.plan_text } ∷ old.given
+  -- OUT.0.pcap, OUT.1.pcap and so on were handed the units' written captures, and OUT.fates the fates
+  pub captures : (unit : ℕ) → unit < run.units → new.handed.files (out ++ codes "." ++ decimal unit ++ codes ".pcap") ≡ Some (unit_capture run unit)
+  pub fates : new.handed.files (out ++ codes ".fates") ≡ Some (fate_lines run.fates)
   -- the counts were printed, and after them the lines of multi-queue roots, of which nothing is said here
-  pub counts : (roots : List ℕ) × (new.output ≡ old.output ++ (count_lines run ++ roots))
+  pub counts : (roots : List ℕ) × (new.handed.output ≡ old.handed.output ++ (count_lines run ++ roots))
 
--- P holds of what a host held before and after, if the host tells that (one in memory does, `main`'s own doesn't)
-abbrev pub IfTold : (Contents → Contents → Type 0) → Option Contents → Option Contents → Type 0
-IfTold P None new = Unit {0}
-IfTold P (Some old) None = ⊥
-IfTold P (Some old) (Some new) = P old new
-
--- each unit's device accepted just the packets that the unit sent, in that order; this is said whatever the host tells
+-- each unit's device accepted just the packets that the unit sent, in that order
 abbrev pub HaveAccepted : Replay → List (List ℕ) → Type 0
 HaveAccepted run accepted = (unit : ℕ) → unit < run.units → slice_get accepted unit ≡ Some (run.sent unit)
 

@@ -1,8 +1,8 @@
 -- What the plan and the packets' own bytes say: which sender, which station and which band a packet has.
 use Rattle.std.specs.Prelude.{◌≡◌, ◌<◌, ℕ, [], drop, filter, true, false, length, slice_index_or}
 use Rattle.lq_model.specs.Capture.{Packets, is_little_endian}
-use Rattle.lq_model.specs.Class.{band_of, priority_of}
-use Rattle.lq_model.specs.Plan.{Plan, owner_of, station_of, unit_count}
+use Rattle.lq_model.specs.Class.{band_of}
+use Rattle.lq_model.specs.Plan.{Plan, owner_of, priority_by, station_of, unit_count}
 use Rattle.lq_pcapng.specs.File.{is_pcapng}
 use Rattle.lq_pcapng.specs.Pcapng.{NgCapture, frame_in, is_interface, link_in, number_in}
 use Rattle.lq_pcapng.specs.Pcapng as ng
@@ -29,6 +29,6 @@ pub record FollowsRules (run : Replay) (plan : Plan) (packets : Packets) : Type 
   pub units : run.units ≡ unit_count plan
   pub sender_is : (n : ℕ) → run.sender n ≡ owner_of plan packets n
   pub station_is : (n : ℕ) → run.station n ≡ station_of plan packets n
-  pub band_is : (n : ℕ) → run.band n ≡ band_of (priority_of (packets.link n) (packets.frame n))
+  pub band_is : (n : ℕ) → run.band n ≡ band_of (priority_by plan.classify packets n)
   pub classic : is_pcapng run.capture_bytes ≡ false → AreClassic run packets
   pub pcapng : is_pcapng run.capture_bytes ≡ true → ArePcapng run packets

@@ -12,7 +12,7 @@ ghost use Rattle.lq_model.specs.declared.machine.Packet.{Packet};
 ghost use Rattle.lq_table.specs.Between.{HasNothingOwn, IsTableQuiet};
 ghost use Rattle.lq_table.specs.Rule.{Rule, words_of};
 ghost use Rattle.lq_table.specs.Views.{Setup, View};
-ghost use Rattle.lq_headline.specs.Page.{HaveAccepted, Headline, IfTold, IsCaptureFile, HasWritten, Replay};
+ghost use Rattle.lq_headline.specs.Page.{HaveAccepted, Headline, IsCaptureFile, HasWritten, Replay};
 ghost use Rattle.lq_headline.specs.Plans.{FollowsPlan};
 ghost use Rattle.lq_headline.specs.Quiet.{AllHaveFates, AreOpenAtXmit, HoldsNoPacket};
 
@@ -33,13 +33,13 @@ use std::thread::Threads;
 ///
 /// - `Headline`: each packet of the capture has exactly one fate; each device sent just the packets whose fates say that it did, and those
 ///   of one sender and one band in that sender's order;
-/// - `HasWritten`: each device's written capture is the records of the packets that it sent, and the counts are the fates'. This is said of a
-///   host that tells what its files hold, as a host in memory does; of real files no contract can say it;
+/// - `HasWritten`: the plan and the capture are the bytes that the reads of these two files returned, and no other file was read; each device's
+///   written capture is the records of the packets that it sent, and the counts are the fates', in the bytes that were handed over to writes;
 /// - `HaveAccepted`: each device accepted the packets that were sent by it, and no others;
 /// - `IsCaptureFile`: the packets are those of the capture;
 /// - `FollowsPlan`: their senders, stations and bands are as the plan and their own bytes say (`specs/Rules.antt`, `specs/Plans.antt`).
 ///
-/// The host is one that lets every file be opened and created.
+/// The host is any one that lets every file be opened and created.
 pub fn replay<R: Threads + Wait + Sync, H: Host, G: Gate, D: TxDevice>(
     rt: &R,
     alloc: Global,
@@ -53,7 +53,7 @@ pub fn replay<R: Threads + Wait + Sync, H: Host, G: Gate, D: TxDevice>(
     requires may_open { (name : List ℕ) → H.may_open name }
     requires may_create { (name : List ℕ) → H.may_create name }
     ensures headline { result ≡ Status.Done → (run : Replay) × Headline run
-        × IfTold (HasWritten plan.now capture.now out.now run) (H.state host.old).told (H.state host.new).told
+        × HasWritten plan.now capture.now out.now run (H.state host.old) (H.state host.new)
         × HaveAccepted run (map (λ device. (D.state device).accepted) bench.new.items)
         × IsCaptureFile run.capture_bytes run.head run.records
         × FollowsPlan run }
@@ -70,8 +70,8 @@ pub fn replay<R: Threads + Wait + Sync, H: Host, G: Gate, D: TxDevice>(
     )
 }
 
-/// The same of the exit status: what the program has done with these words where it is 0, over a host that tells. (`main` is `run_words` over
-/// the real files, of which nothing is told; so of `main` this says nothing.)
+/// The same of the exit status: what the program has done with these words where it is 0. (`main` is `run_words` over the real files, with the
+/// words behind the program's own name; so this is said of `main`, too.)
 pub fn replay_by_program<R: Threads + Wait + Sync, H: Host>(
     rt: &R,
     alloc: Global,
@@ -83,7 +83,7 @@ pub fn replay_by_program<R: Threads + Wait + Sync, H: Host>(
     requires may_open { (name : List ℕ) → H.may_open name }
     requires may_create { (name : List ℕ) → H.may_create name }
     ensures headline { result ≡ 0 → (run : Replay) × Headline run
-        × IfTold (HasWritten plan.now capture.now out.now run) (H.state host.old).told (H.state host.new).told
+        × HasWritten plan.now capture.now out.now run (H.state host.old) (H.state host.new)
         × IsCaptureFile run.capture_bytes run.head run.records
         × FollowsPlan run }
 {

@@ -16,5 +16,5 @@ returns g c = record {
       (accepted-is g.D.TxDevice.state c.lqtx.new.bench.items)
       (replays c.args.plan.now c.args.capture.now c.args.out.now (vec_len c.args.bench.now) (g.H.Host.state c.args.host.now) (g.H.Host.state c.lqtx.new.host)
       (map g.D.TxDevice.state c.args.bench.now.items) (map g.D.TxDevice.state c.lqtx.new.bench.items) (map ended_state c.lqtx.new.ended.items)
-      (g.met.H.Host.output_is_open c.args.host.now) c.lqtx.result done c.lqtx.ensures.outcome c.lqtx.ensures.some);
+      (g.met.H.Host.output_is_open c.args.host.now) c.lqtx.result done c.lqtx.ensures.some);
 }
