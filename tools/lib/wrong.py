@@ -269,7 +269,9 @@ def holes_for(edits, functions):
 
 def control(crate, edits, functions):
     """A check without an edit: the functions that may have holes, and those of the edited ones that it doesn't prove as they stand."""
-    targets = list(dict.fromkeys(path for it in edits for path in it.targets))
+    paths = {it.path for it in functions}
+    # a function that an edit adds isn't there without it
+    targets = list(dict.fromkeys(path for it in edits for path in it.targets if path in paths))
     said = check(crate, [], targets, holes_for(edits, functions))
     # an impl for a type with arguments has another name
     unknown = {it.replace("/", "::") for it in re.findall(r"^\./proofs/(\S+)/Proof\.antt: error: ", said, re.M)}
