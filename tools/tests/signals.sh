@@ -20,11 +20,14 @@ while not (os.path.exists("pid") and open("pid").read().strip()):
     time.sleep(0.02)
 run.send_signal(int(sys.argv[2]))
 ended = run.wait()
-try:
-    os.kill(int(open("pid").read()), 0)
-    sys.exit(2)
-except OSError:
-    sys.exit(ended != -int(sys.argv[2]))
+# where much else runs the program's end may take a moment
+for _ in range(500):
+    try:
+        os.kill(int(open("pid").read()), 0)
+        time.sleep(0.02)
+    except OSError:
+        sys.exit(ended != -int(sys.argv[2]))
+sys.exit(2)
 PY
     tells "ended by signal ${row#*:} (${row%:*}); the outputs may not be whole"
     hides "Terminated"
