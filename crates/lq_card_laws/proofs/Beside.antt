@@ -5,14 +5,14 @@ use Rattle.std.proofs.lemmas.Bool.{le-leb}
 use Rattle.lq_model.specs.Alone.{RunningStation, after_packets, brought_in, bypass_of, changed, changed_where, events_before, new_stations, opened, opened_and_served, served, turn_ended, with_event, with_events, with_packet, with_turn}
 use Rattle.lq_model.specs.Capture.{Packets}
 use Rattle.lq_model.specs.Plan.{Plan, is_at, station_in}
-use Rattle.lq_model.specs.Wire.{Wired, after_wired, first_wired, moment, openings_of_card, stepped, turned, wired_with, with_changes}
-use Rattle.lq_model.specs.Wire.{with_packet as with_packet_of}
+use Rattle.lq_model.specs.Wire.{Wired, after_wired, first_wired, moment, openings_of_card, made_at, turned, wired_with, with_changes}
+use Rattle.lq_model.specs.Wire.{served_with}
 use Rattle.lq_model.specs.declared.fate.Info.{Info}
 use Rattle.lq_model.specs.declared.plan.Card.{Card}
 use Rattle.lq_model.specs.declared.plan.EventPlan.{EventPlan}
 use Rattle.lq_model.specs.declared.plan.StationPlan.{StationPlan}
 use Rattle.lq_card_laws.specs.Laws.{FitsCard, HasOneStation, reopened}
-use Rattle.lq_lone.specs.Lone.{Rest, State}
+use Rattle.lq_lone.specs.Lone.{Rest, LoneState}
 use Rattle.lq_model.specs.Account.{new_account}
 use Rattle.lq_model.specs.Band.{empty_band}
 use Rattle.lq_lone.proofs.Still.{HasIt, HasSettled, settled-same, still-brought, still-changed, still-opened, still-served}
@@ -39,7 +39,7 @@ module _ (card : Card) (plan : Plan) (packets : Packets) (infos : List Info) (st
 
   -- A PACKET
 
-  packet-one : (n : ℕ) (s : RunningStation) → with_packet plan infos n (s ∷ []) ≡ with_packet_of plan infos n s ∷ []
+  packet-one : (n : ℕ) (s : RunningStation) → with_packet plan infos n (s ∷ []) ≡ served_with plan infos n s ∷ []
   packet-one n s = ap (λ (j : ℕ). cond (0 == j) (served infos (brought_in infos (bypass_of plan j) n s)) s ∷ []) (one.packets n)
 
   -- WHAT FOLLOWS IT
@@ -68,8 +68,8 @@ module _ (card : Card) (plan : Plan) (packets : Packets) (infos : List Info) (st
   beside (suc n) below =
       let s = (wired n).station in let before = events_before plan n in
       let here = (wired_with card plan packets infos n (wired n)).station in
-      let stepped_is : here ≡ with_packet_of plan infos n (with_changes plan infos before s) =
-      stepped-station card packets infos (moment card packets n) (λ s. with_packet_of plan infos n (with_changes plan infos before s)) (wired n) in
+      let stepped_is : here ≡ served_with plan infos n (with_changes plan infos before s) =
+      stepped-station card packets infos (moment card packets n) (λ s. served_with plan infos n (with_changes plan infos before s)) (wired n) in
       ap (λ (ss : List RunningStation). with_turn plan infos (openings_of_card card plan packets infos) (λ m. true) n ss) (beside n (omega arith))
       ∙ (ap (λ (ss : List RunningStation). turn_ended infos (openings_of_card card plan packets infos n) (with_packet plan infos n ss)) (events-one before s)
       ∙ (ap (turn_ended infos (openings_of_card card plan packets infos n)) (packet-one n (with_changes plan infos before s))
@@ -101,7 +101,7 @@ module _ (card : Card) (plan : Plan) (packets : Packets) (infos : List Info) (st
 
   begins : HasIt (first_wired station).station
   begins =
-      let m : State = record { len = station.len; low = empty_band; mid = empty_band; high = empty_band; slot = None; stopped = false; clean = true; down = false } in
+      let m : LoneState = record { len = station.len; low = empty_band; mid = empty_band; high = empty_band; slot = None; stopped = false; clean = true; down = false } in
       let rest : Rest = record { bands = λ (_ : ℕ). empty_band; unit = 0; sent = λ (_ : ℕ). []; fates = λ (_ : ℕ). None; down = None; busy_limit = station.params.busy_limit; busies = 0 } in (
         m,
         record {
@@ -117,7 +117,7 @@ module _ (card : Card) (plan : Plan) (packets : Packets) (infos : List Info) (st
   brought-settled : (n : ℕ) (w : Wired) → HasIt w.station → HasSettled (wired_with card plan packets infos n w).station
   brought-settled n w has =
       let ready = with_changes plan infos (events_before plan n) w.station in
-      subst HasSettled (sym (stepped-station card packets infos (moment card packets n) (λ s. with_packet_of plan infos n (with_changes plan infos (events_before plan n) s)) w))
+      subst HasSettled (sym (stepped-station card packets infos (moment card packets n) (λ s. served_with plan infos n (with_changes plan infos (events_before plan n) s)) w))
       (still-brought infos fits.first_queue (bypass_of plan 0) n ready (fits.bands n) (changed-still (events_before plan n) w.station has))
 
   wired-still : (n : ℕ) → HasIt (after_wired card plan packets infos (first_wired station) n).station

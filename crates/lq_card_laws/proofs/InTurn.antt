@@ -6,7 +6,7 @@ use Rattle.lq_model.specs.Account.{held}
 use Rattle.lq_model.specs.Alone.{RunningStation, brought_in, events_after, events_before, opened, served}
 use Rattle.lq_model.specs.Capture.{Packets}
 use Rattle.lq_model.specs.Plan.{Plan}
-use Rattle.lq_model.specs.Wire.{Opened, Wired, accepted_at, after_wired, all_accepted_at, all_interrupted, come, delay, finished_wired, first_wired, flights_of, flights_of_card, has_room, interrupted, interrupted_while, is_shut, left_at, moment, newly_sent, next_interrupt, opened_at, opened_while, stepped, turned, wire_time, wired_with, with_changes, with_packet}
+use Rattle.lq_model.specs.Wire.{OpenedSoFar, Wired, with_flight, after_wired, with_flights, all_interrupted, come, delay, finished_wired, first_wired, flights_of, flights_of_card, ring_has_room, interrupted, interrupted_while, is_shut, left_at, moment, newly_sent, next_interrupt, opened_at, opened_while, made_at, turned, wire_time, wired_with, with_changes, served_with}
 use Rattle.lq_model.specs.declared.fate.Info.{Info}
 use Rattle.lq_model.specs.declared.flight.Flight.{Flight}
 use Rattle.lq_model.specs.declared.plan.Card.{Card}
@@ -31,37 +31,37 @@ module _ (card : Card) (packets : Packets) (infos : List Info) where
   abbrev InTurn : Wired → Type 0
   InTurn w = UpTo card 0 w.flights w.free
 
-  if-in-turn : (b : Bool) (x y : Opened) → InTurn x.wired → InTurn y.wired → InTurn (cond b x y).wired
+  if-in-turn : (b : Bool) (x y : OpenedSoFar) → InTurn x.wired → InTurn y.wired → InTurn (cond b x y).wired
   if-in-turn true x y one two = one
   if-in-turn false x y one two = two
 
-  accepts : (now : ℕ) (ns : List ℕ) (w : Wired) → InTurn w → InTurn (all_accepted_at card packets now ns w)
+  accepts : (now : ℕ) (ns : List ℕ) (w : Wired) → InTurn w → InTurn (with_flights card packets now ns w)
   accepts now [] w up = up
-  accepts now (n ∷ ns) w up = accepts now ns (accepted_at card packets now n w) (one-more card 0 w.flights w.free _ up refl refl)
+  accepts now (n ∷ ns) w up = accepts now ns (with_flight card packets now n w) (one-more card 0 w.flights w.free _ up refl refl)
 
-  steps : (now : ℕ) (step : RunningStation → RunningStation) (w : Wired) → InTurn w → InTurn (stepped card packets now step w)
+  steps : (now : ℕ) (step : RunningStation → RunningStation) (w : Wired) → InTurn w → InTurn (made_at card packets now step w)
   steps now step w up = accepts now (newly_sent w.station (step w.station)) (record w { station = step w.station }) up
 
-  opens : (now more : ℕ) (o : Opened) → InTurn o.wired → InTurn (opened_while card packets infos now more o).wired
+  opens : (now more : ℕ) (o : OpenedSoFar) → InTurn o.wired → InTurn (opened_while card packets infos now more o).wired
   opens now zero o up = up
   opens now (suc more) o up =
-      let next : Opened = record { times = o.times + 1; wired = stepped card packets now (λ s. served infos (opened s)) o.wired } in
-      if-in-turn (is_shut o.wired.station && has_room card o.wired.ring) (opened_while card packets infos now more next) o
+      let next : OpenedSoFar = record { times = o.times + 1; wired = made_at card packets now (λ s. served infos (opened s)) o.wired } in
+      if-in-turn (is_shut o.wired.station && ring_has_room card o.wired.ring) (opened_while card packets infos now more next) o
       (opens now more next (steps now (λ s. served infos (opened s)) o.wired up)) up
 
-  interrupts : (now : ℕ) (o : Opened) → InTurn o.wired → InTurn (interrupted card packets infos now o).wired
+  interrupts : (now : ℕ) (o : OpenedSoFar) → InTurn o.wired → InTurn (interrupted card packets infos now o).wired
   interrupts now o up =
-      let left : Opened = record o { wired = record o.wired { ring = left_at now o.wired.ring } } in
+      let left : OpenedSoFar = record o { wired = record o.wired { ring = left_at now o.wired.ring } } in
       opens now (length (held left.wired.station.account) + 1) left up
 
-  by-ring : (due : ℕ → Bool) (more : ℕ) (ring : List Flight) (o : Opened) → ((next : Opened) → InTurn next.wired → InTurn (interrupted_while card packets infos due more next).wired) → InTurn o.wired
+  by-ring : (due : ℕ → Bool) (more : ℕ) (ring : List Flight) (o : OpenedSoFar) → ((next : OpenedSoFar) → InTurn next.wired → InTurn (interrupted_while card packets infos due more next).wired) → InTurn o.wired
       → InTurn (next_interrupt card packets infos due (interrupted_while card packets infos due more) ring o).wired
   by-ring due more [] o rest up = up
   by-ring due more (f ∷ ring) o rest up =
       let next = interrupted card packets infos (f.ends + delay card) o in
       if-in-turn (due (f.ends + delay card)) (interrupted_while card packets infos due more next) o (rest next (interrupts (f.ends + delay card) o up)) up
 
-  goes : (due : ℕ → Bool) (more : ℕ) (o : Opened) → InTurn o.wired → InTurn (interrupted_while card packets infos due more o).wired
+  goes : (due : ℕ → Bool) (more : ℕ) (o : OpenedSoFar) → InTurn o.wired → InTurn (interrupted_while card packets infos due more o).wired
   goes due zero o up = up
   goes due (suc more) o up = by-ring due more o.wired.ring o (λ next so. goes due more next so) up
 
@@ -70,7 +70,7 @@ module _ (card : Card) (packets : Packets) (infos : List Info) where
     comes n w up =
         let now = moment card packets n in let here = wired_with card plan packets infos n w in
         opens now (length (held here.station.account) + 1) (record { times = 0; wired = here })
-        (steps now (λ s. with_packet plan infos n (with_changes plan infos (events_before plan n) s)) w up)
+        (steps now (λ s. served_with plan infos n (with_changes plan infos (events_before plan n) s)) w up)
 
     turns : (n : ℕ) (w : Wired) → InTurn w → InTurn (turned card plan packets infos n w).wired
     turns n w up =
@@ -84,7 +84,7 @@ module _ (card : Card) (packets : Packets) (infos : List Info) where
     finishes : (n : ℕ) (w : Wired) → InTurn w → InTurn (finished_wired card plan packets infos n w)
     finishes n w up =
         let now = moment card packets n in let o = come card plan packets infos n w in
-        let left = stepped card packets now (with_changes plan infos (events_after plan packets.count)) o.wired in
+        let left = made_at card packets now (with_changes plan infos (events_after plan packets.count)) o.wired in
         goes (λ now. true) (length left.ring + length (held left.station.account)) (record { times = 0; wired = left })
         (steps now (with_changes plan infos (events_after plan packets.count)) o.wired (comes n w up))
 

@@ -14,7 +14,7 @@ use Rattle.clap.specs.Walk.{Held, Names, Row, Text, Walk, finished, idle, nothin
 use Rattle.clap.specs.declared.builder.value_parser.Reading.TheVariants.{AsWritten}
 use Rattle.clap.specs.declared.parser.matches.ValueSource.TheVariants.{CommandLine}
 use Rattle.clap.proofs.WalkLemmas.{both, walk_stopped}
-use Rattle.lq_run_core.specs.Schedule.{number_in, number_of}
+use Rattle.lq_run_core.specs.Schedule.{number_between, number_of}
 use Rattle.lq_files.specs.Command.{CommandWords, AreOperandsWithin, OfGen, OfTap, OfTrace, command_of_words, command_with, gen_of, is_operand, bytes_of_words, tap_of}
 use Rattle.lq_files.specs.Forms.{command_in, five_in, one_in, table_app, three_in}
 use Rattle.lq_files.proofs.ParseLemmas.{Fails, IsPlain, built_taken, fails_here, fails_later, level_fails_after, level_fails_below, level_fails_in_walk, level_taken, passes_more, passes_none, plain, some_kind, standing, step, step_fails_as, step_is_taken}
@@ -530,7 +530,7 @@ few_in number None out = _
 few_in number (Some n) out = few_within n number out
 
 few_gen : (number : Option ℕ) (count : List ℕ) (out : List ℕ)
-    → AreOperandsWithin (option_and_then (λ n. option_map (λ k. OfGen (record { number = n; count = k; out = out })) (number_in 0 1000000 count)) number)
+    → AreOperandsWithin (option_and_then (λ n. option_map (λ k. OfGen (record { number = n; count = k; out = out })) (number_between 0 1000000 count)) number)
 few_gen None count out = _
 few_gen (Some n) count out = few_in n (number_of count) out
 
@@ -558,7 +558,7 @@ tap_limits (Some n) (Some m) (Some k) capture out s l b = record { some_senders 
 
 few_tap : (senders len batch capture out : List ℕ) → AreOperandsWithin (tap_of senders len batch capture out)
 few_tap senders len batch capture out =
-    tap_limits (number_in 1 8 senders) (number_in 1 4096 len) (number_in 1 64 batch) capture out (within_is 1 8 (number_of senders)) (within_is 1 4096 (number_of len))
+    tap_limits (number_between 1 8 senders) (number_between 1 4096 len) (number_between 1 64 batch) capture out (within_is 1 8 (number_of senders)) (within_is 1 4096 (number_of len))
     (within_is 1 64 (number_of batch))
 
 -- a command generates at most 1,000,000 records, and a tap is within its limits
@@ -567,7 +567,7 @@ limits_with verb [] = _
 limits_with verb (p ∷ []) = few_if (bytes_eq verb trace) (Some (OfTrace p)) None _ _
 limits_with verb (p ∷ c ∷ []) = _
 limits_with verb (p ∷ c ∷ o ∷ []) =
-    few_if (bytes_eq verb run) _ _ _ (few_if (bytes_eq verb gen) (gen_of p c o) None (few_gen (number_in 0 4294967295 p) c o) _)
+    few_if (bytes_eq verb run) _ _ _ (few_if (bytes_eq verb gen) (gen_of p c o) None (few_gen (number_between 0 4294967295 p) c o) _)
 limits_with verb (p ∷ c ∷ o ∷ f ∷ []) = _
 limits_with verb (p ∷ c ∷ o ∷ f ∷ i ∷ []) = few_if (bytes_eq verb tap) (tap_of p c o f i) None (few_tap p c o f i) _
 limits_with verb (p ∷ c ∷ o ∷ f ∷ i ∷ n ∷ ns) = _

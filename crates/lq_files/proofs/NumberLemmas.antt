@@ -8,7 +8,7 @@ use Rattle.std.proofs.lemmas.Bool.{ltb-true}
 use Rattle.std.proofs.lemmas.Bool.Decides.{leb_tells}
 use Rattle.std.proofs.lemmas.Str.Parse.{IsNumeralModel, numerals_by_value, parse_digits}
 use Rattle.clap.proofs.WalkLemmas.{both}
-use Rattle.lq_run_core.specs.Schedule.{is_number, number_in}
+use Rattle.lq_run_core.specs.Schedule.{is_number, number_between}
 
 own : IsNumeralModel (λ ds. list_all is_ascii_digit ds ≡ true) (digits_value 10)
 own = numerals_by_value (λ ds. list_all is_ascii_digit ds ≡ true) (search rules)
@@ -23,7 +23,7 @@ is_above least most n above = elim (leb_tells least n) [ inl at ↦ rw (at.0, ab
 -- a number that isn't read is above them
 pub number_not_read :
     {E : Type 0} → (word : List ℕ) (least most : ℕ) (r : Result ℕ E) (e : E) → ParsesUnsigned 32 10 word r → is_number word ≡ true → r ≡ Err e → most < 2 ^ 32
-    → None ≡ number_in least most word
+    → None ≡ number_between least most word
 number_not_read word least most r e parses is read small =
     let digits = are_digits word is in
     let parsed : OkIff r ((0 < length word) × (digits_value 10 word < 2 ^ 32)) (digits_value 10 word) = parse_digits own 32 word r parses digits.1 in

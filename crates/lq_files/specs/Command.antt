@@ -3,7 +3,7 @@ use Rattle.std.specs.Prelude.{ℕ, ◌≤◌, Bool, false, not, ◌==◌, if◌t
 use Rattle.std.specs.Borrow.{Bor}
 use Rattle.std.specs.List.{list_all}
 use Rattle.std.specs.Str.{bytes_eq}
-use Rattle.lq_run_core.specs.Schedule.{number_in}
+use Rattle.lq_run_core.specs.Schedule.{number_between}
 use Rattle.lq_fates.specs.Tap.{IsTapWithin}
 use Rattle.lq_files.specs.declared.command.Command.{Command}
 use Rattle.lq_files.specs.declared.command.Command.TheVariants.{Run, Gen, Trace, Tap}
@@ -49,12 +49,12 @@ is_operand (c ∷ cs) = not (c == 45)
 
 abbrev pub gen_of : List ℕ → List ℕ → List ℕ → Option CommandWords
 gen_of number count out =
-    option_and_then (λ n. option_map (λ k. OfGen (record { number = n; count = k; out = out })) (number_in 0 1000000 count)) (number_in 0 4294967295 number)
+    option_and_then (λ n. option_map (λ k. OfGen (record { number = n; count = k; out = out })) (number_between 0 1000000 count)) (number_between 0 4294967295 number)
 
 abbrev pub tap_of : List ℕ → List ℕ → List ℕ → List ℕ → List ℕ → Option CommandWords
 tap_of senders len batch capture out =
     option_and_then (λ s. option_and_then (λ l. option_map (λ b. OfTap (record { senders = s; len = l; batch = b; capture = capture; out = out }))
-    (number_in 1 64 batch)) (number_in 1 4096 len)) (number_in 1 8 senders)
+    (number_between 1 64 batch)) (number_between 1 4096 len)) (number_between 1 8 senders)
 
 -- the command of a verb and its operands, if they are one
 abbrev pub command_with : List ℕ → List (List ℕ) → Option CommandWords

@@ -9,7 +9,7 @@ ghost use Rattle.std.specs.Prelude.{◌≡◌, ◌≤◌, [], ◌∷◌, true, f
 ghost use Rattle.std.specs.List.{list_all};
 ghost use Rattle.clap.specs.Words.{app_of, found_of, with_rule, with_subcommand, rows_of, rule_of, subcommand_rows_of};
 ghost use Rattle.clap.specs.declared.builder.command.Command.TheViews.{out-Command as fields_of};
-ghost use Rattle.lq_run_core.specs.Schedule.{number_in};
+ghost use Rattle.lq_run_core.specs.Schedule.{number_between};
 ghost use Rattle.lq_files.specs.Command.{command_of_words, command_with, command_words, gen_of, bytes_of_words, is_operand, tap_of};
 ghost use Rattle.lq_files.specs.Forms.{bare_app, command_in, five_in, form_of_five, form_of_one, form_of_three, one_in, operand_rule, table_app, three_in};
 
@@ -166,7 +166,7 @@ fn table<'a>(alloc: Global) -> Result<clap::Command<'a>, AllocError>
 
 /// The number that a word writes in decimal digits, with no leading zero unless it is 0, between two limits.
 fn number_within(word: &str, least: u32, most: u32) -> Option<u32>
-    ensures number { result ≡ number_in least most word.now }
+    ensures number { result ≡ number_between least most word.now }
     ensures within { IfSome result (λ n. (least ≤ n) × (n ≤ most)) }
 {
     if !is_number(word.as_bytes()) {

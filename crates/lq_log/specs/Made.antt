@@ -58,8 +58,8 @@ module _ {S : Type 0} where
   falls s _ = fall s.word s.first
 
 -- a list once a seat with that list was taken in: its steps come behind the join, before those made until then
-abbrev pub joined : List Made → List Made → List Made
-joined from into = join (length from) ∷ (from ++ into)
+abbrev pub with_join : List Made → List Made → List Made
+with_join from into = join (length from) ∷ (from ++ into)
 
 -- WHAT A SEAT KNOWS: its view, the steps that it made, the latest first, and how many cuts lead to it from the table's first seat
 
@@ -83,7 +83,7 @@ module _ {V : Type 0} where
 
   -- it takes in another
   abbrev pub having_joined : (V → V → V) → WithSteps V → WithSteps V → WithSteps V
-  having_joined both m other = record { view = both m.view other.view; steps = joined other.steps m.steps; depth = m.depth }
+  having_joined both m other = record { view = both m.view other.view; steps = with_join other.steps m.steps; depth = m.depth }
 
   abbrev pub views_of : List (WithSteps V) → List V
   views_of ms = map (λ (m : WithSteps V). m.view) ms

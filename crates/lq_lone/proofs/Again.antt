@@ -2,11 +2,11 @@
 use Rattle.std.proofs.Common.{◌≡◌, ◌⊎◌, inl, inr, ℕ, Bool, true, false, Option, Some, None, List, refl, sym, ap, ◌∙◌}
 use Rattle.lq_model.specs.Alone.{RunningStation, served}
 use Rattle.lq_model.specs.declared.fate.Info.{Info}
-use Rattle.lq_lone.specs.Lone.{HaveOneQueue, IsLone, State, first_of, station_with}
+use Rattle.lq_lone.specs.Lone.{HaveOneQueue, IsLone, LoneState, first_of, station_with}
 use Rattle.lq_lone.proofs.Serves.{by-high, by-low, by-mid, by-none, by-slot, none-is, same-served}
 
-module _ (infos : List Info) (queues : HaveOneQueue infos) (s : RunningStation) (m : State) (lone : IsLone m s) where
-  still : (n : State) → IsLone n (served infos s) → n.stopped ≡ true → served infos (served infos s) ≡ served infos s
+module _ (infos : List Info) (queues : HaveOneQueue infos) (s : RunningStation) (m : LoneState) (lone : IsLone m s) where
+  still : (n : LoneState) → IsLone n (served infos s) → n.stopped ≡ true → served infos (served infos s) ≡ served infos s
   still n now stopped = same-served infos (served infos s) n now (inr stopped)
 
   open-again : (slot low mid high : Option ℕ) → m.stopped ≡ false → m.down ≡ false → m.slot ≡ slot → first_of m.low ≡ low → first_of m.mid ≡ mid → first_of m.high ≡ high

@@ -9,7 +9,8 @@ use Rattle.lq_model.specs.Plan.{band_in, queue_in}
 use Rattle.lq_model.specs.declared.device.Tx.{Tx}
 use Rattle.lq_model.specs.declared.fate.Fate.TheVariants as fate
 use Rattle.lq_model.specs.declared.fate.Info.{Info}
-use Rattle.lq_lone.specs.Lone.{HaveOneQueue, IsLone, Rest, State, Steps, IsSettled, is_stopped, is_down, is_empty, sent_now, station_with}
+use Rattle.lq_model.specs.Wire.{sent_now}
+use Rattle.lq_lone.specs.Lone.{HaveOneQueue, IsLone, Rest, LoneState, StepsLone, HasNothingToServe, is_stopped, is_down, is_empty, station_with}
 use Rattle.lq_lone.proofs.Serving.{sent-on, stops-at}
 use Rattle.lq_lone.proofs.Serves.{is-none, not-served, stays}
 
@@ -35,7 +36,7 @@ sent-more : (x : Rest) (n len : ℕ) (slot : Option ℕ) (clean : Bool) (s t : R
 sent-more x n len slot clean s t is was =
     ap sent_now is ∙ (ap (λ (b : Bool). cond b (x.sent x.unit ++ n ∷ []) (x.sent x.unit)) (eq-eqb x.unit x.unit refl) ∙ ap (λ (l : List ℕ). l ++ n ∷ []) (sym was))
 
-module _ (infos : List Info) (s : RunningStation) (m : State) (n : ℕ) (queues : HaveOneQueue infos) (lone : IsLone m s) (active : m.down ≡ false) where
+module _ (infos : List Info) (s : RunningStation) (m : LoneState) (n : ℕ) (queues : HaveOneQueue infos) (lone : IsLone m s) (active : m.down ≡ false) where
   abbrev x : Rest
   x = lone.rest
 
@@ -45,7 +46,7 @@ module _ (infos : List Info) (s : RunningStation) (m : State) (n : ℕ) (queues 
   at : (stopped : Bool) → m.stopped ≡ stopped → m.clean ≡ true → s ≡ station_with x m.len m.slot stopped true
   at stopped is clean = lone.is ∙ ap₂ (station_with x m.len m.slot) is clean
 
-  pub passes-open : m.stopped ≡ false → m.clean ≡ true → Steps (Some n) (record m { stopped = true }) s (served infos (brought_in infos true n s))
+  pub passes-open : m.stopped ≡ false → m.clean ≡ true → StepsLone (Some n) (record m { stopped = true }) s (served infos (brought_in infos true n s))
   passes-open running clean =
       let brought = ap (brought_in infos true n) (at false running clean) ∙ direct-open infos x m.len n m.slot queues off in
       let is = brought ∙ ap (station_with (sent-on x n) m.len m.slot true) (sym clean) in
@@ -53,7 +54,7 @@ module _ (infos : List Info) (s : RunningStation) (m : State) (n : ℕ) (queues 
       let rest = not-served infos (brought_in infos true n s) (record m { stopped = true }) now (inr refl) in
       record { is = rest.is; sent = rest.sent ∙ (append-nil _ ∙ sent-more x n m.len m.slot m.clean s (brought_in infos true n s) is (ap sent_now lone.is)) }
 
-  pub passes-shut : m.stopped ≡ true → m.clean ≡ true → Steps None (record m { slot = Some n; clean = false }) s (served infos (brought_in infos true n s))
+  pub passes-shut : m.stopped ≡ true → m.clean ≡ true → StepsLone None (record m { slot = Some n; clean = false }) s (served infos (brought_in infos true n s))
   passes-shut stopped clean =
       let is = ap (brought_in infos true n) (at true stopped clean) ∙ direct-shut infos x m.len n m.slot queues off in
       let same = ap (λ (b : Bool). station_with x m.len (Some n) b false) (sym stopped) in
@@ -63,13 +64,13 @@ module _ (infos : List Info) (s : RunningStation) (m : State) (n : ℕ) (queues 
 
 -- REFUSED
 
-pub refuses : (infos : List Info) (s : RunningStation) (m : State) (n : ℕ) (bypass : Bool) → IsLone m s → m.down ≡ true → Steps None m s (served infos (brought_in infos bypass n s))
+pub refuses : (infos : List Info) (s : RunningStation) (m : LoneState) (n : ℕ) (bypass : Bool) → IsLone m s → m.down ≡ true → StepsLone None m s (served infos (brought_in infos bypass n s))
 refuses infos s m n bypass lone down = go lone.rest.down refl
   where
     x : Rest
     x = lone.rest
 
-    go : (o : Option ℕ) → x.down ≡ o → Steps None m s (served infos (brought_in infos bypass n s))
+    go : (o : Option ℕ) → x.down ≡ o → StepsLone None m s (served infos (brought_in infos bypass n s))
     go None none = absurd (let wrong : false ≡ true = ap is_some (sym none) ∙ (lone.down ∙ down) in cc)
     go (Some e) by =
         let t = station_with x m.len m.slot m.stopped m.clean in
@@ -92,7 +93,7 @@ open-is true = refl
 open-is false = refl
 
 -- behind serving, the next packet may go past the bands where it might and the queue is open
-through : (infos : List Info) (s : RunningStation) (m : State) → IsLone m s
+through : (infos : List Info) (s : RunningStation) (m : LoneState) → IsLone m s
     → IsLone (record m { clean = m.clean && not m.stopped }) (record s { clean = s.clean && (is_shared s.account || is_open s.account 0) })
 through infos s m lone = record {
   rest = lone.rest;
@@ -104,19 +105,19 @@ through infos s m lone = record {
   down = lone.down;
 }
 
-pub settled-still : (m : State) → IsSettled m → IsSettled (record m { clean = m.clean && not m.stopped })
+pub settled-still : (m : LoneState) → HasNothingToServe m → HasNothingToServe (record m { clean = m.clean && not m.stopped })
 settled-still m (is_stopped stopped) = is_stopped stopped
 settled-still m (is_down down) = is_down down
 settled-still m (is_empty clean slot low mid high) = go m.stopped refl
   where
-    go : (b : Bool) → m.stopped ≡ b → IsSettled (record m { clean = m.clean && not m.stopped })
+    go : (b : Bool) → m.stopped ≡ b → HasNothingToServe (record m { clean = m.clean && not m.stopped })
     go true stopped = is_stopped stopped
     go false running = is_empty (ap₂ (λ (b c : Bool). b && not c) clean running) slot low mid high
 
-pub goes-through : (infos : List Info) (s : RunningStation) (m1 m2 : State) (o : Option ℕ) (n : ℕ) (bypass : Bool) → HaveOneQueue infos → s.account.down ≡ None → (bypass && s.clean) ≡ false
-    → Steps o m2 (record s { account = joined_or_full n (band_in infos n) s.account }) (served infos (record s { account = joined_or_full n (band_in infos n) s.account })) → IsSettled m2
+pub goes-through : (infos : List Info) (s : RunningStation) (m1 m2 : LoneState) (o : Option ℕ) (n : ℕ) (bypass : Bool) → HaveOneQueue infos → s.account.down ≡ None → (bypass && s.clean) ≡ false
+    → StepsLone o m2 (record s { account = joined_or_full n (band_in infos n) s.account }) (served infos (record s { account = joined_or_full n (band_in infos n) s.account })) → HasNothingToServe m2
     → sent_now (record s { account = joined_or_full n (band_in infos n) s.account }) ≡ sent_now s
-    → Steps o (record m2 { clean = m2.clean && not m2.stopped }) s (served infos (brought_in infos bypass n s))
+    → StepsLone o (record m2 { clean = m2.clean && not m2.stopped }) s (served infos (brought_in infos bypass n s))
 goes-through infos s m1 m2 o n bypass queues active dirty steps settled same =
     let t = served infos (record s { account = joined_or_full n (band_in infos n) s.account }) in
     let is : brought_in infos bypass n s ≡ record t { clean = t.clean && (is_shared t.account || is_open t.account 0) } =
@@ -141,7 +142,7 @@ joined-is x false len n band slot stopped clean is =
     let a = (station_with x len slot stopped clean).account in
     ap (λ (b : Bool). record (station_with x len slot stopped clean) { account = cond b (after (Full n (seen_in len (x.bands band))) a) (after (Join n band) a) }) is
 
-module _ (s : RunningStation) (m : State) (n : ℕ) (lone : IsLone m s) where
+module _ (s : RunningStation) (m : LoneState) (n : ℕ) (lone : IsLone m s) where
   joining : (band : ℕ) (occupied : Bool) → is_occupied m.len (lone.rest.bands band) ≡ occupied
       → record s { account = joined_or_full n band s.account } ≡ station_with (rest-joined lone.rest occupied m.len n band) m.len m.slot m.stopped m.clean
   joining band occupied is =

@@ -6,9 +6,9 @@ use Rattle.lq_model.specs.Alone.{RunningStation}
 use Rattle.lq_model.specs.Band.{Band, resized}
 use Rattle.lq_model.specs.declared.fate.Cause.{Cause}
 use Rattle.lq_model.specs.declared.fate.Fate.TheVariants as fate
-use Rattle.lq_lone.specs.Lone.{IsLone, Rest, State, station_with}
+use Rattle.lq_lone.specs.Lone.{IsLone, Rest, LoneState, station_with}
 
-module _ (s : RunningStation) (m : State) (lone : IsLone m s) where
+module _ (s : RunningStation) (m : LoneState) (lone : IsLone m s) where
   abbrev x : Rest
   x = lone.rest
 

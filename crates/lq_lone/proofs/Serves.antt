@@ -5,7 +5,8 @@ use Rattle.lq_model.specs.Account.{Account, Event, Take, held, with_at}
 use Rattle.lq_model.specs.Alone.{RunningStation, next_taken, opened, served}
 use Rattle.lq_model.specs.Band.{Band, held_of, taken_by}
 use Rattle.lq_model.specs.declared.fate.Info.{Info}
-use Rattle.lq_lone.specs.Lone.{HaveOneQueue, IsLone, Rest, State, Steps, TakesNext, IsSettled, first_of, is_stopped, is_down, is_empty, sent_now, station_with, slot_taken, low_taken, mid_taken, high_taken, none_taken}
+use Rattle.lq_model.specs.Wire.{sent_now}
+use Rattle.lq_lone.specs.Lone.{HaveOneQueue, IsLone, Rest, LoneState, StepsLone, TakesNext, HasNothingToServe, first_of, is_stopped, is_down, is_empty, station_with, slot_taken, low_taken, mid_taken, high_taken, none_taken}
 use Rattle.lq_lone.proofs.Serving.{sent-on, served-band, served-none, served-slot}
 
 -- THE NEXT PACKET
@@ -54,7 +55,7 @@ module _ (x : Rest) (len : ℕ) (clean : Bool) where
 -- SERVED
 
 -- a station that is deactivated, or whose queue is stopped, isn't served
-pub same-served : (infos : List Info) (s : RunningStation) (m : State) → IsLone m s → (m.down ≡ true) ⊎ (m.stopped ≡ true) → served infos s ≡ s
+pub same-served : (infos : List Info) (s : RunningStation) (m : LoneState) → IsLone m s → (m.down ≡ true) ⊎ (m.stopped ≡ true) → served infos s ≡ s
 same-served infos s m lone why = ap (served infos) lone.is ∙ (shut x.down m.stopped (off why) ∙ sym lone.is)
   where
     x : Rest
@@ -70,12 +71,12 @@ same-served infos s m lone why = ap (served infos) lone.is ∙ (shut x.down m.st
     off (inl d) = inl (lone.down ∙ d)
     off (inr d) = inr d
 
-pub not-served : (infos : List Info) (s : RunningStation) (m : State) → IsLone m s → (m.down ≡ true) ⊎ (m.stopped ≡ true) → Steps None m s (served infos s)
+pub not-served : (infos : List Info) (s : RunningStation) (m : LoneState) → IsLone m s → (m.down ≡ true) ⊎ (m.stopped ≡ true) → StepsLone None m s (served infos s)
 not-served infos s m lone why =
     let same = same-served infos s m lone why in
     record { is = record { rest = lone.rest; is = same ∙ lone.is; low = lone.low; mid = lone.mid; high = lone.high; down = lone.down }; sent = ap sent_now same ∙ sym (append-nil (sent_now s)) }
 
-module _ (infos : List Info) (s : RunningStation) (old : State) (queues : HaveOneQueue infos) (lone : IsLone old s) (running : old.stopped ≡ false) (active : old.down ≡ false) where
+module _ (infos : List Info) (s : RunningStation) (old : LoneState) (queues : HaveOneQueue infos) (lone : IsLone old s) (running : old.stopped ≡ false) (active : old.down ≡ false) where
   abbrev x : Rest
   x = lone.rest
 
@@ -92,7 +93,7 @@ module _ (infos : List Info) (s : RunningStation) (old : State) (queues : HaveOn
       ∙ (ap (λ (b : Bool). cond b (y.sent y.unit ++ n ∷ []) (y.sent y.unit)) (eq-eqb y.unit y.unit refl)
       ∙ (ap₂ (λ (f : ℕ → List ℕ) (u : ℕ). f u ++ n ∷ []) sent unit ∙ ap (λ (l : List ℕ). l ++ n ∷ []) (sym (ap sent_now lone.is))))
 
-  pub by-slot : (n : ℕ) → old.slot ≡ Some n → Steps (Some n) (record old { slot = None; stopped = true; clean = false }) s (served infos s)
+  pub by-slot : (n : ℕ) → old.slot ≡ Some n → StepsLone (Some n) (record old { slot = None; stopped = true; clean = false }) s (served infos s)
   by-slot n slot =
       let is = ap (served infos) (at (Some n) slot) ∙ served-slot infos x old.len n old.clean queues off in
       record {
@@ -100,7 +101,7 @@ module _ (infos : List Info) (s : RunningStation) (old : State) (queues : HaveOn
         sent = sent-behind x n (served infos s) refl refl is;
       }
 
-  pub by-none : old.slot ≡ None → first_of old.low ≡ None → first_of old.mid ≡ None → first_of old.high ≡ None → Steps None (record old { stopped = false; clean = true }) s (served infos s)
+  pub by-none : old.slot ≡ None → first_of old.low ≡ None → first_of old.mid ≡ None → first_of old.high ≡ None → StepsLone None (record old { stopped = false; clean = true }) s (served infos s)
   by-none slot low mid high =
       let next = next-is x old.len old.clean false false false (holds-none _ (ap first_of lone.low ∙ low)) (holds-none _ (ap first_of lone.mid ∙ mid)) (holds-none _ (ap first_of lone.high ∙ high)) in
       let is = ap (served infos) (at None slot) ∙ served-none infos x old.len old.clean off next in
@@ -114,7 +115,7 @@ module _ (infos : List Info) (s : RunningStation) (old : State) (queues : HaveOn
   abbrev taken-from : ℕ → Rest
   taken-from band = record x { bands = with_at band (taken_by (x.bands band) 1) x.bands }
 
-  pub by-low : (n : ℕ) → old.slot ≡ None → first_of old.low ≡ Some n → Steps (Some n) (record old { low = taken_by old.low 1; stopped = true; clean = false }) s (served infos s)
+  pub by-low : (n : ℕ) → old.slot ≡ None → first_of old.low ≡ Some n → StepsLone (Some n) (record old { low = taken_by old.low 1; stopped = true; clean = false }) s (served infos s)
   by-low n slot first =
       let here = ap first_of lone.low ∙ first in
       let next = next-is x old.len old.clean true _ _ (holds-some _ n here) refl refl in
@@ -125,7 +126,7 @@ module _ (infos : List Info) (s : RunningStation) (old : State) (queues : HaveOn
         sent = sent-behind (taken-from 0) n (served infos s) refl refl is;
       }
 
-  pub by-mid : (n : ℕ) → old.slot ≡ None → first_of old.low ≡ None → first_of old.mid ≡ Some n → Steps (Some n) (record old { mid = taken_by old.mid 1; stopped = true; clean = false }) s (served infos s)
+  pub by-mid : (n : ℕ) → old.slot ≡ None → first_of old.low ≡ None → first_of old.mid ≡ Some n → StepsLone (Some n) (record old { mid = taken_by old.mid 1; stopped = true; clean = false }) s (served infos s)
   by-mid n slot low first =
       let here = ap first_of lone.mid ∙ first in
       let next = next-is x old.len old.clean false true _ (holds-none _ (ap first_of lone.low ∙ low)) (holds-some _ n here) refl in
@@ -136,7 +137,7 @@ module _ (infos : List Info) (s : RunningStation) (old : State) (queues : HaveOn
         sent = sent-behind (taken-from 1) n (served infos s) refl refl is;
       }
 
-  pub by-high : (n : ℕ) → old.slot ≡ None → first_of old.low ≡ None → first_of old.mid ≡ None → first_of old.high ≡ Some n → Steps (Some n) (record old { high = taken_by old.high 1; stopped = true; clean = false }) s (served infos s)
+  pub by-high : (n : ℕ) → old.slot ≡ None → first_of old.low ≡ None → first_of old.mid ≡ None → first_of old.high ≡ Some n → StepsLone (Some n) (record old { high = taken_by old.high 1; stopped = true; clean = false }) s (served infos s)
   by-high n slot low mid first =
       let here = ap first_of lone.high ∙ first in
       let next = next-is x old.len old.clean false false true (holds-none _ (ap first_of lone.low ∙ low)) (holds-none _ (ap first_of lone.mid ∙ mid)) (holds-some _ n here) in
@@ -154,13 +155,13 @@ module _ (infos : List Info) (s : RunningStation) (old : State) (queues : HaveOn
       ap (served infos) (at None slot) ∙ served-none infos x old.len old.clean off next
 
   -- by the packet that was taken, where these are the station and the packet
-  abbrev served-as : Option ℕ → State → Type 0
-  served-as o mid = Steps o (record mid { stopped = is_some o; clean = not (is_some o) }) s (served infos s)
+  abbrev served-as : Option ℕ → LoneState → Type 0
+  served-as o mid = StepsLone o (record mid { stopped = is_some o; clean = not (is_some o) }) s (served infos s)
 
-  as-taken : (o o' : Option ℕ) (mid mid' : State) → o ≡ o' → mid ≡ mid' → served-as o' mid' → served-as o mid
+  as-taken : (o o' : Option ℕ) (mid mid' : LoneState) → o ≡ o' → mid ≡ mid' → served-as o' mid' → served-as o mid
   as-taken o o' mid mid' same new done = subst (λ (p : Option ℕ). served-as p mid) (sym same) (subst (served-as o') (sym new) done)
 
-  pub serves : (o : Option ℕ) (mid : State) → TakesNext o old mid → served-as o mid
+  pub serves : (o : Option ℕ) (mid : LoneState) → TakesNext o old mid → served-as o mid
   serves o mid (slot_taken n is slot new) = as-taken o (Some n) mid _ is new (by-slot n slot)
   serves o mid (low_taken n is slot first new) = as-taken o (Some n) mid _ is new (by-low n slot first)
   serves o mid (mid_taken n is slot low first new) = as-taken o (Some n) mid _ is new (by-mid n slot low first)
@@ -168,26 +169,26 @@ module _ (infos : List Info) (s : RunningStation) (old : State) (queues : HaveOn
   serves o mid (none_taken is slot low mids high new) = as-taken o None mid _ is new (by-none slot low mids high)
 
 -- after a packet was taken, or none, nothing is held or the station is stopped
-pub settles : (o : Option ℕ) (old mid : State) → TakesNext o old mid → IsSettled (record mid { stopped = is_some o; clean = not (is_some o) })
+pub settles : (o : Option ℕ) (old mid : LoneState) → TakesNext o old mid → HasNothingToServe (record mid { stopped = is_some o; clean = not (is_some o) })
 settles (Some n) old mid taken = is_stopped refl
 settles None old mid (slot_taken n is slot new) = cc
 settles None old mid (low_taken n is slot first new) = cc
 settles None old mid (mid_taken n is slot low first new) = cc
 settles None old mid (high_taken n is slot low mids first new) = cc
 settles None old mid (none_taken is slot low mids high new) =
-    subst (λ (m : State). IsSettled (record m { stopped = false; clean = true })) (sym new) (is_empty refl slot low mids high)
+    subst (λ (m : LoneState). HasNothingToServe (record m { stopped = false; clean = true })) (sym new) (is_empty refl slot low mids high)
 
 -- a station that is settled stays as it is where it is served
-pub stays : (infos : List Info) (s : RunningStation) (m : State) → HaveOneQueue infos → IsLone m s → IsSettled m → Steps None m s (served infos s)
+pub stays : (infos : List Info) (s : RunningStation) (m : LoneState) → HaveOneQueue infos → IsLone m s → HasNothingToServe m → StepsLone None m s (served infos s)
 stays infos s m queues lone (is_stopped stopped) = not-served infos s m lone (inr stopped)
 stays infos s m queues lone (is_down down) = not-served infos s m lone (inl down)
 stays infos s m queues lone (is_empty clean slot low mid high) = go m.stopped m.down refl refl
   where
-    go : (b d : Bool) → m.stopped ≡ b → m.down ≡ d → Steps None m s (served infos s)
+    go : (b d : Bool) → m.stopped ≡ b → m.down ≡ d → StepsLone None m s (served infos s)
     go true d stopped down = not-served infos s m lone (inr stopped)
     go false true running down = not-served infos s m lone (inl down)
     go false false running down =
-        subst (λ (n : State). Steps None n s (served infos s)) (ap₂ (λ (b c : Bool). record m { stopped = b; clean = c }) (sym running) (sym clean))
+        subst (λ (n : LoneState). StepsLone None n s (served infos s)) (ap₂ (λ (b c : Bool). record m { stopped = b; clean = c }) (sym running) (sym clean))
         (by-none infos s m queues lone running down slot low mid high)
 
 -- OPENED
@@ -196,11 +197,11 @@ opened-is : (x : Rest) (len : ℕ) (slot : Option ℕ) (stopped clean : Bool) �
 opened-is x len slot true clean = refl
 opened-is x len slot false clean = refl
 
-pub opens : (m : State) (s : RunningStation) → IsLone m s → IsLone (record m { stopped = false }) (opened s)
+pub opens : (m : LoneState) (s : RunningStation) → IsLone m s → IsLone (record m { stopped = false }) (opened s)
 opens m s lone = record { rest = lone.rest; is = ap opened lone.is ∙ opened-is lone.rest m.len m.slot m.stopped m.clean; low = lone.low; mid = lone.mid; high = lone.high; down = lone.down }
 
 -- what was opened and then served
-pub from-opened : (o : Option ℕ) (m new : State) (s t : RunningStation) → IsLone m s → Steps o new (opened s) t → Steps o new s t
+pub from-opened : (o : Option ℕ) (m new : LoneState) (s t : RunningStation) → IsLone m s → StepsLone o new (opened s) t → StepsLone o new s t
 from-opened o m new s t lone steps = record {
   is = steps.is;
   sent = steps.sent ∙ ap (λ (l : List ℕ). l ++ option_to_list o) (ap sent_now (ap opened lone.is ∙ opened-is lone.rest m.len m.slot m.stopped m.clean) ∙ sym (ap sent_now lone.is));

@@ -9,7 +9,7 @@ use Rattle.lq_model.specs.declared.fate.Cause.TheVariants as cause
 use Rattle.lq_model.specs.declared.fate.Info.{Info}
 use Rattle.lq_model.specs.declared.plan.EventKind.{EventKind}
 use Rattle.lq_model.specs.declared.plan.EventKind.TheVariants as kind
-use Rattle.lq_lone.specs.Lone.{HaveOneQueue, IsLone, IsSettled, State, Steps, first_of, is_down, is_empty, is_stopped, station_with}
+use Rattle.lq_lone.specs.Lone.{HaveOneQueue, IsLone, HasNothingToServe, LoneState, StepsLone, first_of, is_down, is_empty, is_stopped, station_with}
 use Rattle.lq_lone.proofs.Changes.{lengthened, purged, turned}
 use Rattle.lq_lone.proofs.Brings.{goes-through, joined-sends, joins-high, joins-low, joins-mid, passes-open, passes-shut, refuses, settled-still}
 use Rattle.lq_lone.proofs.Serves.{by-high, by-low, by-mid, by-none, by-slot, is-none, none-is, not-served, opens, same-served}
@@ -17,22 +17,22 @@ use Rattle.std.proofs.Common.{inl, inr}
 
 -- code has it in some state
 abbrev pub HasIt : RunningStation → Type 0
-HasIt s = (m : State) × IsLone m s
+HasIt s = (m : LoneState) × IsLone m s
 
 -- it is settled there
 abbrev pub HasSettled : RunningStation → Type 0
-HasSettled s = (m : State) × (IsLone m s × IsSettled m)
+HasSettled s = (m : LoneState) × (IsLone m s × HasNothingToServe m)
 
 -- what serving leaves
 pub record IsServed (infos : List Info) (s : RunningStation) : Type 0 where
   pub accepted : Option ℕ
-  pub new : State
-  pub steps : Steps accepted new s (served infos s)
-  pub settled : IsSettled new
+  pub new : LoneState
+  pub steps : StepsLone accepted new s (served infos s)
+  pub settled : HasNothingToServe new
 
 module _ (infos : List Info) (queues : HaveOneQueue infos) where
   -- it was served, and is settled
-  serving : (s : RunningStation) (m : State) → IsLone m s → (slot low mid high : Option ℕ) → m.stopped ≡ false → m.down ≡ false → m.slot ≡ slot → first_of m.low ≡ low → first_of m.mid ≡ mid → first_of m.high ≡ high
+  serving : (s : RunningStation) (m : LoneState) → IsLone m s → (slot low mid high : Option ℕ) → m.stopped ≡ false → m.down ≡ false → m.slot ≡ slot → first_of m.low ≡ low → first_of m.mid ≡ mid → first_of m.high ≡ high
       → IsServed infos s
   serving s m lone (Some n) low mid high running active a b c d = record { accepted = Some n; new = _; steps = by-slot infos s m queues lone running active n a; settled = is_stopped refl }
   serving s m lone None (Some n) mid high running active a b c d = record { accepted = Some n; new = _; steps = by-low infos s m queues lone running active n a b; settled = is_stopped refl }
@@ -40,7 +40,7 @@ module _ (infos : List Info) (queues : HaveOneQueue infos) where
   serving s m lone None None None (Some n) running active a b c d = record { accepted = Some n; new = _; steps = by-high infos s m queues lone running active n a b c d; settled = is_stopped refl }
   serving s m lone None None None None running active a b c d = record { accepted = None; new = _; steps = by-none infos s m queues lone running active a b c d; settled = is_empty refl a b c d }
 
-  pub is-served : (s : RunningStation) (m : State) → IsLone m s → IsServed infos s
+  pub is-served : (s : RunningStation) (m : LoneState) → IsLone m s → IsServed infos s
   is-served s m lone = by m.down m.stopped refl refl
     where
       by : (d b : Bool) → m.down ≡ d → m.stopped ≡ b → IsServed infos s
@@ -52,7 +52,7 @@ module _ (infos : List Info) (queues : HaveOneQueue infos) where
   still-served s (m, lone) = let is = is-served s m lone in (is.new, is.steps.is)
 
   -- packet n is brought, and the station served
-  through-band : (bypass : Bool) (n : ℕ) (s : RunningStation) (m : State) (lone : IsLone m s) → m.down ≡ false → (bypass && m.clean) ≡ false
+  through-band : (bypass : Bool) (n : ℕ) (s : RunningStation) (m : LoneState) (lone : IsLone m s) → m.down ≡ false → (bypass && m.clean) ≡ false
       → HasIt (record s { account = joined_or_full n (band_in infos n) s.account }) → HasSettled (served infos (brought_in infos bypass n s))
   through-band bypass n s m lone active dirty (m1, now) =
       let t : RunningStation = record s { account = joined_or_full n (band_in infos n) s.account } in let is = is-served t m1 now in
@@ -60,7 +60,7 @@ module _ (infos : List Info) (queues : HaveOneQueue infos) where
       let all = goes-through infos s m1 is.new is.accepted n bypass queues (ap (λ (u : RunningStation). u.account.down) lone.is ∙ is-none lone.rest.down (lone.down ∙ active)) same is.steps is.settled (joined-sends s n (band_in infos n)) in
       (_, (all.is, settled-still is.new is.settled))
 
-  joins : (n band : ℕ) (s : RunningStation) (m : State) → IsLone m s → band < 3 → HasIt (record s { account = joined_or_full n band s.account })
+  joins : (n band : ℕ) (s : RunningStation) (m : LoneState) → IsLone m s → band < 3 → HasIt (record s { account = joined_or_full n band s.account })
   joins n zero s m lone below = (_, joins-low s m n lone _ refl)
   joins n (suc zero) s m lone below = (_, joins-mid s m n lone _ refl)
   joins n (suc (suc zero)) s m lone below = (_, joins-high s m n lone _ refl)

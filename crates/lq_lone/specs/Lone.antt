@@ -4,14 +4,15 @@ use Rattle.lq_model.specs.Account.{Fates}
 use Rattle.lq_model.specs.Alone.{RunningStation}
 use Rattle.lq_model.specs.Band.{Band, empty_band, held_of, taken_by}
 use Rattle.lq_model.specs.Plan.{queue_in}
+use Rattle.lq_model.specs.Wire.{sent_now}
 use Rattle.lq_model.specs.declared.fate.Info.{Info}
 use Rattle.lq_model.specs.declared.plan.EventKind.{EventKind}
 use Rattle.lq_model.specs.declared.plan.EventKind.TheVariants as kind
 use Rattle.lq_lone.specs.declared.line.Line.{Line}
 use Rattle.lq_lone.specs.declared.lone.Lone.{Lone}
 
-abbrev pub band_of : Line → Band
-band_of line = record { line = line.joined.items; taken = line.taken }
+abbrev pub line_band : Line → Band
+line_band line = record { line = line.joined.items; taken = line.taken }
 
 -- what code doesn't keep of a station: its bands as a function, what was sent, the fates, the event that deactivated it, and how far Busy is
 pub record Rest : Type 0 where
@@ -42,7 +43,7 @@ station_with x len slot stopped clean = record {
 }
 
 -- what code keeps
-pub record State : Type 0 where
+pub record LoneState : Type 0 where
   pub len : ℕ
   pub low : Band
   pub mid : Band
@@ -52,11 +53,11 @@ pub record State : Type 0 where
   pub clean : Bool
   pub down : Bool
 
-abbrev pub state_of : Lone → State
-state_of m = record { len = m.len; low = band_of m.low; mid = band_of m.mid; high = band_of m.high; slot = m.slot; stopped = m.stopped; clean = m.clean; down = m.down }
+abbrev pub lone_state : Lone → LoneState
+lone_state m = record { len = m.len; low = line_band m.low; mid = line_band m.mid; high = line_band m.high; slot = m.slot; stopped = m.stopped; clean = m.clean; down = m.down }
 
 -- it is this station
-pub record IsLone (m : State) (s : RunningStation) : Type 0 where
+pub record IsLone (m : LoneState) (s : RunningStation) : Type 0 where
   pub rest : Rest
   pub is : s ≡ station_with rest m.len m.slot m.stopped m.clean
   pub low : rest.bands 0 ≡ m.low
@@ -68,23 +69,20 @@ pub record IsLone (m : State) (s : RunningStation) : Type 0 where
 abbrev pub HaveOneQueue : List Info → Type 0
 HaveOneQueue infos = (n : ℕ) → queue_in infos n ≡ 0
 
-abbrev pub sent_now : RunningStation → List ℕ
-sent_now s = s.account.sent s.account.unit
-
 -- the station went from one state to another, at which the device accepted just this packet, if any
-pub record Steps (accepted : Option ℕ) (new : State) (s t : RunningStation) : Type 0 where
+pub record StepsLone (accepted : Option ℕ) (new : LoneState) (s t : RunningStation) : Type 0 where
   pub is : IsLone new t
   pub sent : sent_now t ≡ sent_now s ++ option_to_list accepted
 
 -- how many packets wait
-abbrev pub count_of : Option ℕ → ℕ
-count_of o = if is_some o then 1 else 0
+abbrev pub slot_count : Option ℕ → ℕ
+slot_count o = if is_some o then 1 else 0
 
-abbrev pub waiting : State → ℕ
-waiting m = length (held_of m.low) + length (held_of m.mid) + length (held_of m.high) + count_of m.slot
+abbrev pub waiting : LoneState → ℕ
+waiting m = length (held_of m.low) + length (held_of m.mid) + length (held_of m.high) + slot_count m.slot
 
 -- a station at its start
-abbrev pub new_state : ℕ → State
+abbrev pub new_state : ℕ → LoneState
 new_state len = record { len = len; low = empty_band; mid = empty_band; high = empty_band; slot = None; stopped = false; clean = true; down = false }
 
 -- the first packet that a band holds
@@ -92,7 +90,7 @@ abbrev pub first_of : Band → Option ℕ
 first_of band = slice_get (held_of band) 0
 
 -- the packet of the slot was taken, or else the first of the lowest band that holds one; all else is as it was
-pub data TakesNext (taken : Option ℕ) (old new : State) : Type 0 where
+pub data TakesNext (taken : Option ℕ) (old new : LoneState) : Type 0 where
   slot_taken : (n : ℕ) → taken ≡ Some n → old.slot ≡ Some n → new ≡ record old { slot = None } → TakesNext taken old new
   low_taken : (n : ℕ) → taken ≡ Some n → old.slot ≡ None → first_of old.low ≡ Some n
       → new ≡ record old { low = taken_by old.low 1 } → TakesNext taken old new
@@ -103,10 +101,10 @@ pub data TakesNext (taken : Option ℕ) (old new : State) : Type 0 where
   none_taken : taken ≡ None → old.slot ≡ None → first_of old.low ≡ None → first_of old.mid ≡ None → first_of old.high ≡ None → new ≡ old → TakesNext taken old new
 
 -- nothing is held, or the station isn't served
-pub data IsSettled (m : State) : Type 0 where
-  is_stopped : m.stopped ≡ true → IsSettled m
-  is_down : m.down ≡ true → IsSettled m
-  is_empty : m.clean ≡ true → m.slot ≡ None → first_of m.low ≡ None → first_of m.mid ≡ None → first_of m.high ≡ None → IsSettled m
+pub data HasNothingToServe (m : LoneState) : Type 0 where
+  is_stopped : m.stopped ≡ true → HasNothingToServe m
+  is_down : m.down ≡ true → HasNothingToServe m
+  is_empty : m.clean ≡ true → m.slot ≡ None → first_of m.low ≡ None → first_of m.mid ≡ None → first_of m.high ≡ None → HasNothingToServe m
 
 -- an event that gives the bands a length gives them a slot
 abbrev pub IsLengthened : EventKind → Type 0

@@ -15,11 +15,11 @@ pub struct Line {
 impl Line {
     ghost use Rattle.lq_model.specs.Band.{held_of, joined, resized, taken_by};
     ghost use Rattle.lq_model.specs.Alone.{is_occupied};
-    ghost use Rattle.lq_lone.specs.Lone.{band_of};
+    ghost use Rattle.lq_lone.specs.Lone.{line_band};
     ghost use Rattle.lq_model.specs.Account.{emptied};
 
     pub fn new(alloc: Global) -> Line
-        ensures { band_of result ≡ record { line = []; taken = 0 } }
+        ensures { line_band result ≡ record { line = []; taken = 0 } }
     {
         Line {
             joined: Vec::new(alloc),
@@ -28,7 +28,7 @@ impl Line {
     }
 
     pub fn held(&self) -> usize
-        ensures { result ≡ length (held_of (band_of self.now)) }
+        ensures { result ≡ length (held_of (line_band self.now)) }
     {
         self.joined.len() - self.taken
     }
@@ -36,14 +36,14 @@ impl Line {
     // Whether the slot that the next packet would have isn't empty.
     pub fn is_occupied(&self, len: u32) -> bool
         requires some { 0 < len }
-        ensures { result ≡ is_occupied len (band_of self.now) }
+        ensures { result ≡ is_occupied len (line_band self.now) }
     {
         let stale = self.taken % len as usize % batch(len) as usize;
         self.held() + stale == len as usize
     }
 
     pub fn join(&mut self, n: u32) -> Result<(), AllocError>
-        ensures ok { OnOk result (band_of self.new ≡ joined (band_of self.old) n) }
+        ensures ok { OnOk result (line_band self.new ≡ joined (line_band self.old) n) }
     {
         self.joined.push(n)?;
         Ok(())
@@ -52,7 +52,7 @@ impl Line {
     // A packet joins it, or is dropped as full.
     pub fn join_or_drop(&mut self, n: u32, len: u32) -> Result<(), AllocError>
         requires some { 0 < len }
-        ensures ok { OnOk result (band_of self.new ≡ (if is_occupied len (band_of self.old) then band_of self.old else joined (band_of self.old) n)) }
+        ensures ok { OnOk result (line_band self.new ≡ (if is_occupied len (line_band self.old) then line_band self.old else joined (line_band self.old) n)) }
     {
         if self.is_occupied(len) {
             return Ok(());
@@ -61,9 +61,9 @@ impl Line {
     }
 
     pub fn take(&mut self) -> Option<u32>
-        ensures first { result ≡ slice_get (held_of (band_of self.old)) 0 }
-        ensures some { OnSome result (band_of self.new ≡ taken_by (band_of self.old) 1) }
-        ensures none { IfNone result (band_of self.new ≡ band_of self.old) }
+        ensures first { result ≡ slice_get (held_of (line_band self.old)) 0 }
+        ensures some { OnSome result (line_band self.new ≡ taken_by (line_band self.old) 1) }
+        ensures none { IfNone result (line_band self.new ≡ line_band self.old) }
     {
         if self.taken == self.joined.len() {
             return None;
@@ -74,14 +74,14 @@ impl Line {
     }
 
     pub fn empty(&mut self)
-        ensures { band_of self.new ≡ emptied (band_of self.old) }
+        ensures { line_band self.new ≡ emptied (line_band self.old) }
     {
         self.taken = self.joined.len();
     }
 
     // Keeps the first that it holds, so many as `len`.
     pub fn resize(&mut self, len: u32)
-        ensures { band_of self.new ≡ resized (band_of self.old) len }
+        ensures { line_band self.new ≡ resized (line_band self.old) len }
     {
         let kept = self.held().min(len as usize);
         for i in 0..kept {

@@ -26,11 +26,12 @@ impl Lone {
     ghost use Rattle.lq_model.specs.Plan.{Plan, band_in, is_swap_kind};
     ghost use Rattle.lq_model.specs.declared.fate.Cause.{Cause};
     ghost use Rattle.lq_model.specs.declared.fate.Info.{Info};
-    ghost use Rattle.lq_lone.specs.Lone.{HaveOneQueue, IsLengthened, IsLone, IsSettled, Steps, TakesNext, count_of, new_state, sent_now, state_of, waiting};
+    ghost use Rattle.lq_model.specs.Wire.{sent_now};
+    ghost use Rattle.lq_lone.specs.Lone.{HaveOneQueue, IsLengthened, IsLone, HasNothingToServe, StepsLone, TakesNext, slot_count, new_state, lone_state, waiting};
 
     pub fn new(alloc: Global, len: u32, bypass: bool) -> Lone
         requires { 0 < len }
-        ensures state { state_of result ≡ new_state len }
+        ensures state { lone_state result ≡ new_state len }
         ensures bypass { result.bypass ≡ bypass }
     {
         Lone {
@@ -54,17 +55,17 @@ impl Lone {
 
     /// How many packets wait.
     pub fn held(&self) -> usize
-        requires few { waiting (state_of self.now) < 4000000000 }
-        ensures count { result ≡ waiting (state_of self.now) }
-        ensures held { (s : RunningStation) → IsLone (state_of self.now) s → result ≡ length (held s.account) }
+        requires few { waiting (lone_state self.now) < 4000000000 }
+        ensures count { result ≡ waiting (lone_state self.now) }
+        ensures held { (s : RunningStation) → IsLone (lone_state self.now) s → result ≡ length (held s.account) }
     {
         self.low.held() + self.mid.held() + self.high.held() + usize::from(self.slot.is_some())
     }
 
     // The packet that is served next leaves.
     fn take(&mut self) -> Option<u32>
-        ensures takes { TakesNext result (state_of self.old) (state_of self.new) }
-        ensures count { waiting (state_of self.new) + count_of result ≡ waiting (state_of self.old) }
+        ensures takes { TakesNext result (lone_state self.old) (lone_state self.new) }
+        ensures count { waiting (lone_state self.new) + slot_count result ≡ waiting (lone_state self.old) }
         ensures bypass { self.new.bypass ≡ self.old.bypass }
     {
         if let Some(n) = self.slot {
@@ -82,9 +83,9 @@ impl Lone {
 
     /// Serves the station: the packet that the device accepted, if there was one.
     pub fn serve(&mut self) -> Option<u32>
-        ensures serves { (infos : List Info) (s : RunningStation) → HaveOneQueue infos → IsLone (state_of self.old) s → Steps result (state_of self.new) s (served infos s) }
-        ensures settled { IsSettled (state_of self.new) }
-        ensures count { waiting (state_of self.new) + count_of result ≡ waiting (state_of self.old) }
+        ensures serves { (infos : List Info) (s : RunningStation) → HaveOneQueue infos → IsLone (lone_state self.old) s → StepsLone result (lone_state self.new) s (served infos s) }
+        ensures settled { HasNothingToServe (lone_state self.new) }
+        ensures count { waiting (lone_state self.new) + slot_count result ≡ waiting (lone_state self.old) }
         ensures stops { self.old.stopped ≡ false → self.new.stopped ≡ is_some result }
         ensures bypass { self.new.bypass ≡ self.old.bypass }
     {
@@ -99,10 +100,10 @@ impl Lone {
 
     /// Opens the queue and serves the station.
     pub fn open(&mut self) -> Option<u32>
-        ensures count { waiting (state_of self.new) + count_of result ≡ waiting (state_of self.old) }
+        ensures count { waiting (lone_state self.new) + slot_count result ≡ waiting (lone_state self.old) }
         ensures stops { self.new.stopped ≡ is_some result }
         ensures bypass { self.new.bypass ≡ self.old.bypass }
-        ensures opens { (infos : List Info) (s : RunningStation) → HaveOneQueue infos → IsLone (state_of self.old) s → Steps result (state_of self.new) s (served infos (opened s)) }
+        ensures opens { (infos : List Info) (s : RunningStation) → HaveOneQueue infos → IsLone (lone_state self.old) s → StepsLone result (lone_state self.new) s (served infos (opened s)) }
     {
         self.stopped = false;
         self.serve()
@@ -112,9 +113,9 @@ impl Lone {
     fn pass(&mut self, n: u32) -> Option<u32>
         requires active { self.old.down ≡ false }
         requires clean { self.old.clean ≡ true }
-        ensures count { waiting (state_of self.new) + count_of result ≤ waiting (state_of self.old) + 1 }
+        ensures count { waiting (lone_state self.new) + slot_count result ≤ waiting (lone_state self.old) + 1 }
         ensures bypass { self.new.bypass ≡ self.old.bypass }
-        ensures passes { (infos : List Info) (s : RunningStation) → HaveOneQueue infos → IsLone (state_of self.old) s → Steps result (state_of self.new) s (served infos (brought_in infos true n s)) }
+        ensures passes { (infos : List Info) (s : RunningStation) → HaveOneQueue infos → IsLone (lone_state self.old) s → StepsLone result (lone_state self.new) s (served infos (brought_in infos true n s)) }
     {
         if self.stopped {
             self.slot = Some(n);
@@ -128,9 +129,9 @@ impl Lone {
     // Packet `n` joins its band, or is dropped as full.
     fn join(&mut self, n: u32, band: u32) -> Result<(), AllocError>
         requires { band < 3 }
-        ensures count { OnOk result (waiting (state_of self.new) ≤ waiting (state_of self.old) + 1) }
+        ensures count { OnOk result (waiting (lone_state self.new) ≤ waiting (lone_state self.old) + 1) }
         ensures bypass { self.new.bypass ≡ self.old.bypass }
-        ensures joins { OnOk result ((s : RunningStation) → IsLone (state_of self.old) s → IsLone (state_of self.new) (record s { account = joined_or_full n band s.account })) }
+        ensures joins { OnOk result ((s : RunningStation) → IsLone (lone_state self.old) s → IsLone (lone_state self.new) (record s { account = joined_or_full n band s.account })) }
     {
         if band == 0 {
             self.low.join_or_drop(n, self.len)
@@ -144,10 +145,10 @@ impl Lone {
     /// Brings packet `n` of a band, and serves the station: the packet that the device accepted, if there was one.
     pub fn bring(&mut self, n: u32, band: u32) -> Result<Option<u32>, AllocError>
         requires { band < 3 }
-        ensures count { IfOk result (λ accepted. waiting (state_of self.new) + count_of accepted ≤ waiting (state_of self.old) + 1) }
+        ensures count { IfOk result (λ accepted. waiting (lone_state self.new) + slot_count accepted ≤ waiting (lone_state self.old) + 1) }
         ensures bypass { self.new.bypass ≡ self.old.bypass }
-        ensures brings { IfOk result (λ accepted. (infos : List Info) (s : RunningStation) → HaveOneQueue infos → band_in infos n ≡ band → IsLone (state_of self.old) s
-            → Steps accepted (state_of self.new) s (served infos (brought_in infos self.old.bypass n s))) }
+        ensures brings { IfOk result (λ accepted. (infos : List Info) (s : RunningStation) → HaveOneQueue infos → band_in infos n ≡ band → IsLone (lone_state self.old) s
+            → StepsLone accepted (lone_state self.new) s (served infos (brought_in infos self.old.bypass n s))) }
     {
         if self.down {
             return Ok(None);
@@ -163,9 +164,9 @@ impl Lone {
 
     // All that is held leaves.
     fn purge(&mut self)
-        ensures count { waiting (state_of self.new) ≤ waiting (state_of self.old) }
+        ensures count { waiting (lone_state self.new) ≤ waiting (lone_state self.old) }
         ensures bypass { self.new.bypass ≡ self.old.bypass }
-        ensures purges { (s : RunningStation) (cause : Cause) → IsLone (state_of self.old) s → IsLone (state_of self.new) (record s { account = after (Purge cause) s.account; clean = true }) }
+        ensures purges { (s : RunningStation) (cause : Cause) → IsLone (lone_state self.old) s → IsLone (lone_state self.new) (record s { account = after (Purge cause) s.account; clean = true }) }
     {
         self.slot = None;
         self.low.empty();
@@ -176,9 +177,9 @@ impl Lone {
 
     fn resize(&mut self, len: u32)
         requires { 0 < len }
-        ensures count { waiting (state_of self.new) ≤ waiting (state_of self.old) }
+        ensures count { waiting (lone_state self.new) ≤ waiting (lone_state self.old) }
         ensures bypass { self.new.bypass ≡ self.old.bypass }
-        ensures resizes { (s : RunningStation) (event : ℕ) → IsLone (state_of self.old) s → IsLone (state_of self.new) (record s { account = after (Resize len event) s.account }) }
+        ensures resizes { (s : RunningStation) (event : ℕ) → IsLone (lone_state self.old) s → IsLone (lone_state self.new) (record s { account = after (Resize len event) s.account }) }
     {
         self.len = len;
         self.low.resize(len);
@@ -190,10 +191,10 @@ impl Lone {
     pub fn change(&mut self, kind: EventKind) -> Option<u32>
         requires within { IsLengthened kind }
         requires no_swap { is_swap_kind kind ≡ false }
-        ensures count { waiting (state_of self.new) + count_of result ≤ waiting (state_of self.old) }
+        ensures count { waiting (lone_state self.new) + slot_count result ≤ waiting (lone_state self.old) }
         ensures bypass { self.new.bypass ≡ self.old.bypass }
-        ensures changes { (plan : Plan) (event : ℕ) (infos : List Info) (s : RunningStation) → HaveOneQueue infos → IsLone (state_of self.old) s
-            → Steps result (state_of self.new) s (served infos (changed plan event kind s)) }
+        ensures changes { (plan : Plan) (event : ℕ) (infos : List Info) (s : RunningStation) → HaveOneQueue infos → IsLone (lone_state self.old) s
+            → StepsLone result (lone_state self.new) s (served infos (changed plan event kind s)) }
     {
         self.alter(kind);
         self.serve()
@@ -203,10 +204,10 @@ impl Lone {
     fn alter(&mut self, kind: EventKind)
         requires within { IsLengthened kind }
         requires no_swap { is_swap_kind kind ≡ false }
-        ensures count { waiting (state_of self.new) ≤ waiting (state_of self.old) }
+        ensures count { waiting (lone_state self.new) ≤ waiting (lone_state self.old) }
         ensures bypass { self.new.bypass ≡ self.old.bypass }
-        ensures alters { (plan : Plan) (event : ℕ) (s : RunningStation) → IsLone (state_of self.old) s
-            → IsLone (state_of self.new) (changed plan event kind s) × (sent_now (changed plan event kind s) ≡ sent_now s) }
+        ensures alters { (plan : Plan) (event : ℕ) (s : RunningStation) → IsLone (lone_state self.old) s
+            → IsLone (lone_state self.new) (changed plan event kind s) × (sent_now (changed plan event kind s) ≡ sent_now s) }
     {
         match kind {
             EventKind::Down => {

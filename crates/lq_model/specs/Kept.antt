@@ -6,7 +6,7 @@ use Rattle.lq_model.specs.declared.machine.Blocked.{Blocked}
 use Rattle.lq_model.specs.declared.machine.Blocked.TheVariants.{NoneTaken}
 use Rattle.lq_model.specs.declared.machine.Phase.TheVariants.{Purged}
 use Rattle.lq_model.specs.declared.machine.Position.TheVariants.{Xmit, Deq, BlockedDrain, Control}
-use Rattle.lq_model.specs.Machine.{Machine, Purge, bit, is_open, is_shared, is_closed, band_at, seat_at}
+use Rattle.lq_model.specs.Machine.{Machine, Purge, bit, is_queue_open, has_several_queues, is_closed, band_at, seat_at}
 use Rattle.lq_model.specs.Steps.{queue_of_slot}
 use Rattle.lq_model.specs.Control.{is_quiet}
 use Rattle.lq_model.specs.Positions.{Holds, ClearBelow, IsClear, BitsClear, holds_lock, is_inside, marks, is_going, some_seat, looked_below, is_ending, is_second_scan, may_be_inside, own_packet, direct_packet, blocked, needs_slot, blocking_at, has_way_on, IsStuck}
@@ -49,7 +49,7 @@ SlotFree m = (i : ℕ) → needs_slot (seat_at m i).position ≡ true → m.qdis
 abbrev pub SlotWaits : Machine → Type 0
 SlotWaits m =
     (i queue : ℕ) → blocked (seat_at m i).position ≡ Some (NoneTaken queue)
-    → (queue ≡ queue_of_slot m.qdisc.slot) × (is_shared m.qdisc ≡ true → is_some m.qdisc.slot ≡ true)
+    → (queue ≡ queue_of_slot m.qdisc.slot) × (has_several_queues m.qdisc ≡ true → is_some m.qdisc.slot ≡ true)
 
 -- the lock is 1 exactly where one seat stands as its holder; never more than one does
 abbrev pub OneHolder : Machine → Type 0
@@ -108,11 +108,11 @@ Purging m = (u : Purge) → m.qdisc.purge ≡ Some u → IsPurging m u
 
 -- the device is called only for an open queue
 abbrev pub DeviceOpen : Machine → Type 0
-DeviceOpen m = (i : ℕ) (p : Packet) (direct : Bool) → (seat_at m i).position ≡ Xmit p direct → is_open m.qdisc p.queue ≡ true
+DeviceOpen m = (i : ℕ) (p : Packet) (direct : Bool) → (seat_at m i).position ≡ Xmit p direct → is_queue_open m.qdisc p.queue ≡ true
 
 -- with several queues a dequeue begins at a stop word only where the requeue slot is full
 abbrev pub DequeueWaits : Machine → Type 0
-DequeueWaits m = (i : ℕ) → (seat_at m i).position ≡ Deq → is_shared m.qdisc ≡ true → is_some m.qdisc.slot ≡ true
+DequeueWaits m = (i : ℕ) → (seat_at m i).position ≡ Deq → has_several_queues m.qdisc ≡ true → is_some m.qdisc.slot ≡ true
 
 -- no packet goes past the bands while one of the same owner is held
 abbrev pub DirectAlone : Machine → Type 0

@@ -51,12 +51,12 @@ state_word q = bit q.sched + 2 * bit q.deactivated + 4 * bit q.missed + 8 * bit 
 abbrev pub is_non_empty : Qdisc → Bool
 is_non_empty q = q.missed || q.draining
 
-abbrev pub is_open : Qdisc → ℕ → Bool
-is_open q queue = slice_index q.xoff queue == 0
+abbrev pub is_queue_open : Qdisc → ℕ → Bool
+is_queue_open q queue = slice_index q.xoff queue == 0
 
 -- several queues share the bands
-abbrev pub is_shared : Qdisc → Bool
-is_shared q = nat_lt 1 (length q.xoff)
+abbrev pub has_several_queues : Qdisc → Bool
+has_several_queues q = nat_lt 1 (length q.xoff)
 
 abbrev pub band_at : Qdisc → ℕ → List Packet
 band_at q band = slice_index_or q.bands band []

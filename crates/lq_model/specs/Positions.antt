@@ -9,7 +9,7 @@ use Rattle.lq_model.specs.declared.machine.Blocked.TheVariants.{InHand, NoneTake
 use Rattle.lq_model.specs.declared.machine.Position.{Position}
 use Rattle.lq_model.specs.declared.machine.Position.TheVariants.{Idle, Enter, Check, Put, Try1, Miss, Try2, Recheck, Gate, Xmit, StoreXoff, Post, Scan, Test, ClearMissed, ClearDraining, BlockedClear, BlockedLoad, BlockedMiss, BlockedDrain, Unlock, Tail, Sched, Leave, Soft, SoftClear, Late, Wake, Control}
 use Rattle.lq_model.specs.declared.machine.Seat.{Seat}
-use Rattle.lq_model.specs.Machine.{Qdisc, Machine, Purge, bit, is_open, is_shared, band_at, seat_at}
+use Rattle.lq_model.specs.Machine.{Qdisc, Machine, Purge, bit, is_queue_open, has_several_queues, band_at, seat_at}
 use Rattle.lq_model.specs.Steps.{queue_of_slot}
 
 -- HELD AND EXPOSED
@@ -210,14 +210,14 @@ is_hanging _ = false
 
 -- the queue that keeps the next packet from the device
 abbrev pub blocking : Qdisc → Option ℕ
-blocking q = if is_some q.slot then Some (queue_of_slot q.slot) else if is_shared q then None else Some 0
+blocking q = if is_some q.slot then Some (queue_of_slot q.slot) else if has_several_queues q then None else Some 0
 
 abbrev pub blocking_at : Blocked → Qdisc → Option ℕ
 blocking_at (InHand p direct) q = Some p.queue
 blocking_at (NoneTaken queue) q = blocking q
 
 abbrev pub is_stopped : Qdisc → Option ℕ → Bool
-is_stopped q (Some queue) = not (is_open q queue)
+is_stopped q (Some queue) = not (is_queue_open q queue)
 is_stopped q None = false
 
 -- DEACTIVATED, SCHED or a stop word is set, or a seat will try the run lock, set MISSED or schedule

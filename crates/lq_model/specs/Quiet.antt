@@ -5,7 +5,7 @@ use Rattle.lq_model.specs.declared.machine.Answer.{Answer}
 use Rattle.lq_model.specs.declared.machine.Beginning.{Beginning}
 use Rattle.lq_model.specs.declared.machine.Beginning.TheVariants.{Transmits}
 use Rattle.lq_model.specs.declared.machine.ControlStep.{ControlStep}
-use Rattle.lq_model.specs.Machine.{Machine, is_open, seat_at}
+use Rattle.lq_model.specs.Machine.{Machine, is_queue_open, seat_at}
 use Rattle.lq_model.specs.Steps.{is_idle, Steps, Begins}
 use Rattle.lq_model.specs.Control.{Controls as ControlsTo}
 use Rattle.lq_model.specs.Positions.{own_packet}
@@ -35,5 +35,5 @@ pub record IsQuiet (m : Machine) : Type 0 where
   pub unlocked : m.qdisc.locked ≡ false
   pub unscheduled : m.qdisc.sched ≡ false
   pub active : m.qdisc.deactivated ≡ false
-  pub queues_open : (queue : ℕ) → is_open m.qdisc queue ≡ true
+  pub queues_open : (queue : ℕ) → is_queue_open m.qdisc queue ≡ true
   pub all_idle : (i : ℕ) → is_idle (seat_at m i).position ≡ true

@@ -15,7 +15,7 @@ use Rattle.lq_model.specs.declared.machine.Position.{Position}
 use Rattle.lq_model.specs.declared.machine.Position.TheVariants.{Idle, Enter, Check, Put, Try1, Miss, Try2, Recheck, Gate, Xmit, StoreXoff, Post, Deq, Scan, Test, ClearMissed, ClearDraining, BlockedClear, BlockedLoad, BlockedMiss, BlockedDrain, Again, Quota, Unlock, Tail, Sched, Leave, Soft, SoftClear, Late, Wake, Control}
 use Rattle.lq_model.specs.declared.machine.Seat.{Seat}
 use Rattle.lq_model.specs.Band.{batch}
-use Rattle.lq_model.specs.Machine.{Qdisc, Machine, seat_at, is_non_empty, is_open, is_shared, band_at}
+use Rattle.lq_model.specs.Machine.{Qdisc, Machine, seat_at, is_non_empty, is_queue_open, has_several_queues, band_at}
 use Rattle.lq_model.specs.declared.state.TheConstants.{QUOTA}
 
 -- what a step leaves of the shared words and of the seat that made it; it touches no other seat
@@ -34,7 +34,7 @@ one_more n = if nat_lt n 18446744073709551615 then n + 1 else n
 
 -- where a dequeue begins: with one queue by its stop word, with several by the requeue slot
 abbrev pub dequeue_begins : Qdisc → Position
-dequeue_begins q = if is_shared q && is_none q.slot then Scan 0 false else Deq
+dequeue_begins q = if has_several_queues q && is_none q.slot then Scan 0 false else Deq
 
 -- a run begins, with nothing sent
 abbrev pub run_begins : Qdisc → Seat → After
@@ -67,7 +67,7 @@ slot_taken (Some p) q s = goes_to (record q { slot = None }) s (Gate p false)
 slot_taken None q s = goes_to q s (Scan 0 false)
 
 abbrev pub deq : Qdisc → Seat → After
-deq q s = if is_open q (queue_of_slot q.slot) then slot_taken q.slot q s else goes_to q s (BlockedClear (NoneTaken (queue_of_slot q.slot)))
+deq q s = if is_queue_open q (queue_of_slot q.slot) then slot_taken q.slot q s else goes_to q s (BlockedClear (NoneTaken (queue_of_slot q.slot)))
 
 -- after the last band: the first time the state is looked at, the second time the run ends
 abbrev pub after_band : ℕ → Bool → Position
@@ -161,7 +161,7 @@ step_at (Try1 attempt) answer q s = try_lock attempt (Miss attempt) q s
 step_at (Miss attempt) answer q s = miss attempt q s
 step_at (Try2 attempt) answer q s = try_lock attempt (gives_up attempt) q s
 step_at (Recheck p) answer q s = goes_to q s (if is_non_empty q then Put p true else Gate p true)
-step_at (Gate p direct) answer q s = goes_to q s (if is_open q p.queue then Xmit p direct else BlockedClear (InHand p direct))
+step_at (Gate p direct) answer q s = goes_to q s (if is_queue_open q p.queue then Xmit p direct else BlockedClear (InHand p direct))
 step_at (Xmit p direct) answer q s = xmit answer p direct q s
 step_at (StoreXoff queue hung direct) answer q s = store_xoff queue hung direct q s
 step_at Post answer q s = if is_non_empty q then run_begins q s else goes_to q s Unlock
@@ -171,7 +171,7 @@ step_at Test answer q s = goes_to q s (if is_non_empty q then ClearMissed else U
 step_at ClearMissed answer q s = goes_to (record q { missed = false }) s ClearDraining
 step_at ClearDraining answer q s = goes_to (record q { draining = false }) s (Scan 0 true)
 step_at (BlockedClear b) answer q s = goes_to (record q { missed = false }) s (BlockedLoad b)
-step_at (BlockedLoad b) answer q s = goes_to q s (if is_open q (queue_of_blocked b) then BlockedMiss b else BlockedDrain b)
+step_at (BlockedLoad b) answer q s = goes_to q s (if is_queue_open q (queue_of_blocked b) then BlockedMiss b else BlockedDrain b)
 step_at (BlockedMiss b) answer q s = requeues b (record q { missed = true }) s
 step_at (BlockedDrain b) answer q s = requeues b (record q { draining = true }) s
 step_at Again answer q s = goes_to (record q { missed = true }) s Unlock

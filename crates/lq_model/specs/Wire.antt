@@ -43,12 +43,12 @@ pub record Wired : Type 0 where
   pub free : ℕ
   pub flights : List Flight
 
-abbrev pub has_room_by : Limit → List Flight → Bool
-has_room_by (Ring descriptors) ring = nat_lt (length ring) descriptors
-has_room_by (Bql bytes) ring = nat_le (sum_by (λ flight. flight.length) ring) bytes
+abbrev pub limit_has_room : Limit → List Flight → Bool
+limit_has_room (Ring descriptors) ring = nat_lt (length ring) descriptors
+limit_has_room (Bql bytes) ring = nat_le (sum_by (λ flight. flight.length) ring) bytes
 
-abbrev pub has_room : Card → List Flight → Bool
-has_room card ring = has_room_by card.limit ring
+abbrev pub ring_has_room : Card → List Flight → Bool
+ring_has_room card ring = limit_has_room card.limit ring
 
 -- packet n accepted at a moment: its frame begins when the wire is free
 abbrev pub flight_of : Card → Packets → ℕ → ℕ → ℕ → Flight
@@ -60,14 +60,14 @@ flight_of card packets now free n = record {
   length = frame_length packets n;
 }
 
-abbrev pub accepted_at : Card → Packets → ℕ → ℕ → Wired → Wired
-accepted_at card packets now n w =
+abbrev pub with_flight : Card → Packets → ℕ → ℕ → Wired → Wired
+with_flight card packets now n w =
     let flight = flight_of card packets now w.free n in
     record w { ring = w.ring ++ flight ∷ []; free = flight.ends; flights = w.flights ++ flight ∷ [] }
 
-abbrev pub all_accepted_at : Card → Packets → ℕ → List ℕ → Wired → Wired
-all_accepted_at card packets now [] w = w
-all_accepted_at card packets now (n ∷ ns) w = all_accepted_at card packets now ns (accepted_at card packets now n w)
+abbrev pub with_flights : Card → Packets → ℕ → List ℕ → Wired → Wired
+with_flights card packets now [] w = w
+with_flights card packets now (n ∷ ns) w = with_flights card packets now ns (with_flight card packets now n w)
 
 -- the packets that the present unit has sent, and those that it sent since
 abbrev pub sent_now : RunningStation → List ℕ
@@ -77,8 +77,8 @@ abbrev pub newly_sent : RunningStation → RunningStation → List ℕ
 newly_sent old new = drop (length (sent_now old)) (sent_now new)
 
 -- a step of the station at a moment
-abbrev pub stepped : Card → Packets → ℕ → (RunningStation → RunningStation) → Wired → Wired
-stepped card packets now step w = all_accepted_at card packets now (newly_sent w.station (step w.station)) (record w { station = step w.station })
+abbrev pub made_at : Card → Packets → ℕ → (RunningStation → RunningStation) → Wired → Wired
+made_at card packets now step w = with_flights card packets now (newly_sent w.station (step w.station)) (record w { station = step w.station })
 
 -- what has left the wire by a moment is taken back
 abbrev pub left_at : ℕ → List Flight → List Flight
@@ -88,7 +88,7 @@ left_at now (flight ∷ ring) = if nat_le flight.ends now then left_at now ring 
 -- OPENINGS
 
 -- how often the queue was opened so far, and what that left
-pub record Opened : Type 0 where
+pub record OpenedSoFar : Type 0 where
   pub times : ℕ
   pub wired : Wired
 
@@ -96,35 +96,35 @@ abbrev pub is_shut : RunningStation → Bool
 is_shut s = not (is_open s.account 0)
 
 -- opened as often as the queue is stopped and there is room, so many times at most
-abbrev pub opened_while : Card → Packets → List Info → ℕ → ℕ → Opened → Opened
+abbrev pub opened_while : Card → Packets → List Info → ℕ → ℕ → OpenedSoFar → OpenedSoFar
 opened_while card packets infos now zero o = o
 opened_while card packets infos now (suc more) o =
-    if is_shut o.wired.station && has_room card o.wired.ring
-    then opened_while card packets infos now more (record { times = o.times + 1; wired = stepped card packets now (λ s. served infos (opened s)) o.wired })
+    if is_shut o.wired.station && ring_has_room card o.wired.ring
+    then opened_while card packets infos now more (record { times = o.times + 1; wired = made_at card packets now (λ s. served infos (opened s)) o.wired })
     else o
 
 -- so many times are enough: each but the last sends a packet that is held
-abbrev pub opened_at : Card → Packets → List Info → ℕ → Opened → Opened
+abbrev pub opened_at : Card → Packets → List Info → ℕ → OpenedSoFar → OpenedSoFar
 opened_at card packets infos now o = opened_while card packets infos now (length (held o.wired.station.account) + 1) o
 
 -- the interrupt that comes at a moment
-abbrev pub interrupted : Card → Packets → List Info → ℕ → Opened → Opened
+abbrev pub interrupted : Card → Packets → List Info → ℕ → OpenedSoFar → OpenedSoFar
 interrupted card packets infos now o = opened_at card packets infos now (record o { wired = record o.wired { ring = left_at now o.wired.ring } })
 
 -- the next interrupt follows the end of the oldest frame of the ring; it comes where its moment is due
-abbrev pub next_interrupt : Card → Packets → List Info → (ℕ → Bool) → (Opened → Opened) → List Flight → Opened → Opened
+abbrev pub next_interrupt : Card → Packets → List Info → (ℕ → Bool) → (OpenedSoFar → OpenedSoFar) → List Flight → OpenedSoFar → OpenedSoFar
 next_interrupt card packets infos due go_on [] o = o
 next_interrupt card packets infos due go_on (flight ∷ ring) o =
     if due (flight.ends + delay card) then go_on (interrupted card packets infos (flight.ends + delay card) o) else o
 
 -- the interrupts that are due, so many at most
-abbrev pub interrupted_while : Card → Packets → List Info → (ℕ → Bool) → ℕ → Opened → Opened
+abbrev pub interrupted_while : Card → Packets → List Info → (ℕ → Bool) → ℕ → OpenedSoFar → OpenedSoFar
 interrupted_while card packets infos due zero o = o
 interrupted_while card packets infos due (suc more) o =
     next_interrupt card packets infos due (interrupted_while card packets infos due more) o.wired.ring o
 
 -- so many are enough: each takes a packet back that is in the ring or held
-abbrev pub all_interrupted : Card → Packets → List Info → (ℕ → Bool) → Opened → Opened
+abbrev pub all_interrupted : Card → Packets → List Info → (ℕ → Bool) → OpenedSoFar → OpenedSoFar
 all_interrupted card packets infos due o = interrupted_while card packets infos due (length o.wired.ring + length (held o.wired.station.account)) o
 
 -- THE RUN
@@ -135,20 +135,20 @@ with_changes plan infos [] s = s
 with_changes plan infos (event ∷ events) s =
     with_changes plan infos events (option_map_or (λ e. served infos (changed plan event e.kind s)) (slice_get plan.events event) s)
 
-abbrev pub with_packet : Plan → List Info → ℕ → RunningStation → RunningStation
-with_packet plan infos n s = served infos (brought_in infos (bypass_of plan 0) n s)
+abbrev pub served_with : Plan → List Info → ℕ → RunningStation → RunningStation
+served_with plan infos n s = served infos (brought_in infos (bypass_of plan 0) n s)
 
 -- packet n comes, behind the events before it
 abbrev pub wired_with : Card → Plan → Packets → List Info → ℕ → Wired → Wired
 wired_with card plan packets infos n w =
-    stepped card packets (moment card packets n) (λ s. with_packet plan infos n (with_changes plan infos (events_before plan n) s)) w
+    made_at card packets (moment card packets n) (λ s. served_with plan infos n (with_changes plan infos (events_before plan n) s)) w
 
 -- packet n comes, and at its moment the queue is opened while there is room
-abbrev pub come : Card → Plan → Packets → List Info → ℕ → Wired → Opened
+abbrev pub come : Card → Plan → Packets → List Info → ℕ → Wired → OpenedSoFar
 come card plan packets infos n w = opened_at card packets infos (moment card packets n) (record { times = 0; wired = wired_with card plan packets infos n w })
 
 -- packet n and what follows it up to the moment of the next one, that moment's interrupts included
-abbrev pub turned : Card → Plan → Packets → List Info → ℕ → Wired → Opened
+abbrev pub turned : Card → Plan → Packets → List Info → ℕ → Wired → OpenedSoFar
 turned card plan packets infos n w = all_interrupted card packets infos (λ now. nat_le now (moment card packets (n + 1))) (come card plan packets infos n w)
 
 abbrev pub first_wired : StationPlan → Wired
@@ -162,7 +162,7 @@ after_wired card plan packets infos start (suc n) = (turned card plan packets in
 -- packet n, which is the last one: at its moment the events that are left come; and then all interrupts, until nothing is held
 abbrev pub finished_wired : Card → Plan → Packets → List Info → ℕ → Wired → Wired
 finished_wired card plan packets infos n w =
-    let left = stepped card packets (moment card packets n) (with_changes plan infos (events_after plan packets.count)) (come card plan packets infos n w).wired in
+    let left = made_at card packets (moment card packets n) (with_changes plan infos (events_after plan packets.count)) (come card plan packets infos n w).wired in
     (all_interrupted card packets infos (λ now. true) (record { times = 0; wired = left })).wired
 
 -- WHAT A PLAN AND ITS PACKETS GIVE

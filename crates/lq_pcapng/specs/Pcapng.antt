@@ -289,8 +289,8 @@ abbrev pub link_in : NgCapture → List ℕ → ℕ
 link_in c block = link_type (order_of c) (interface_at c.interfaces (interface_number (order_of c) block))
 
 -- the length on the wire that a packet block says
-abbrev pub wire_length : Bool → List ℕ → ℕ
-wire_length little_endian block = number_in little_endian block (if is_enhanced little_endian block then 24 else 8)
+abbrev pub block_wire_length : Bool → List ℕ → ℕ
+block_wire_length little_endian block = number_in little_endian block (if is_enhanced little_endian block then 24 else 8)
 
 -- WHEN A PACKET CAME, in nanoseconds since the start of 1970
 
@@ -342,7 +342,7 @@ packets_of c = record {
   link = λ i. link_in c (packet_block c i);
   frame = λ i. frame_in c (packet_block c i);
   time = time_in c;
-  length = λ i. wire_length (order_of c) (packet_block c i);
+  length = λ i. block_wire_length (order_of c) (packet_block c i);
 }
 
 -- WHAT IS WRITTEN

@@ -1,6 +1,6 @@
 // A capture in the pcapng format: its blocks, as places in the bytes that were read.
 ghost use Rattle.std.specs.Prelude.{◌≡◌, ◌-◌, ◌==◌, ◌<◌, ◌≤◌, if◌then◌else◌, length};
-ghost use Rattle.lq_pcapng.specs.Pcapng.{frame_in, interface_at, link_in, order_of, packet_block, time_in, wire_length as wire_length_of};
+ghost use Rattle.lq_pcapng.specs.Pcapng.{frame_in, interface_at, link_in, order_of, packet_block, time_in, block_wire_length as wire_length_of};
 ghost use Rattle.lq_pcapng.specs.Reading.{IsClock, IsPacket};
 
 use crate::blocks::{block, interface};

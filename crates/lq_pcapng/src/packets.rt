@@ -1,6 +1,6 @@
 // What a packet block holds.
 ghost use Rattle.std.specs.Prelude.{◌≡◌, ◌+◌, ◌≤◌, ◌<◌, length};
-ghost use Rattle.lq_pcapng.specs.Pcapng.{captured_length as captured_length_of, cut_to, data_place as data_place_of, interface_number as interface_number_of, is_enhanced as is_enhanced_block, packet_fault, padded as padded_length, wire_length as wire_length_of};
+ghost use Rattle.lq_pcapng.specs.Pcapng.{captured_length as captured_length_of, cut_to, data_place as data_place_of, interface_number as interface_number_of, is_enhanced as is_enhanced_block, packet_fault, padded as padded_length, block_wire_length as wire_length_of};
 ghost use Rattle.lq_pcapng.specs.Reading.{AreInterfaces, IsTested, blocks_at};
 
 use crate::blocks::interface;

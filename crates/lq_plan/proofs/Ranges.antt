@@ -8,7 +8,7 @@ use Rattle.std.specs.Option.{option_map_or}
 use Rattle.toml.specs.Data.{Data, string, integer, float, boolean, datetime, array, table, Members, get_member, as_array, as_table}
 use Rattle.lq_plan.specs.Faults.{has_fault, has_kind, is_within, value_fails}
 use Rattle.lq_plan.specs.Keys.{Key, key}
-use Rattle.lq_plan.specs.Values.{elements_of, number_at, number_or}
+use Rattle.lq_plan.specs.Values.{elements_of, number_value, number_or}
 use Rattle.lq_plan.specs.declared.faults.Fault.TheVariants.{OutOfRange}
 use Rattle.lq_plan.specs.declared.keys.Presence.{Presence}
 use Rattle.lq_plan.specs.declared.keys.Rule.TheVariants.{Number, Tables}
@@ -47,7 +47,7 @@ number_within low high default (Some (table inside)) h p q = (p, q)
 -- the i-th of the keys
 pub in_range : (t : Members) (keys : List Key) (i : ℕ) (name : List ℕ) (presence : Presence) (low high default : ℕ) → has_fault OutOfRange keys t ≡ false
     → slice_get keys i ≡ Some (key name presence (Number low high)) → low ≤ default → default ≤ high
-    → (low ≤ number_at name default t) × (number_at name default t ≤ high)
+    → (low ≤ number_value name default t) × (number_value name default t ≤ high)
 in_range t keys i name presence low high default none at p q =
     number_within low high default (get_member name t) (at_false (value_fails is_within t) keys i (key name presence (Number low high)) none at) p q
 

@@ -22,7 +22,7 @@ use Rattle.lq_plan.specs.Faults.{has_fault, has_kind, is_required, is_within, va
 use Rattle.lq_plan.specs.Keys.{Key, key, event_keys, event_word_in, group_in, len_in, len_presence, max_len_for, max_len_in, mq_in, params_presence, root_keys, station_keys, version_in, version_of}
 use Rattle.lq_plan.specs.Limits.{AreParamsWithin, IsEventOfGroup, IsEventWithin, IsIrqOf, IsKindWithin, IsPlanOf, IsSplitOf, IsSpreadOf, IsStationOf, is_out_of_order, max_len_at, version_1, version_2, version_3, version_4}
 use Rattle.lq_plan.specs.Reading.{IsEventSmall, children_in, event_in, first_fault, has_group_fault, has_two_irqs, irq_in, kind_as, params_in, plan_in, split_in, spread_in, station_plan_in}
-use Rattle.lq_plan.specs.Values.{number_at}
+use Rattle.lq_plan.specs.Values.{number_value}
 use Rattle.lq_plan.specs.declared.faults.Fault.{Fault}
 use Rattle.lq_plan.specs.declared.faults.Fault.TheVariants.{UnknownKey, MissingKey, WrongKind, OutOfRange}
 use Rattle.lq_plan.specs.declared.keys.Presence.TheVariants.{Required, Optional}
@@ -178,7 +178,7 @@ widened narrow wide less p within = record {
 
 -- AN EVENT
 
-kind_within : (found : Option EventWord) (t : Members) (max_len : ℕ) → (0 < number_at (codes "len") 1 t) × (number_at (codes "len") 1 t ≤ max_len) → AreParamsWithin (params_in t)
+kind_within : (found : Option EventWord) (t : Members) (max_len : ℕ) → (0 < number_value (codes "len") 1 t) × (number_value (codes "len") 1 t ≤ max_len) → AreParamsWithin (params_in t)
     → IsKindWithin max_len (kind_as found t)
 kind_within None t max_len len params = tt
 kind_within (Some word.Down) t max_len len params = tt
@@ -188,9 +188,9 @@ kind_within (Some word.TxQueueLen) t max_len len params = len
 kind_within (Some word.Swap) t max_len len params = params
 
 record EventFacts (stations : List Members) (t : Members) : Type 0 where
-  before : number_at (codes "before") 0 t ≤ 1000000
-  station : number_at (codes "station") 0 t ≤ length stations - 1
-  len : (1 ≤ max_len_for stations t) → (1 ≤ number_at (codes "len") 1 t) × (number_at (codes "len") 1 t ≤ max_len_for stations t)
+  before : number_value (codes "before") 0 t ≤ 1000000
+  station : number_value (codes "station") 0 t ≤ length stations - 1
+  len : (1 ≤ max_len_for stations t) → (1 ≤ number_value (codes "len") 1 t) × (number_value (codes "len") 1 t ≤ max_len_for stations t)
   params : AreParamsWithin (params_in t)
 
 event_facts : (stations : List Members) (t : Members) → has_fault OutOfRange (event_keys stations t) t ≡ false → EventFacts stations t
@@ -220,10 +220,10 @@ abbrev pub AreGroupsWithin : List Members → Type 0
 AreGroupsWithin stations = (j : ℕ) (t : Members) → slice_get stations j ≡ Some t → 0 < mq_in t
 
 -- the station of an event, if there is one
-max_len_bounds : (stations : List Members) (t : Members) → AreStationsWithin stations → number_at (codes "station") 0 t < length stations
+max_len_bounds : (stations : List Members) (t : Members) → AreStationsWithin stations → number_value (codes "station") 0 t < length stations
     → (1 ≤ max_len_for stations t) × (max_len_for stations t ≤ 65536)
 max_len_bounds stations t within there =
-    let j = number_at (codes "station") 0 t in
+    let j = number_value (codes "station") 0 t in
     let at = slice_get-get_or stations j no_members there in
     let ok = within j (get_or stations j no_members) at in
     let same : max_len_for stations t ≡ max_len_in (get_or stations j no_members) = ap (λ o. option_map_or max_len_in o 0) at in
@@ -306,7 +306,7 @@ no_fault version fault d h =
 
 pub record Facts (limits : Version) (root : Members) (d : Document) : Type 0 where
   pub version : (1 ≤ version_in root) × (version_in root ≤ limits.number)
-  pub senders : (1 ≤ number_at (codes "senders") 1 root) × (number_at (codes "senders") 1 root ≤ limits.max_senders)
+  pub senders : (1 ≤ number_value (codes "senders") 1 root) × (number_value (codes "senders") 1 root ≤ limits.max_senders)
   pub split : IsSplitOf limits (split_in root)
   pub spread : IsSpreadOf limits (spread_in root)
   pub irq : IsIrqOf limits (irq_in root)
@@ -339,7 +339,7 @@ root_facts version is root h =
       senders = in_range root keys 1 (codes "senders") Optional 1 version.max_senders 1 ranges.root refl (omega arith) is.some_senders;
       split = split_within version (get_member (codes "split") root) (at_false (value_fails is_within root) keys 2 (key (codes "split") Optional (SplitText version.flow)) ranges.root refl);
       spread = spread_within version (get_member (codes "spread") root) (at_false (value_fails is_within root) keys 3 (key (codes "spread") version.spread (SpreadText version.flow)) ranges.root refl);
-      irq = irq_within version (number_at (codes "irq_every") 1 root) (get_member (codes "irq_us") root) (in_range root keys 4 (codes "irq_every") Optional 1 1000 1 ranges.root refl (omega arith) (omega arith)) (at_false (value_fails has_kind root) keys 5 irq_us kinds.root refl) (at_false (value_fails is_within root) keys 5 irq_us ranges.root refl);
+      irq = irq_within version (number_value (codes "irq_every") 1 root) (get_member (codes "irq_us") root) (in_range root keys 4 (codes "irq_every") Optional 1 1000 1 ranges.root refl (omega arith) (omega arith)) (at_false (value_fails has_kind root) keys 5 irq_us kinds.root refl) (at_false (value_fails is_within root) keys 5 irq_us ranges.root refl);
       has_station = tables_some 1 8 (get_member (codes "station") root) (at_false (λ (key : Key). is_required key.presence && is_none (get_member key.name root)) keys 6 station missing.root refl) (at_false (value_fails has_kind root) keys 6 station kinds.root refl) (at_false (value_fails is_within root) keys 6 station ranges.root refl);
       few_stations = tables_few 1 8 (get_member (codes "station") root) (at_false (value_fails is_within root) keys 6 station ranges.root refl);
       few_events = tables_few 0 64 (get_member (codes "event") root) (at_false (value_fails is_within root) keys 7 event ranges.root refl);
@@ -380,7 +380,7 @@ some-children version root d all =
     let mq : mq_at (map mq_in d.stations) 0 ≡ mq_in (get_or d.stations 0 no_members) = ap (λ o. option_map_or (λ mq. mq) o 0) (slice_get-map mq_in d.stations 0 ∙ ap (option_map mq_in) at) in
     let some = groups-within version root d all 0 (get_or d.stations 0 no_members) at in let inside = group-within (map mq_in d.stations) 0 first in omega arith
 
-pub of_version : (version : Version) (root : Members) (d : Document) (p : Plan) → Facts version root d → is_out_of_order (map (event_in (map mq_in d.stations)) d.events) ≡ false → p.version ≡ version_in root → p.senders ≡ number_at (codes "senders") 1 root
+pub of_version : (version : Version) (root : Members) (d : Document) (p : Plan) → Facts version root d → is_out_of_order (map (event_in (map mq_in d.stations)) d.events) ≡ false → p.version ≡ version_in root → p.senders ≡ number_value (codes "senders") 1 root
     → p.split ≡ split_in root → p.spread ≡ spread_in root → p.irq ≡ irq_in root → p.stations ≡ flat_map children_in d.stations → p.groups ≡ map mq_in d.stations → p.events ≡ map (event_in (map mq_in d.stations)) d.events → IsPlanOf version p
 of_version version root d p all in_order number senders split spread irq stations groups events =
     let count = length-children d.stations in record {

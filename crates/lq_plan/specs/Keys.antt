@@ -3,7 +3,7 @@ use Rattle.std.specs.Prelude.{ℕ, ◌-◌, ◌==◌, nat_lt, if◌then◌else�
 use Rattle.std.specs.Option.{option_map_or, option_and_then}
 use Rattle.toml.specs.Data.{Members}
 use Rattle.lq_plan.specs.Limits.{version_1, version_2, version_3, version_4}
-use Rattle.lq_plan.specs.Values.{number_at, text_at, event_word_of}
+use Rattle.lq_plan.specs.Values.{number_value, text_at, event_word_of}
 use Rattle.lq_plan.specs.declared.keys.Key.{Key as CodeKey}
 use Rattle.lq_plan.specs.declared.keys.Presence.{Presence}
 use Rattle.lq_plan.specs.declared.keys.Presence.TheVariants.{Required, Optional, Unknown}
@@ -32,7 +32,7 @@ keys_view = map key_view
 
 -- the number that the document at this root says
 abbrev pub version_in : Members → ℕ
-version_in root = number_at (codes "version") 1 root
+version_in root = number_value (codes "version") 1 root
 
 -- its version: 4, 3 or 2 where it says so, else 1
 abbrev pub version_of : Members → Version
@@ -62,14 +62,14 @@ params_keys presence =
     map (λ name. key name presence (Number 0 1000000)) (codes "burst" ∷ codes "busy_every" ∷ codes "busy_limit" ∷ codes "hang_after" ∷ [])
 
 abbrev pub len_in : Members → ℕ
-len_in station = number_at (codes "len") 1000 station
+len_in station = number_value (codes "len") 1000 station
 
 abbrev pub max_len_in : Members → ℕ
-max_len_in station = number_at (codes "max_len") (len_in station) station
+max_len_in station = number_value (codes "max_len") (len_in station) station
 
 -- of how many stations it is the group
 abbrev pub mq_in : Members → ℕ
-mq_in station = number_at (codes "mq") 1 station
+mq_in station = number_value (codes "mq") 1 station
 
 -- each station of a group of several has one queue
 unfoldable pub station_keys : Version → Members → List Key
@@ -100,7 +100,7 @@ params_presence _ = Unknown
 
 -- the station of the text to which an event is done
 abbrev pub group_in : Members → ℕ
-group_in event = number_at (codes "station") 0 event
+group_in event = number_value (codes "station") 0 event
 
 -- its greatest length; 0 where there is no such station
 abbrev pub max_len_for : List Members → Members → ℕ

@@ -23,7 +23,7 @@ use Rattle.lq_model.specs.declared.plan.StationPlan.{StationPlan}
 use Rattle.lq_plan.specs.Document.{Document, document_of, has_fault_in}
 use Rattle.lq_plan.specs.Keys.{event_word_in, group_in, len_in, max_len_in, mq_in, version_in, version_of}
 use Rattle.lq_plan.specs.Limits.{IsKindWithin, is_out_of_order, max_stations}
-use Rattle.lq_plan.specs.Values.{flag_at, number_at, split_of, spread_of, text_at}
+use Rattle.lq_plan.specs.Values.{flag_at, number_value, split_of, spread_of, text_at}
 use Rattle.lq_plan.specs.declared.faults.Fault.TheVariants.{UnknownKey, MissingKey, WrongKind, OutOfRange}
 use Rattle.lq_plan.specs.declared.keys.Version.{Version}
 use Rattle.lq_plan.specs.declared.refusal.PlanRefusal.{PlanRefusal}
@@ -35,10 +35,10 @@ use Rattle.lq_plan.specs.declared.values.EventWord.TheVariants as word
 
 abbrev pub params_in : Members → Params
 params_in table = record {
-  burst = number_at (codes "burst") 0 table;
-  busy_every = number_at (codes "busy_every") 0 table;
-  busy_limit = number_at (codes "busy_limit") 0 table;
-  hang_after = number_at (codes "hang_after") 0 table;
+  burst = number_value (codes "burst") 0 table;
+  busy_every = number_value (codes "busy_every") 0 table;
+  busy_limit = number_value (codes "busy_limit") 0 table;
+  hang_after = number_value (codes "hang_after") 0 table;
 }
 
 abbrev pub station_plan_in : Members → StationPlan
@@ -47,15 +47,15 @@ station_plan_in station = record {
   max_len = max_len_in station;
   bypass = flag_at (codes "bypass") true station;
   params = params_in station;
-  queues = number_at (codes "queues") 1 station;
+  queues = number_value (codes "queues") 1 station;
   card = None;
 }
 
 -- of an event that has these keys; a required key has no default, so those that stand here for one are never read
 abbrev pub kind_as : Option EventWord → Members → EventKind
 kind_as (Some word.Up) event = Up
-kind_as (Some word.Resize) event = Resize (number_at (codes "len") 1 event)
-kind_as (Some word.TxQueueLen) event = TxQueueLen (number_at (codes "len") 1 event)
+kind_as (Some word.Resize) event = Resize (number_value (codes "len") 1 event)
+kind_as (Some word.TxQueueLen) event = TxQueueLen (number_value (codes "len") 1 event)
 kind_as (Some word.Swap) event = Swap (params_in event)
 kind_as _ event = Down
 
@@ -66,7 +66,7 @@ children_in station = replicate (mq_in station) (station_plan_in station)
 -- an event, where the stations of the text are these groups
 abbrev pub event_in : List ℕ → Members → EventPlan
 event_in groups event = record {
-  before = number_at (codes "before") 0 event;
+  before = number_value (codes "before") 0 event;
   station = first_at groups (group_in event);
   mq = mq_at groups (group_in event);
   kind = kind_as (event_word_in event) event;
@@ -80,12 +80,12 @@ spread_in root = unwrap_or (option_and_then (spread_of true) (text_at (codes "sp
 
 -- by time where it says a period
 abbrev pub irq_in : Members → Irq
-irq_in root = if is_some (get_member (codes "irq_us") root) then Period (number_at (codes "irq_us") 1 root) else Every (number_at (codes "irq_every") 1 root)
+irq_in root = if is_some (get_member (codes "irq_us") root) then Period (number_value (codes "irq_us") 1 root) else Every (number_value (codes "irq_every") 1 root)
 
 abbrev pub plan_in : Document → Plan
 plan_in d = record {
   version = version_in d.root;
-  senders = number_at (codes "senders") 1 d.root;
+  senders = number_value (codes "senders") 1 d.root;
   split = split_in d.root;
   spread = spread_in d.root;
   classify = Tos;
@@ -138,6 +138,6 @@ IsPlanRefusal answer (Refused cause) = answer ≡ Err cause
 
 -- an event of one of so many groups, whose rings have at most 65,536 slots
 pub record IsEventSmall (groups : ℕ) (event : Members) : Type 0 where
-  pub before : number_at (codes "before") 0 event ≤ 1000000
+  pub before : number_value (codes "before") 0 event ≤ 1000000
   pub group : group_in event < groups
   pub kind : IsKindWithin 65536 (kind_as (event_word_in event) event)

@@ -17,8 +17,8 @@ abbrev pub number_or : ℕ → Option Data → ℕ
 number_or default (Some (integer (pos n))) = n
 number_or default _ = default
 
-abbrev pub number_at : List ℕ → ℕ → Members → ℕ
-number_at name default members = number_or default (get_member name members)
+abbrev pub number_value : List ℕ → ℕ → Members → ℕ
+number_value name default members = number_or default (get_member name members)
 
 abbrev pub flag_at : List ℕ → Bool → Members → Bool
 flag_at name default members = unwrap_or (option_and_then as_bool (get_member name members)) default

@@ -3,9 +3,9 @@ ghost use Rattle.std.specs.Prelude.{◌≡◌, codes, if◌then◌else◌, nat_l
 ghost use Rattle.toml.specs.View.{table_view};
 ghost use Rattle.lq_plan.specs.Tables.{tables_view};
 ghost use Rattle.lq_plan.specs.Keys.{event_keys, key, key_view, event_word_in, keys_view, len_in, len_presence, max_len_in, max_len_for, mq_in, group_in, params_presence, root_keys, station_keys, version_in, version_of};
-ghost use Rattle.lq_plan.specs.Values.{number_at};
+ghost use Rattle.lq_plan.specs.Values.{number_value};
 
-use crate::values::{EventWord, event_word_of, number_at, text_at};
+use crate::values::{EventWord, event_word_of, number_value, text_at};
 use toml::Table;
 
 /// Whether a key may be in its table.
@@ -106,7 +106,7 @@ const VERSION_4: Version = Version {
 pub fn version_number(root: &Table) -> u64
     ensures { result ≡ version_in (table_view root.now) }
 {
-    number_at(root, "version", 1)
+    number_value(root, "version", 1)
 }
 
 /// Its version: 4, 3 or 2 where it says so, else 1.
@@ -146,27 +146,27 @@ pub fn root_keys(version: Version) -> [Key; 8]
 pub fn len_of(station: &Table) -> u64
     ensures { result ≡ len_in (table_view station.now) }
 {
-    number_at(station, "len", 1000)
+    number_value(station, "len", 1000)
 }
 
 pub fn max_len_of(station: &Table) -> u64
     ensures { result ≡ max_len_in (table_view station.now) }
 {
-    number_at(station, "max_len", len_of(station))
+    number_value(station, "max_len", len_of(station))
 }
 
 /// How many queues share a station's rings.
 pub fn queues_of(station: &Table) -> u64
-    ensures { result ≡ number_at (codes "queues") 1 (table_view station.now) }
+    ensures { result ≡ number_value (codes "queues") 1 (table_view station.now) }
 {
-    number_at(station, "queues", 1)
+    number_value(station, "queues", 1)
 }
 
 /// Of how many stations it is the group.
 pub fn mq_of(station: &Table) -> u64
     ensures { result ≡ mq_in (table_view station.now) }
 {
-    number_at(station, "mq", 1)
+    number_value(station, "mq", 1)
 }
 
 // Each station of a group of several has one queue.
@@ -184,7 +184,7 @@ fn max_queues_of(version: Version, station: &Table) -> u64
 pub fn group_of(event: &Table) -> u64
     ensures { result ≡ group_in (table_view event.now) }
 {
-    number_at(event, "station", 0)
+    number_value(event, "station", 0)
 }
 
 /// The keys of a station.

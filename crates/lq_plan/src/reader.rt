@@ -12,7 +12,7 @@ use crate::keys::{event_word, group_of, len_of, max_len_of, mq_of, queues_of, ve
 use crate::order::is_out_of_order;
 use crate::plan::{Plan, first_child};
 use crate::refusal::PlanRefusal;
-use crate::values::{EventWord, flag_at, number_at, split_of, spread_of, text_at, value_at};
+use crate::values::{EventWord, flag_at, number_value, split_of, spread_of, text_at, value_at};
 use lq_model::{
     Classify, EventKind, EventPlan, Irq, Params, PlanReason, Split, Spread, StationPlan,
 };
@@ -66,7 +66,7 @@ fn read_root(alloc: Global, root: &Table) -> Result<Plan, PlanRefusal>
     }
     Ok(Plan {
         version: version_number(root) as u32,
-        senders: number_at(root, "senders", 1) as u32,
+        senders: number_value(root, "senders", 1) as u32,
         split: read_split(root),
         spread: read_spread(root),
         classify: Classify::Tos,
@@ -101,11 +101,11 @@ fn read_irq(root: &Table) -> Irq
 {
     if value_at(root, "irq_us").is_some() {
         Irq::Period {
-            microseconds: number_at(root, "irq_us", 1) as u32,
+            microseconds: number_value(root, "irq_us", 1) as u32,
         }
     } else {
         Irq::Every {
-            packets: number_at(root, "irq_every", 1) as u32,
+            packets: number_value(root, "irq_every", 1) as u32,
         }
     }
 }
@@ -168,10 +168,10 @@ fn read_params(table: &Table) -> Params
     ensures { result ≡ params_in (table_view table.now) }
 {
     Params {
-        burst: number_at(table, "burst", 0) as u32,
-        busy_every: number_at(table, "busy_every", 0) as u32,
-        busy_limit: number_at(table, "busy_limit", 0) as u32,
-        hang_after: number_at(table, "hang_after", 0) as u32,
+        burst: number_value(table, "burst", 0) as u32,
+        busy_every: number_value(table, "busy_every", 0) as u32,
+        busy_limit: number_value(table, "busy_limit", 0) as u32,
+        hang_after: number_value(table, "hang_after", 0) as u32,
     }
 }
 
@@ -198,7 +198,7 @@ fn read_event(groups: &[u32], event: &Table) -> EventPlan
 {
     let group = group_of(event) as u32;
     EventPlan {
-        before: number_at(event, "before", 0) as u32,
+        before: number_value(event, "before", 0) as u32,
         station: first_child(groups, group),
         mq: groups[group as usize],
         kind: read_kind(event),
@@ -212,10 +212,10 @@ fn read_kind(event: &Table) -> EventKind
     match event_word(event) {
         Some(EventWord::Up) => EventKind::Up,
         Some(EventWord::Resize) => EventKind::Resize {
-            len: number_at(event, "len", 1) as u32,
+            len: number_value(event, "len", 1) as u32,
         },
         Some(EventWord::TxQueueLen) => EventKind::TxQueueLen {
-            len: number_at(event, "len", 1) as u32,
+            len: number_value(event, "len", 1) as u32,
         },
         Some(EventWord::Swap) => EventKind::Swap {
             params: read_params(event),

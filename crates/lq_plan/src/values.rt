@@ -3,7 +3,7 @@ ghost use Rattle.std.specs.Prelude.{◌≡◌, map, option_map, option_and_then,
 ghost use Rattle.std.specs.Option.{option_map_or};
 ghost use Rattle.toml.specs.Data.{as_array, get_member};
 ghost use Rattle.toml.specs.View.{table_view, view};
-ghost use Rattle.lq_plan.specs.Values.{elements_of, event_word_of, flag_at, number_at, split_of, spread_of, text_at};
+ghost use Rattle.lq_plan.specs.Values.{elements_of, event_word_of, flag_at, number_value, split_of, spread_of, text_at};
 
 use lq_model::{Split, Spread};
 use toml::{Table, Value};
@@ -26,8 +26,8 @@ pub fn value_at<'a>(table: &'a Table, name: &str) -> Option<&'a Value>
 }
 
 /// The number at a key, or its default where there is none that isn't negative.
-pub fn number_at(table: &Table, name: &str, default: u64) -> u64
-    ensures { result ≡ number_at name.now default (table_view table.now) }
+pub fn number_value(table: &Table, name: &str, default: u64) -> u64
+    ensures { result ≡ number_value name.now default (table_view table.now) }
 {
     match value_at(table, name) {
         Some(Value::Integer(number)) if *number >= 0 => *number as u64,

@@ -11,7 +11,7 @@ use Rattle.lq_model.specs.declared.machine.ControlStep.TheVariants.{PurgeBand, P
 use Rattle.lq_model.specs.declared.machine.Position.{Position}
 use Rattle.lq_model.specs.declared.machine.Position.TheVariants.{Idle, Put, Control}
 use Rattle.lq_model.specs.declared.machine.Seat.{Seat}
-use Rattle.lq_model.specs.Machine.{Qdisc, Machine, Purge, bit, seat_at, is_open}
+use Rattle.lq_model.specs.Machine.{Qdisc, Machine, Purge, bit, seat_at, is_queue_open}
 use Rattle.lq_model.specs.Steps.{is_idle, begun, step_at, may_answer, may_step, has_room, may_be_full, with_seat}
 use Rattle.lq_model.specs.Control.{control_at, holds_as_control, is_after_bands, is_control, is_sole, looks_at_bands, may_control}
 use Rattle.lq_model.specs.Positions.{IsClear, blocking, has_way_on, hidden_packet, holds_lock, in_hand, is_going, is_on_way, is_stopped, marks, some_seat}
@@ -140,7 +140,7 @@ unscheduled m kept rest = bit-none m.qdisc.sched (sym kept.one_scheduled ∙ sum
     at _ (rests_idle run) = refl
     at _ (rests_in_control run) = refl
 
-open-means : (q : Qdisc) (queue : Option ℕ) → ((n : ℕ) → is_open q n ≡ true) → is_stopped q queue ≡ false
+open-means : (q : Qdisc) (queue : Option ℕ) → ((n : ℕ) → is_queue_open q n ≡ true) → is_stopped q queue ≡ false
 open-means q (Some n) h = let e = h n in grind arith
 open-means q None h = refl
 

@@ -4,11 +4,11 @@ use Rattle.std.specs.Prelude.{◌&&◌, nat_lt, ◌==◌, if◌then◌else◌, s
 use Rattle.std.proofs.Math.ListN.{get_or-eq_default}
 use Rattle.lq_model.specs.declared.machine.Position.TheVariants.{Deq, Scan, StoreXoff}
 use Rattle.lq_model.specs.declared.machine.Seat.{Seat}
-use Rattle.lq_model.specs.Machine.{Qdisc, is_open, is_shared}
+use Rattle.lq_model.specs.Machine.{Qdisc, is_queue_open, has_several_queues}
 use Rattle.lq_model.specs.Steps.{goes_to, dequeue_begins, store_xoff, after_sent, queue_of_slot}
 use Rattle.lq_model.specs.Positions.{blocking}
 
-not-shared : (q : Qdisc) → length q.xoff ≡ 1 → is_shared q ≡ false
+not-shared : (q : Qdisc) → length q.xoff ≡ 1 → has_several_queues q ≡ false
 not-shared q one = ap (λ (n : ℕ). nat_lt 1 n) one
 
 pub one-dequeue : (q : Qdisc) → length q.xoff ≡ 1 → dequeue_begins q ≡ Deq
@@ -21,10 +21,10 @@ one-hang q s direct one =
 
 pub one-blocking : (q : Qdisc) → length q.xoff ≡ 1 → q.slot ≡ None → blocking q ≡ Some 0
 one-blocking q one empty =
-    ap (λ (o : Option _). if is_some o then Some (queue_of_slot o) else if is_shared q then None else Some 0) empty
+    ap (λ (o : Option _). if is_some o then Some (queue_of_slot o) else if has_several_queues q then None else Some 0) empty
     ∙ ap (λ (b : Bool). if b then None else Some 0) (not-shared q one)
 
-pub one-open : (q : Qdisc) (queue : ℕ) → length q.xoff ≡ 1 → is_open q 0 ≡ true → is_open q queue ≡ true
+pub one-open : (q : Qdisc) (queue : ℕ) → length q.xoff ≡ 1 → is_queue_open q 0 ≡ true → is_queue_open q queue ≡ true
 one-open q zero one is = is
 one-open q (suc queue) one is =
     let beyond : length q.xoff ≤ suc queue = omega arith in

@@ -14,7 +14,7 @@ use Rattle.lq_model.specs.declared.machine.Answer.TheVariants.{Plain, FullSlot, 
 use Rattle.lq_model.specs.declared.machine.Position.{Position}
 use Rattle.lq_model.specs.declared.machine.Position.TheVariants.{Idle, Gate, Xmit, StoreXoff, Deq, Scan, Test, Unlock, Control}
 use Rattle.lq_model.specs.declared.machine.Seat.{Seat}
-use Rattle.lq_model.specs.Machine.{Qdisc, bit, is_open, band_at}
+use Rattle.lq_model.specs.Machine.{Qdisc, bit, is_queue_open, band_at}
 use Rattle.lq_model.specs.Steps.{is_idle, may_begin, begun, After, goes_to, step_at, may_answer, scan, slot_taken, counted, queue_of_slot, joined_band}
 use Rattle.lq_model.specs.Positions.{holds_lock}
 use Rattle.lq_run_laws.proofs.Local as local
@@ -148,7 +148,7 @@ scan-falls [] band second q s e =
 
 -- a stop word that was stored isn't open
 stored : (q : Qdisc) (queue : ℕ) (hung : Bool) → (hung && nat_lt (queue + 1) (length q.xoff)) ≡ true
-    → is_open (record q { xoff = set q.xoff queue (if hung then 2 else 1) }) queue ≡ true → ⊥
+    → is_queue_open (record q { xoff = set q.xoff queue (if hung then 2 else 1) }) queue ≡ true → ⊥
 stored q queue false e opened = cc
 stored q queue true e opened =
     let within = ltb-true (queue + 1) (length q.xoff) e in
@@ -171,14 +171,14 @@ control-waits holds Hang q e = cc
 control-waits holds Busy q e = cc
 
 step-falls : (position : Position) (answer : Answer) (q : Qdisc) (s : Seat) → may_answer position answer q ≡ true → answer ≢ Busy
-    → ((queue : ℕ) → is_open q queue ≡ true) → ((queue : ℕ) → is_open (step_at position answer q s).qdisc queue ≡ true)
+    → ((queue : ℕ) → is_queue_open q queue ≡ true) → ((queue : ℕ) → is_queue_open (step_at position answer q s).qdisc queue ≡ true)
     → Falls 0 q s position (step_at position answer q s)
 step-falls Idle answer q s may ready opens after = absurd (idle-waits answer q may)
 step-falls (Control holds) answer q s may ready opens after = absurd (control-waits holds answer q may)
 step-falls (Gate p direct) answer q s may ready opens after =
-    if-cases (λ d. Falls 0 q s (Gate p direct) (goes_to q s d)) (is_open q p.queue) _ _ (λ e h. omega arith) (λ e. absurd (let o = opens p.queue in cc))
+    if-cases (λ d. Falls 0 q s (Gate p direct) (goes_to q s d)) (is_queue_open q p.queue) _ _ (λ e h. omega arith) (λ e. absurd (let o = opens p.queue in cc))
 step-falls Deq answer q s may ready opens after =
-    if-cases (Falls 0 q s Deq) (is_open q (queue_of_slot q.slot)) _ _ (λ e. slot-falls q.slot q s refl) (λ e. absurd (let o = opens (queue_of_slot q.slot) in cc))
+    if-cases (Falls 0 q s Deq) (is_queue_open q (queue_of_slot q.slot)) _ _ (λ e. slot-falls q.slot q s refl) (λ e. absurd (let o = opens (queue_of_slot q.slot) in cc))
 step-falls (Scan band second) answer q s may ready opens after = scan-falls (band_at q band) band second q s refl
 step-falls (Xmit p direct) Plain q s may ready opens after = λ h. omega (arith, sent-way q direct _ (sends q (counted s) direct) h)
 step-falls (Xmit p direct) FullSlot q s may ready opens after = cc
@@ -194,7 +194,7 @@ step-falls position answer q s may ready opens after = simple-falls (step-leads 
 -- WHAT EACH MOVE COSTS
 
 pub step-costs : (position : Position) (answer : Answer) (q : Qdisc) (s : Seat) → may_answer position answer q ≡ true
-    → ((queue : ℕ) → is_open q queue ≡ true) → ((queue : ℕ) → is_open (step_at position answer q s).qdisc queue ≡ true)
+    → ((queue : ℕ) → is_queue_open q queue ≡ true) → ((queue : ℕ) → is_queue_open (step_at position answer q s).qdisc queue ≡ true)
     → Falls (step_cost answer) q s position (step_at position answer q s)
 step-costs (Xmit p direct) Busy q s may opens after = λ h. omega (arith, bit-below (is_some q.slot))
 step-costs _ Busy q s may opens after = cc

@@ -12,7 +12,7 @@ use Rattle.lq_model.specs.declared.machine.Blocked.TheVariants.{InHand}
 use Rattle.lq_model.specs.declared.machine.Position.{Position}
 use Rattle.lq_model.specs.declared.machine.Position.TheVariants.{Idle, Gate, Xmit, Deq, BlockedClear, BlockedLoad, BlockedMiss, BlockedDrain, Control}
 use Rattle.lq_model.specs.declared.machine.Seat.{Seat}
-use Rattle.lq_model.specs.Machine.{Qdisc, Machine, is_open, seat_at, band_at}
+use Rattle.lq_model.specs.Machine.{Qdisc, Machine, is_queue_open, seat_at, band_at}
 use Rattle.lq_model.specs.Control.{is_control}
 use Rattle.lq_model.specs.Steps.{After, goes_to, step_at, may_answer, may_begin, begun, with_seat, slot_taken, queue_of_slot, queue_of_blocked}
 use Rattle.lq_model.specs.Positions.{in_hand, needs_slot}
@@ -44,14 +44,14 @@ accepted-is r p e = (zero, omega arith, let same : r ≡ p = cc in same)
 -- from the hand it goes to the device, or back into the requeue slot
 hand-stays : (position : Position) (answer : Answer) (q : Qdisc) (s : Seat) (p : Packet) → may_answer position answer q ≡ true → in_hand position ≡ Some p
     → Stays p (step_at position answer q s) ⊎ Contains (accepted_at position answer) p
-hand-stays (Gate r direct) answer q s p may e = if-cases (λ d. Stays p (goes_to q s d) ⊎ Contains (accepted_at (Gate r direct) answer) p) (is_open q r.queue) _ _ (λ _. inl (inl e)) (λ _. inl (inl e))
+hand-stays (Gate r direct) answer q s p may e = if-cases (λ d. Stays p (goes_to q s d) ⊎ Contains (accepted_at (Gate r direct) answer) p) (is_queue_open q r.queue) _ _ (λ _. inl (inl e)) (λ _. inl (inl e))
 hand-stays (Xmit r direct) Plain q s p may e = inr (accepted-is r p e)
 hand-stays (Xmit r direct) Stop q s p may e = inr (accepted-is r p e)
 hand-stays (Xmit r direct) Hang q s p may e = inr (accepted-is r p e)
 hand-stays (Xmit r direct) Busy q s p may e = inl (inr (inl e))
 hand-stays (Xmit r direct) FullSlot q s p may e = absurd cc
 hand-stays (BlockedClear b) answer q s p may e = inl (inl e)
-hand-stays (BlockedLoad b) answer q s p may e = if-cases (λ d. Stays p (goes_to q s d) ⊎ Contains (accepted_at (BlockedLoad b) answer) p) (is_open q (queue_of_blocked b)) _ _ (λ _. inl (inl e)) (λ _. inl (inl e))
+hand-stays (BlockedLoad b) answer q s p may e = if-cases (λ d. Stays p (goes_to q s d) ⊎ Contains (accepted_at (BlockedLoad b) answer) p) (is_queue_open q (queue_of_blocked b)) _ _ (λ _. inl (inl e)) (λ _. inl (inl e))
 hand-stays (BlockedMiss (InHand r direct)) answer q s p may e = inl (inr (inl e))
 hand-stays (BlockedDrain (InHand r direct)) answer q s p may e = inl (inr (inl e))
 hand-stays _ answer q s p may e = absurd cc
@@ -78,7 +78,7 @@ taken-stays None q s p e = absurd cc
 -- in the requeue slot it stays, until a dequeue takes it in hand
 slot-stays : (position : Position) (answer : Answer) (q : Qdisc) (s : Seat) (p : Packet) → may_answer position answer q ≡ true
     → (needs_slot position ≡ true → q.slot ≡ None) → q.slot ≡ Some p → Stays p (step_at position answer q s)
-slot-stays Deq answer q s p may none e = if-cases (Stays p) (is_open q (queue_of_slot q.slot)) _ _ (λ _. taken-stays q.slot q s p e) (λ _. inr (inl e))
+slot-stays Deq answer q s p may none e = if-cases (Stays p) (is_queue_open q (queue_of_slot q.slot)) _ _ (λ _. taken-stays q.slot q s p e) (λ _. inr (inl e))
 slot-stays (Control holds) answer q s p may none e = absurd (control-waits holds answer q may)
 slot-stays position answer q s p may none e = slot-local p (step-leads true (λ p. Unit {0}) position answer q s may) refl none e
 

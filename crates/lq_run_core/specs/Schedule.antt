@@ -46,8 +46,8 @@ is_number word = nat_lt 0 (length word) && list_all is_ascii_digit word && not (
 abbrev pub number_of : List ℕ → Option ℕ
 number_of word = if is_number word then Some (digits_value 10 word) else None
 
-abbrev pub number_in : ℕ → ℕ → List ℕ → Option ℕ
-number_in low high word = option_and_then (λ n. if nat_le low n && nat_le n high then Some n else None) (number_of word)
+abbrev pub number_between : ℕ → ℕ → List ℕ → Option ℕ
+number_between low high word = option_and_then (λ n. if nat_le low n && nat_le n high then Some n else None) (number_of word)
 
 -- THE FIRST LINE
 
@@ -58,7 +58,7 @@ o >>= f = option_and_then f o
 -- a label and a number behind it, from low to high, and the words behind them
 abbrev pub labelled : List ℕ → ℕ → ℕ → List (List ℕ) → Option (ℕ × List (List ℕ))
 labelled label low high (first ∷ second ∷ more) =
-    if bytes_eq first label then option_map (λ n. (n, more)) (number_in low high second) else None
+    if bytes_eq first label then option_map (λ n. (n, more)) (number_between low high second) else None
 labelled label low high _ = None
 
 abbrev pub set_up : ℕ → ℕ → Bool → Progress
@@ -91,8 +91,8 @@ bare_action word =
 
 abbrev pub numbered_action : List ℕ → List ℕ → Option Action
 numbered_action word number =
-    if bytes_eq word (codes "send") then option_map (λ band. Begins (Send band)) (number_in 0 2 number)
-    else if bytes_eq word (codes "step") then option_map (Steps Plain) (number_in 1 1000 number)
+    if bytes_eq word (codes "send") then option_map (λ band. Begins (Send band)) (number_between 0 2 number)
+    else if bytes_eq word (codes "step") then option_map (Steps Plain) (number_between 1 1000 number)
     else None
 
 abbrev pub action_of : List (List ℕ) → Option Action

@@ -6,7 +6,7 @@ use Rattle.lq_model.specs.declared.machine.Attempt.{Attempt}
 use Rattle.lq_model.specs.declared.machine.Attempt.TheVariants.{Direct}
 use Rattle.lq_model.specs.declared.machine.Position.{Position}
 use Rattle.lq_model.specs.declared.machine.Position.TheVariants.{Enter, Check, Put, Try1, Miss, Try2, Recheck}
-use Rattle.lq_model.specs.Machine.{Machine, bit, is_open, seat_at}
+use Rattle.lq_model.specs.Machine.{Machine, bit, is_queue_open, seat_at}
 use Rattle.lq_model.specs.Positions.{Holds, in_hand}
 
 -- the packet is held, in a band or in the requeue slot, or the holder of the run lock has it in hand
@@ -14,7 +14,7 @@ abbrev pub IsWaiting : Packet → Machine → Type 0
 IsWaiting p m = Holds m p ⊎ ((i : ℕ) × (in_hand (seat_at m i).position ≡ Some p))
 
 abbrev pub AllOpen : Machine → Type 0
-AllOpen m = (queue : ℕ) → is_open m.qdisc queue ≡ true
+AllOpen m = (queue : ℕ) → is_queue_open m.qdisc queue ≡ true
 
 -- this packet waits, and all queues are open
 pub record WaitsOpen (p : Packet) (m : Machine) : Type 0 where

@@ -4,7 +4,7 @@ ghost use Rattle.std.specs.Prelude.{◌≡◌, ◌≢◌, ℕ, Bool, true, None,
 ghost use Rattle.lq_model.specs.declared.machine.Packet.{Packet};
 ghost use Rattle.lq_model.specs.declared.machine.Position.TheVariants.{Xmit, Deq};
 ghost use Rattle.lq_model.specs.declared.machine.Seat.{Seat};
-ghost use Rattle.lq_model.specs.Machine.{Qdisc, Machine, first_machine, seat_at, is_open};
+ghost use Rattle.lq_model.specs.Machine.{Qdisc, Machine, first_machine, seat_at, is_queue_open};
 ghost use Rattle.lq_model.specs.Steps.{goes_to, dequeue_begins, store_xoff, after_sent};
 ghost use Rattle.lq_model.specs.Positions.{Holds, blocking};
 ghost use Rattle.lq_model.specs.Kept.{IsInductive, IsKept};
@@ -44,5 +44,5 @@ pub fn one_queue_has_one_stop_word()
     ensures hang { (q : Qdisc) (s : Seat) (direct : Bool) → length q.xoff ≡ 1
         → store_xoff 0 true direct q s ≡ goes_to (record q { xoff = slice_set q.xoff 0 2 }) s (after_sent direct q s) }
     ensures blocking { (q : Qdisc) → length q.xoff ≡ 1 → q.slot ≡ None → blocking q ≡ Some 0 }
-    ensures all_open { (q : Qdisc) (queue : ℕ) → length q.xoff ≡ 1 → is_open q 0 ≡ true → is_open q queue ≡ true }
+    ensures all_open { (q : Qdisc) (queue : ℕ) → length q.xoff ≡ 1 → is_queue_open q 0 ≡ true → is_queue_open q queue ≡ true }
 {}

@@ -93,7 +93,7 @@ fn one_more(count: u64) -> u64
 
 impl Qdisc {
     ghost use Rattle.std.specs.Prelude.{◌≡◌, ◌<◌, ◌≤◌, ◌+◌, ◌∷◌, [], nat_lt, length, slice_set, slice_index, IfSome, IfNone, OnSome, IfOk};
-    ghost use Rattle.lq_model.specs.Machine.{is_non_empty, is_open, is_shared, band_at, first_qdisc, state_word};
+    ghost use Rattle.lq_model.specs.Machine.{is_non_empty, is_queue_open, has_several_queues, band_at, first_qdisc, state_word};
     ghost use Rattle.lq_run_core.specs.Numbered.{packets_held};
     ghost use Rattle.lq_model.specs.Steps.{one_more, joined_band};
 
@@ -116,15 +116,15 @@ impl Qdisc {
         }
     }
 
-    pub(crate) fn is_open(&self, queue: u32) -> bool
-        ensures { result ≡ is_open self.now queue }
+    pub(crate) fn is_queue_open(&self, queue: u32) -> bool
+        ensures { result ≡ is_queue_open self.now queue }
     {
         self.stop_word(queue) == 0
     }
 
     /// Several queues share the bands.
-    pub(crate) fn is_shared(&self) -> bool
-        ensures { result ≡ is_shared self.now }
+    pub(crate) fn has_several_queues(&self) -> bool
+        ensures { result ≡ has_several_queues self.now }
     {
         self.xoff.len() > 1
     }

@@ -4,7 +4,7 @@ ghost use Rattle.std.specs.List.{slice_split, list_all};
 ghost use Rattle.std.specs.Char.{is_ascii_digit};
 ghost use Rattle.std.specs.Str.Parse.{digits_value};
 ghost use Rattle.lq_model.specs.Machine.{Machine as State};
-ghost use Rattle.lq_run_core.specs.Schedule.{IsActionInRange, pieces_left, is_number, number_of, number_in, bare_action, answer_named, numbered_action, action_of, labelled, set_up, setup_line_of, words, command_of, capped, capped_seat};
+ghost use Rattle.lq_run_core.specs.Schedule.{IsActionInRange, pieces_left, is_number, number_of, number_between, bare_action, answer_named, numbered_action, action_of, labelled, set_up, setup_line_of, words, command_of, capped, capped_seat};
 
 use crate::start::Start;
 use lq_model::Answer;
@@ -103,7 +103,7 @@ fn number(word: &[u8]) -> Option<u32>
 /// The number that a word is, where it is from `low` to `high`.
 fn number_within(word: &[u8], low: u32, high: u32) -> Option<u32>
     requires { high < 4294967295 }
-    ensures number { result ≡ number_in low high word.now }
+    ensures number { result ≡ number_between low high word.now }
     ensures bounds { IfSome result (λ n. (low ≤ n) × (n ≤ high)) }
 {
     let found = number(word)?;

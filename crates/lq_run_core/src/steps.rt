@@ -4,7 +4,7 @@ ghost use Rattle.lq_model.specs.Band.{batch};
 ghost use Rattle.lq_model.specs.declared.machine.Attempt.TheVariants.{Interrupt};
 ghost use Rattle.lq_model.specs.declared.machine.Blocked.TheVariants.{InHand};
 ghost use Rattle.lq_model.specs.declared.machine.Position.TheVariants.{Put, Gate, Xmit, Unlock, ClearMissed, BlockedClear, BlockedMiss, BlockedDrain, Sched, Try1};
-ghost use Rattle.lq_model.specs.Machine.{band_at, is_non_empty, is_open};
+ghost use Rattle.lq_model.specs.Machine.{band_at, is_non_empty, is_queue_open};
 ghost use Rattle.lq_model.specs.Steps.{goes_to, step_at, counted, gives_up, after_band, queue_of_blocked, queue_of_slot, call_ends, enter, dequeue_begins, run_begins, after_sent, try_lock, miss, check, may_answer, after_put, put_answered, xmit, store_xoff, deq, scan, requeues, schedule, wake};
 
 use crate::qdisc::{Qdisc, at};
@@ -102,7 +102,7 @@ impl Qdisc {
     fn dequeue_begins(&self) -> Position
         ensures { result ≡ dequeue_begins self.now }
     {
-        if self.is_shared() && self.slot.is_none() {
+        if self.has_several_queues() && self.slot.is_none() {
             Position::Scan {
                 band: 0,
                 second: false,
@@ -266,7 +266,7 @@ impl Qdisc {
         ensures seat { result ≡ (deq self.old seat).seat }
     {
         let queue = queue_of_slot(self.slot);
-        if !self.is_open(queue) {
+        if !self.is_queue_open(queue) {
             return at(seat, Position::BlockedClear(Blocked::NoneTaken { queue }));
         }
         match self.slot {
@@ -390,9 +390,9 @@ impl Qdisc {
 
     /// Looks at the stop word of the packet in hand.
     fn gate(&self, packet: Packet, direct: bool) -> Position
-        ensures { result ≡ (if is_open self.now packet.queue then Xmit packet direct else BlockedClear (InHand packet direct)) }
+        ensures { result ≡ (if is_queue_open self.now packet.queue then Xmit packet direct else BlockedClear (InHand packet direct)) }
     {
-        if self.is_open(packet.queue) {
+        if self.is_queue_open(packet.queue) {
             Position::Xmit { packet, direct }
         } else {
             Position::BlockedClear(Blocked::InHand { packet, direct })
@@ -423,9 +423,9 @@ impl Qdisc {
 
     /// The second look at a stopped queue (`qdisc_maybe_clear_missed` of net/sched/sch_generic.c).
     fn blocked_load(&self, blocked: Blocked) -> Position
-        ensures { result ≡ (if is_open self.now (queue_of_blocked blocked) then BlockedMiss blocked else BlockedDrain blocked) }
+        ensures { result ≡ (if is_queue_open self.now (queue_of_blocked blocked) then BlockedMiss blocked else BlockedDrain blocked) }
     {
-        if self.is_open(queue_of_blocked(blocked)) {
+        if self.is_queue_open(queue_of_blocked(blocked)) {
             Position::BlockedMiss(blocked)
         } else {
             Position::BlockedDrain(blocked)

@@ -18,7 +18,7 @@ use Rattle.lq_model.specs.Positions.{holds_lock, in_hand, own_packet}
 use Rattle.lq_model.specs.Kept.{OneHolder}
 use Rattle.lq_model.specs.Quiet.{IsFree, Moves}
 use Rattle.lq_model.specs.Quiet.Moves.{steps, begins, controls}
-use Rattle.lq_model.specs.Machine.{Qdisc, Machine, band_at, bit, idle_seat, is_open}
+use Rattle.lq_model.specs.Machine.{Qdisc, Machine, band_at, bit, idle_seat, is_queue_open}
 use Rattle.lq_model.specs.Steps.{After, begun, goes_to, is_idle, may_answer, may_begin, queue_of_slot, slot_taken, step_at, with_seat}
 use Rattle.lq_run_laws.specs.Among.{among, left_among}
 use Rattle.lq_run_laws.proofs.Bands.{set-holds, taken-holds, cut-holds}
@@ -195,7 +195,7 @@ module _ (q : Qdisc) (s : Seat) (answer : Answer) (may : may_answer s.position a
   hand-from p e = go (is-deq s.position) refl
     where
       go : (b : Bool) → is-deq s.position ≡ b → (in_hand s.position ≡ Some p) ⊎ ((own_packet s.position ≡ Some p) ⊎ ((q.slot ≡ Some p) ⊎ InBands q p))
-      go true i = inr (inr (inl (deq-from (is_open q (queue_of_slot q.slot)) q.slot q s (BlockedClear (NoneTaken (queue_of_slot q.slot))) refl p (sym (ap (λ (x : Position). in_hand (step_at x answer q s).seat.position) (at-deq s.position i)) ∙ e))))
+      go true i = inr (inr (inl (deq-from (is_queue_open q (queue_of_slot q.slot)) q.slot q s (BlockedClear (NoneTaken (queue_of_slot q.slot))) refl p (sym (ap (λ (x : Position). in_hand (step_at x answer q s).seat.position) (at-deq s.position i)) ∙ e))))
       go false i = elim (hand-local (step-leads true (λ _. ⊥) s.position answer q s may) i p e) [ inl old ↦ inl old | inr (inl own) ↦ inr (inl own) | inr (inr bands) ↦ inr (inr (inr bands)) ]
 
   pub slot-from : (p : Packet) → (step_at s.position answer q s).qdisc.slot ≡ Some p → (q.slot ≡ Some p) ⊎ (in_hand s.position ≡ Some p)

@@ -5,7 +5,7 @@ use Rattle.lq_model.specs.declared.machine.Position.{Position}
 use Rattle.lq_model.specs.declared.machine.Position.TheVariants.{Recheck, Deq, Scan, Control}
 use Rattle.lq_model.specs.declared.machine.Seat.{Seat}
 use Rattle.std.specs.Prelude.{is_none}
-use Rattle.lq_model.specs.Machine.{Qdisc, is_shared}
+use Rattle.lq_model.specs.Machine.{Qdisc, has_several_queues}
 use Rattle.lq_model.specs.Steps.{After}
 use Rattle.lq_model.specs.Positions.{holds_lock, hidden_packet, own_packet}
 use Rattle.lq_run_laws.proofs.Local as local
@@ -14,7 +14,7 @@ use Rattle.lq_run_laws.proofs.Local.{Local}
 -- where a seat stands that has just taken the lock
 pub data Takes (q : Qdisc) (before : Position) : Position → Type 0 where
   takes_direct : (p : Packet) → hidden_packet before ≡ None → own_packet before ≡ Some p → Takes q before (Recheck p)
-  takes_word : (is_shared q ≡ true → is_none q.slot ≡ false) → Takes q before Deq
+  takes_word : (has_several_queues q ≡ true → is_none q.slot ≡ false) → Takes q before Deq
   takes_bands : q.slot ≡ None → Takes q before (Scan 0 false)
   takes_control : hidden_packet before ≡ None → Takes q before (Control true)
 

@@ -10,7 +10,7 @@ use Rattle.lq_model.specs.declared.machine.Phase.TheVariants.{Purged}
 use Rattle.lq_model.specs.declared.machine.Position.{Position}
 use Rattle.lq_model.specs.declared.machine.Position.TheVariants.{BlockedLoad, BlockedDrain}
 use Rattle.lq_model.specs.declared.machine.Seat.{Seat}
-use Rattle.lq_model.specs.Machine.{Qdisc, Machine, seat_at, is_open, is_shared}
+use Rattle.lq_model.specs.Machine.{Qdisc, Machine, seat_at, is_queue_open, has_several_queues}
 use Rattle.lq_model.specs.Steps.{After, with_seat, queue_of_slot, queue_of_blocked}
 use Rattle.lq_model.specs.Control.{is_purged_phase, is_quiet}
 use Rattle.lq_model.specs.Positions.{holds_lock, may_be_inside, blocking_at, is_stopped, has_way_on, blocked}
@@ -25,29 +25,29 @@ use Rattle.lq_run_laws.proofs.Way.{keeps-rely, way-stays, blocking-same}
 -- the seat comes there by its second look at the stop word
 record Looked (before : Position) (q : Qdisc) (b : Blocked) (q' : Qdisc) : Type 0 where
   at : before ≡ BlockedLoad b
-  closed : is_open q (queue_of_blocked b) ≡ false
+  closed : is_queue_open q (queue_of_blocked b) ≡ false
   same : q' ≡ q
 
 own : {sole : Bool} {free : Packet → Type 0} {q : Qdisc} {s : Seat} {before : Position} {after : After} (b : Blocked) → Local sole free q s before after
     → after.seat.position ≡ BlockedDrain b → Looked before q b after.qdisc
 own {q = q} b (local.blocked_closed r closed) at =
-    let same : r ≡ b = cc in record { at = ap BlockedLoad same; closed = subst (λ d. is_open q (queue_of_blocked d) ≡ false) same closed; same = refl }
+    let same : r ≡ b = cc in record { at = ap BlockedLoad same; closed = subst (λ d. is_queue_open q (queue_of_blocked d) ≡ false) same closed; same = refl }
 own b _ at = absurd cc
 
 waits-none : is_some (let none : Option Packet = None in none) ≡ true → ⊥
 waits-none e = cc
 
 -- a stopped queue that the requeue slot waits for is the one in the way
-waits-stopped : (q : Qdisc) (slot : Option Packet) (shared : Bool) (queue : ℕ) → queue ≡ queue_of_slot slot → (shared ≡ true → is_some slot ≡ true) → is_open q queue ≡ false
+waits-stopped : (q : Qdisc) (slot : Option Packet) (shared : Bool) (queue : ℕ) → queue ≡ queue_of_slot slot → (shared ≡ true → is_some slot ≡ true) → is_queue_open q queue ≡ false
     → is_stopped q (if is_some slot then Some (queue_of_slot slot) else if shared then None else Some 0) ≡ true
-waits-stopped q (Some p) shared queue e waits closed = not_from_false _ (subst (λ k. is_open q k ≡ false) e closed)
+waits-stopped q (Some p) shared queue e waits closed = not_from_false _ (subst (λ k. is_queue_open q k ≡ false) e closed)
 waits-stopped q None true queue e waits closed = absurd (waits-none (waits refl))
-waits-stopped q None false queue e waits closed = not_from_false _ (subst (λ k. is_open q k ≡ false) e closed)
+waits-stopped q None false queue e waits closed = not_from_false _ (subst (λ k. is_queue_open q k ≡ false) e closed)
 
-blocked-stopped : (q : Qdisc) (b : Blocked) → is_open q (queue_of_blocked b) ≡ false
-    → ((queue : ℕ) → b ≡ NoneTaken queue → (queue ≡ queue_of_slot q.slot) × (is_shared q ≡ true → is_some q.slot ≡ true)) → is_stopped q (blocking_at b q) ≡ true
+blocked-stopped : (q : Qdisc) (b : Blocked) → is_queue_open q (queue_of_blocked b) ≡ false
+    → ((queue : ℕ) → b ≡ NoneTaken queue → (queue ≡ queue_of_slot q.slot) × (has_several_queues q ≡ true → is_some q.slot ≡ true)) → is_stopped q (blocking_at b q) ≡ true
 blocked-stopped q (InHand p direct) closed waits = not_from_false _ closed
-blocked-stopped q (NoneTaken queue) closed waits = waits-stopped q q.slot (is_shared q) queue (waits queue refl).0 (waits queue refl).1 closed
+blocked-stopped q (NoneTaken queue) closed waits = waits-stopped q q.slot (has_several_queues q) queue (waits queue refl).0 (waits queue refl).1 closed
 
 stopped-on : (missed deactivated sched stopped comes : Bool) → stopped ≡ true → (missed || (deactivated || sched || stopped || comes)) ≡ true
 stopped-on missed deactivated sched stopped comes e = grind arith

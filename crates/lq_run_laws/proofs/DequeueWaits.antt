@@ -6,7 +6,7 @@ use Rattle.lq_model.specs.declared.machine.Packet.{Packet}
 use Rattle.lq_model.specs.declared.machine.Position.{Position}
 use Rattle.lq_model.specs.declared.machine.Position.TheVariants.{Deq}
 use Rattle.lq_model.specs.declared.machine.Seat.{Seat}
-use Rattle.lq_model.specs.Machine.{Qdisc, Machine, is_shared, seat_at}
+use Rattle.lq_model.specs.Machine.{Qdisc, Machine, has_several_queues, seat_at}
 use Rattle.lq_model.specs.Steps.{After}
 use Rattle.lq_model.specs.Positions.{holds_lock}
 use Rattle.lq_model.specs.Kept.{IsInductive, DequeueWaits}
@@ -24,7 +24,7 @@ full None e = cc
 
 -- the moving seat's own
 mine : {sole : Bool} {free : Packet → Type 0} {q : Qdisc} {s : Seat} {before : Position} {after : After} → Local sole free q s before after
-    → after.seat.position ≡ Deq → is_shared after.qdisc ≡ true → is_some after.qdisc.slot ≡ true
+    → after.seat.position ≡ Deq → has_several_queues after.qdisc ≡ true → is_some after.qdisc.slot ≡ true
 mine (local.put_join_word p run waits) e shared = full _ (waits shared)
 mine (local.put_full_word p run waits) e shared = full _ (waits shared)
 mine (local.try1_queued_word p run free waits) e shared = full _ (waits shared)
@@ -37,12 +37,12 @@ mine (local.post_word run waits) e shared = full _ (waits shared)
 mine _ e shared = cc
 
 pub dequeue-waits : (m n : Machine) → IsInductive m → Moves m n → DequeueWaits n
-dequeue-waits m n h moves = subst DequeueWaits (sym t.is) (each-seat m t.i t.after (λ s. s.position ≡ Deq → is_shared t.after.qdisc ≡ true → is_some t.after.qdisc.slot ≡ true) t.inside (mine t.leads) others)
+dequeue-waits m n h moves = subst DequeueWaits (sym t.is) (each-seat m t.i t.after (λ s. s.position ≡ Deq → has_several_queues t.after.qdisc ≡ true → is_some t.after.qdisc.slot ≡ true) t.inside (mine t.leads) others)
   where
     t : Moved m n
     t = moved m n moves
 
-    others : (j : ℕ) → j ≢ t.i → (seat_at m j).position ≡ Deq → is_shared t.after.qdisc ≡ true → is_some t.after.qdisc.slot ≡ true
+    others : (j : ℕ) → j ≢ t.i → (seat_at m j).position ≡ Deq → has_several_queues t.after.qdisc ≡ true → is_some t.after.qdisc.slot ≡ true
     others j other e shared =
         let leaves = rely m t.i j h.kept.one_holder t.leads other (ap holds_lock e) in
         ap is_some leaves.slot ∙ h.dequeue_waits j e (ap (nat_lt 1) (sym leaves.queues) ∙ shared)

@@ -7,7 +7,7 @@ use Rattle.lq_model.specs.declared.machine.Packet.{Packet}
 use Rattle.lq_model.specs.declared.machine.Position.{Position}
 use Rattle.lq_model.specs.declared.machine.Position.TheVariants.{Xmit}
 use Rattle.lq_model.specs.declared.machine.Seat.{Seat}
-use Rattle.lq_model.specs.Machine.{Qdisc, Machine, seat_at, is_open}
+use Rattle.lq_model.specs.Machine.{Qdisc, Machine, seat_at, is_queue_open}
 use Rattle.lq_model.specs.Steps.{After}
 use Rattle.lq_model.specs.Positions.{holds_lock}
 use Rattle.lq_model.specs.Kept.{IsInductive, DeviceOpen}
@@ -31,24 +31,24 @@ stays-open words stored queue open_queue = elim (cases_eq queue stored) [
 
 -- a step beside the holder stops no queue
 beside-open : {sole : Bool} {free : Packet → Type 0} {q : Qdisc} {s : Seat} {before : Position} {after : After} (queue : ℕ) → Local sole free q s before after
-    → holds_lock before ≡ false → is_open q queue ≡ true → is_open after.qdisc queue ≡ true
+    → holds_lock before ≡ false → is_queue_open q queue ≡ true → is_queue_open after.qdisc queue ≡ true
 beside-open {q = q} queue (local.wake_opens stored) out open_queue = stays-open q.xoff stored queue open_queue
 beside-open queue _ out open_queue = cc
 
 -- the seat's own step
 own : {sole : Bool} {free : Packet → Type 0} {q : Qdisc} {s : Seat} {before : Position} {after : After} (p : Packet) (direct : Bool) → Local sole free q s before after
-    → after.seat.position ≡ Xmit p direct → is_open after.qdisc p.queue ≡ true
-own {q = q} p direct (local.gate_open r past open_queue) at = let same : r ≡ p = cc in subst (λ (d : Packet). is_open q d.queue ≡ true) same open_queue
+    → after.seat.position ≡ Xmit p direct → is_queue_open after.qdisc p.queue ≡ true
+own {q = q} p direct (local.gate_open r past open_queue) at = let same : r ≡ p = cc in subst (λ (d : Packet). is_queue_open q d.queue ≡ true) same open_queue
 own p direct _ at = cc
 
 pub device-open : (m n : Machine) → IsInductive m → Moves m n → DeviceOpen n
 device-open m n h moves = subst DeviceOpen (sym t.is)
-    (each-seat m t.i t.after (λ s. (p : Packet) (direct : Bool) → s.position ≡ Xmit p direct → is_open t.after.qdisc p.queue ≡ true) t.inside (λ p direct at. own p direct t.leads at) others)
+    (each-seat m t.i t.after (λ s. (p : Packet) (direct : Bool) → s.position ≡ Xmit p direct → is_queue_open t.after.qdisc p.queue ≡ true) t.inside (λ p direct at. own p direct t.leads at) others)
   where
     t : Moved m n
     t = moved m n moves
 
-    others : (j : ℕ) → j ≢ t.i → (p : Packet) (direct : Bool) → (seat_at m j).position ≡ Xmit p direct → is_open t.after.qdisc p.queue ≡ true
+    others : (j : ℕ) → j ≢ t.i → (p : Packet) (direct : Bool) → (seat_at m j).position ≡ Xmit p direct → is_queue_open t.after.qdisc p.queue ≡ true
     others j other p direct at =
         let holds : holds_lock (seat_at m j).position ≡ true = ap holds_lock at in
         let out : holds_lock (seat_at m t.i).position ≡ false = only-holder m j t.i h.kept.one_holder (holder-within m j holds) holds (λ e. other (sym e)) in

@@ -11,13 +11,13 @@ use Rattle.lq_model.specs.declared.machine.Phase.TheVariants.{Active, Closing}
 use Rattle.lq_model.specs.declared.machine.Position.{Position}
 use Rattle.lq_model.specs.declared.machine.Position.TheVariants.{Idle, Enter, Check, Put, Try1, Miss, Try2, Recheck, Gate, Xmit, StoreXoff, Post, Deq, Scan, Test, ClearMissed, ClearDraining, BlockedClear, BlockedLoad, BlockedMiss, BlockedDrain, Again, Quota, Unlock, Tail, Sched, Leave, Soft, SoftClear, Late, Wake, Control}
 use Rattle.lq_model.specs.declared.machine.Seat.{Seat}
-use Rattle.lq_model.specs.Machine.{Qdisc, Purge, is_open, is_shared, band_at}
+use Rattle.lq_model.specs.Machine.{Qdisc, Purge, is_queue_open, has_several_queues, band_at}
 use Rattle.lq_model.specs.Steps.{After, goes_to, one_more, joined_band, accepted, counted, queue_of_slot, queue_of_blocked}
 use Rattle.lq_model.specs.Control.{is_quiet, is_purged_phase, found_inside, after_purge, queue_opened}
 
 -- where a run or a dequeue begins
 pub data Dequeues (q : Qdisc) : Position → Type 0 where
-  at_stop_word : (is_shared q ≡ true → is_none q.slot ≡ false) → Dequeues q Deq
+  at_stop_word : (has_several_queues q ≡ true → is_none q.slot ≡ false) → Dequeues q Deq
   at_bands : q.slot ≡ None → Dequeues q (Scan 0 false)
 
 -- where a seat goes on after a packet was sent
@@ -39,15 +39,15 @@ pub data Local (sole : Bool) (free : Packet → Type 0) (q : Qdisc) (s : Seat) :
   check_put : (p : Packet) → q.deactivated ≡ false → Local sole free q s (Check p) (goes_to q s (Put p false))
   put_join : (p : Packet) → Local sole free q s (Put p false) (goes_to (joined_band p q) s (Try1 (Queued p)))
   put_full : (p : Packet) → Local sole free q s (Put p false) (goes_to (record q { full = one_more q.full }) s (Try1 (Queued p)))
-  put_join_word : (p : Packet) (run : ℕ) → (is_shared q ≡ true → is_none q.slot ≡ false) → Local sole free q s (Put p true) (record { qdisc = (joined_band p q); seat = record s { position = Deq; run = run } })
+  put_join_word : (p : Packet) (run : ℕ) → (has_several_queues q ≡ true → is_none q.slot ≡ false) → Local sole free q s (Put p true) (record { qdisc = (joined_band p q); seat = record s { position = Deq; run = run } })
   put_join_bands : (p : Packet) (run : ℕ) → q.slot ≡ None → Local sole free q s (Put p true) (record { qdisc = (joined_band p q); seat = record s { position = (Scan 0 false); run = run } })
-  put_full_word : (p : Packet) (run : ℕ) → (is_shared q ≡ true → is_none q.slot ≡ false) → Local sole free q s (Put p true) (record { qdisc = (record q { full = one_more q.full }); seat = record s { position = Deq; run = run } })
+  put_full_word : (p : Packet) (run : ℕ) → (has_several_queues q ≡ true → is_none q.slot ≡ false) → Local sole free q s (Put p true) (record { qdisc = (record q { full = one_more q.full }); seat = record s { position = Deq; run = run } })
   put_full_bands : (p : Packet) (run : ℕ) → q.slot ≡ None → Local sole free q s (Put p true) (record { qdisc = (record q { full = one_more q.full }); seat = record s { position = (Scan 0 false); run = run } })
   try1_held : (attempt : Attempt) → q.locked ≡ true → Local sole free q s (Try1 attempt) (goes_to q s (Miss attempt))
   try1_direct : (p : Packet) → q.locked ≡ false → Local sole free q s (Try1 (Direct p)) (goes_to (record q { locked = true }) s (Recheck p))
-  try1_queued_word : (p : Packet) (run : ℕ) → q.locked ≡ false → (is_shared q ≡ true → is_none q.slot ≡ false) → Local sole free q s (Try1 (Queued p)) (record { qdisc = record q { locked = true }; seat = record s { position = Deq; run = run } })
+  try1_queued_word : (p : Packet) (run : ℕ) → q.locked ≡ false → (has_several_queues q ≡ true → is_none q.slot ≡ false) → Local sole free q s (Try1 (Queued p)) (record { qdisc = record q { locked = true }; seat = record s { position = Deq; run = run } })
   try1_queued_bands : (p : Packet) (run : ℕ) → q.locked ≡ false → q.slot ≡ None → Local sole free q s (Try1 (Queued p)) (record { qdisc = record q { locked = true }; seat = record s { position = (Scan 0 false); run = run } })
-  try1_interrupt_word : (run : ℕ) → q.locked ≡ false → (is_shared q ≡ true → is_none q.slot ≡ false) → Local sole free q s (Try1 Interrupt) (record { qdisc = record q { locked = true }; seat = record s { position = Deq; run = run } })
+  try1_interrupt_word : (run : ℕ) → q.locked ≡ false → (has_several_queues q ≡ true → is_none q.slot ≡ false) → Local sole free q s (Try1 Interrupt) (record { qdisc = record q { locked = true }; seat = record s { position = Deq; run = run } })
   try1_interrupt_bands : (run : ℕ) → q.locked ≡ false → q.slot ≡ None → Local sole free q s (Try1 Interrupt) (record { qdisc = record q { locked = true }; seat = record s { position = (Scan 0 false); run = run } })
   miss_set_direct : (p : Packet) → q.missed ≡ true → Local sole free q s (Miss (Direct p)) (goes_to q s (Put p false))
   miss_set_queued : (p : Packet) → q.missed ≡ true → Local sole free q s (Miss (Queued p)) (goes_to q s Leave)
@@ -57,17 +57,17 @@ pub data Local (sole : Bool) (free : Packet → Type 0) (q : Qdisc) (s : Seat) :
   try2_held_queued : (p : Packet) → q.locked ≡ true → Local sole free q s (Try2 (Queued p)) (goes_to q s Leave)
   try2_held_interrupt : q.locked ≡ true → Local sole free q s (Try2 Interrupt) (goes_to q s Leave)
   try2_direct : (p : Packet) → q.locked ≡ false → Local sole free q s (Try2 (Direct p)) (goes_to (record q { locked = true }) s (Recheck p))
-  try2_queued_word : (p : Packet) (run : ℕ) → q.locked ≡ false → (is_shared q ≡ true → is_none q.slot ≡ false) → Local sole free q s (Try2 (Queued p)) (record { qdisc = record q { locked = true }; seat = record s { position = Deq; run = run } })
+  try2_queued_word : (p : Packet) (run : ℕ) → q.locked ≡ false → (has_several_queues q ≡ true → is_none q.slot ≡ false) → Local sole free q s (Try2 (Queued p)) (record { qdisc = record q { locked = true }; seat = record s { position = Deq; run = run } })
   try2_queued_bands : (p : Packet) (run : ℕ) → q.locked ≡ false → q.slot ≡ None → Local sole free q s (Try2 (Queued p)) (record { qdisc = record q { locked = true }; seat = record s { position = (Scan 0 false); run = run } })
-  try2_interrupt_word : (run : ℕ) → q.locked ≡ false → (is_shared q ≡ true → is_none q.slot ≡ false) → Local sole free q s (Try2 Interrupt) (record { qdisc = record q { locked = true }; seat = record s { position = Deq; run = run } })
+  try2_interrupt_word : (run : ℕ) → q.locked ≡ false → (has_several_queues q ≡ true → is_none q.slot ≡ false) → Local sole free q s (Try2 Interrupt) (record { qdisc = record q { locked = true }; seat = record s { position = Deq; run = run } })
   try2_interrupt_bands : (run : ℕ) → q.locked ≡ false → q.slot ≡ None → Local sole free q s (Try2 Interrupt) (record { qdisc = record q { locked = true }; seat = record s { position = (Scan 0 false); run = run } })
   recheck_non_empty : (p : Packet) → Local sole free q s (Recheck p) (goes_to q s (Put p true))
   recheck_clear : (p : Packet) → q.missed ≡ false → q.draining ≡ false → Local sole free q s (Recheck p) (goes_to q s (Gate p true))
-  gate_open : (p : Packet) (direct : Bool) → is_open q p.queue ≡ true → Local sole free q s (Gate p direct) (goes_to q s (Xmit p direct))
+  gate_open : (p : Packet) (direct : Bool) → is_queue_open q p.queue ≡ true → Local sole free q s (Gate p direct) (goes_to q s (Xmit p direct))
   gate_closed : (p : Packet) (direct : Bool) → Local sole free q s (Gate p direct) (goes_to q s (BlockedClear (InHand p direct)))
   xmit_sent_direct : (p : Packet) → Local sole free q s (Xmit p true) (goes_to (accepted q) (counted s) Post)
   xmit_sent_quota : (p : Packet) → Local sole free q s (Xmit p false) (goes_to (accepted q) (counted s) Quota)
-  xmit_sent_word : (p : Packet) → (is_shared q ≡ true → is_none q.slot ≡ false) → Local sole free q s (Xmit p false) (goes_to (accepted q) (counted s) Deq)
+  xmit_sent_word : (p : Packet) → (has_several_queues q ≡ true → is_none q.slot ≡ false) → Local sole free q s (Xmit p false) (goes_to (accepted q) (counted s) Deq)
   xmit_sent_bands : (p : Packet) → q.slot ≡ None → Local sole free q s (Xmit p false) (goes_to (accepted q) (counted s) (Scan 0 false))
   xmit_stops : (p : Packet) (direct : Bool) (queue : ℕ) (hung : Bool)
       → Local sole free q s (Xmit p direct) (goes_to (accepted q) (counted s) (StoreXoff queue hung direct))
@@ -76,9 +76,9 @@ pub data Local (sole : Bool) (free : Packet → Type 0) (q : Qdisc) (s : Seat) :
       → Local sole free q s (StoreXoff queue hung direct) (goes_to (record q { xoff = slice_set q.xoff queue v }) s (StoreXoff (queue + 1) hung direct))
   stop_last_direct : (queue : ℕ) (hung : Bool) (v : ℕ) → Local sole free q s (StoreXoff queue hung true) (goes_to (record q { xoff = slice_set q.xoff queue v }) s Post)
   stop_last_quota : (queue : ℕ) (hung : Bool) (v : ℕ) → Local sole free q s (StoreXoff queue hung false) (goes_to (record q { xoff = slice_set q.xoff queue v }) s Quota)
-  stop_last_word : (queue : ℕ) (hung : Bool) (v : ℕ) → (is_shared q ≡ true → is_none q.slot ≡ false) → Local sole free q s (StoreXoff queue hung false) (goes_to (record q { xoff = slice_set q.xoff queue v }) s Deq)
+  stop_last_word : (queue : ℕ) (hung : Bool) (v : ℕ) → (has_several_queues q ≡ true → is_none q.slot ≡ false) → Local sole free q s (StoreXoff queue hung false) (goes_to (record q { xoff = slice_set q.xoff queue v }) s Deq)
   stop_last_bands : (queue : ℕ) (hung : Bool) (v : ℕ) → q.slot ≡ None → Local sole free q s (StoreXoff queue hung false) (goes_to (record q { xoff = slice_set q.xoff queue v }) s (Scan 0 false))
-  post_word : (run : ℕ) → (is_shared q ≡ true → is_none q.slot ≡ false) → Local sole free q s Post (record { qdisc = q; seat = record s { position = Deq; run = run } })
+  post_word : (run : ℕ) → (has_several_queues q ≡ true → is_none q.slot ≡ false) → Local sole free q s Post (record { qdisc = q; seat = record s { position = Deq; run = run } })
   post_bands : (run : ℕ) → q.slot ≡ None → Local sole free q s Post (record { qdisc = q; seat = record s { position = (Scan 0 false); run = run } })
   post_clear : q.missed ≡ false → q.draining ≡ false → Local sole free q s Post (goes_to q s Unlock)
   deq_slot : (p : Packet) → Local sole free q s Deq (goes_to (record q { slot = None }) s (Gate p false))
@@ -95,7 +95,7 @@ pub data Local (sole : Bool) (free : Packet → Type 0) (q : Qdisc) (s : Seat) :
   clear_draining : Local sole free q s ClearDraining (goes_to (record q { draining = false }) s (Scan 0 true))
   blocked_clear : (b : Blocked) → Local sole free q s (BlockedClear b) (goes_to (record q { missed = false }) s (BlockedLoad b))
   blocked_open : (b : Blocked) → Local sole free q s (BlockedLoad b) (goes_to q s (BlockedMiss b))
-  blocked_closed : (b : Blocked) → is_open q (queue_of_blocked b) ≡ false → Local sole free q s (BlockedLoad b) (goes_to q s (BlockedDrain b))
+  blocked_closed : (b : Blocked) → is_queue_open q (queue_of_blocked b) ≡ false → Local sole free q s (BlockedLoad b) (goes_to q s (BlockedDrain b))
   miss_back : (p : Packet) (direct : Bool)
       → Local sole free q s (BlockedMiss (InHand p direct)) (goes_to (record q { missed = true; slot = Some p }) s Again)
   miss_none : (queue : ℕ) → Local sole free q s (BlockedMiss (NoneTaken queue)) (goes_to (record q { missed = true }) s Unlock)

@@ -20,7 +20,7 @@ use Rattle.lq_model.specs.declared.state.TheConstants.{QUOTA}
 use Rattle.lq_model.specs.Control.{control_at, may_control, is_control, holds_as_control, is_sole, purge_band, purge_missed, purge_draining, looks_at_bands, is_after_bands, band_purged}
 use Rattle.lq_model.specs.Quiet.{IsFree, Moves}
 use Rattle.lq_model.specs.Quiet.Moves.{steps, begins, controls}
-use Rattle.lq_model.specs.Machine.{Purge, Qdisc, Machine, seat_at, is_non_empty, is_open, is_shared, band_at}
+use Rattle.lq_model.specs.Machine.{Purge, Qdisc, Machine, seat_at, is_non_empty, is_queue_open, has_several_queues, band_at}
 use Rattle.lq_model.specs.Steps.{is_idle, may_begin, begun, with_seat, After, goes_to, step_at, may_answer, check, dequeue_begins, after_sent, call_ends, gives_up, queue_of_slot, queue_of_blocked, accepted, slot_taken, scan, counted}
 use Rattle.lq_run_laws.proofs.Local as local
 use Rattle.lq_run_laws.proofs.Local.{Local, Dequeues, Sends, Puts}
@@ -44,9 +44,9 @@ none-is None e = refl
 
 pub dequeues : (q : Qdisc) → Dequeues q (dequeue_begins q)
 dequeues q =
-    if-cases (Dequeues q) (is_shared q && is_none q.slot) _ _
+    if-cases (Dequeues q) (has_several_queues q && is_none q.slot) _ _
     (λ e. local.at_bands (none-is q.slot (and-true _ _ e).1))
-    (λ e. local.at_stop_word (λ shared. first-true (is_shared q) (is_none q.slot) shared e))
+    (λ e. local.at_stop_word (λ shared. first-true (has_several_queues q) (is_none q.slot) shared e))
   where
     first-true : (a b : Bool) → a ≡ true → (a && b) ≡ false → b ≡ false
     first-true true b _ e = e
@@ -226,7 +226,7 @@ step-leads sole free (Try2 attempt) answer q s _ = try2-leads sole free attempt 
 step-leads sole free (Recheck p) answer q s _ =
     non-empty-leads (λ d. Leads sole free (Recheck p) q s (goes_to q s d)) q _ _ (local.recheck_non_empty p) (λ m d. local.recheck_clear p m d)
 step-leads sole free (Gate p direct) answer q s _ =
-    if-cases (λ d. Leads sole free (Gate p direct) q s (goes_to q s d)) (is_open q p.queue) _ _ (λ e. local.gate_open p direct e) (λ _. local.gate_closed p direct)
+    if-cases (λ d. Leads sole free (Gate p direct) q s (goes_to q s d)) (is_queue_open q p.queue) _ _ (λ e. local.gate_open p direct e) (λ _. local.gate_closed p direct)
 step-leads sole free (Xmit p direct) answer q s e = xmit-leads sole free p direct answer q s e
 step-leads sole free (StoreXoff queue hung direct) answer q s _ =
     if-cases (λ d. Leads sole free (StoreXoff queue hung direct) q s (goes_to (record q { xoff = slice_set q.xoff queue (if hung then 2 else 1) }) s d))
@@ -234,7 +234,7 @@ step-leads sole free (StoreXoff queue hung direct) answer q s _ =
 step-leads sole free Post answer q s _ =
     non-empty-leads (Leads sole free Post q s) q _ _ (post-goes-on sole free q s _ (dequeues q)) (λ m d. local.post_clear m d)
 step-leads sole free Deq answer q s _ =
-    if-cases (Leads sole free Deq q s) (is_open q (queue_of_slot q.slot)) _ _ (λ _. slot-leads sole free q.slot q s refl) (λ _. local.deq_closed)
+    if-cases (Leads sole free Deq q s) (is_queue_open q (queue_of_slot q.slot)) _ _ (λ _. slot-leads sole free q.slot q s refl) (λ _. local.deq_closed)
 step-leads sole free (Scan band second) answer q s _ = scan-leads sole free (band_at q band) band second q s refl
 step-leads sole free Test answer q s _ =
     non-empty-leads (λ d. Leads sole free Test q s (goes_to q s d)) q _ _ local.test_non_empty (λ m d. local.test_clear m d)
@@ -242,7 +242,7 @@ step-leads sole free ClearMissed answer q s _ = local.clear_missed
 step-leads sole free ClearDraining answer q s _ = local.clear_draining
 step-leads sole free (BlockedClear b) answer q s _ = local.blocked_clear b
 step-leads sole free (BlockedLoad b) answer q s _ =
-    if-cases (λ d. Leads sole free (BlockedLoad b) q s (goes_to q s d)) (is_open q (queue_of_blocked b)) _ _ (λ _. local.blocked_open b) (λ e. local.blocked_closed b e)
+    if-cases (λ d. Leads sole free (BlockedLoad b) q s (goes_to q s d)) (is_queue_open q (queue_of_blocked b)) _ _ (λ _. local.blocked_open b) (λ e. local.blocked_closed b e)
 step-leads sole free (BlockedMiss (InHand p direct)) answer q s _ = local.miss_back p direct
 step-leads sole free (BlockedMiss (NoneTaken queue)) answer q s _ = local.miss_none queue
 step-leads sole free (BlockedDrain (InHand p direct)) answer q s _ = local.drain_back p direct

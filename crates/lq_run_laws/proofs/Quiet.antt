@@ -5,7 +5,7 @@ use Rattle.lq_model.specs.declared.machine.Packet.{Packet}
 use Rattle.lq_model.specs.declared.machine.Position.{Position}
 use Rattle.lq_model.specs.declared.machine.Position.TheVariants.{Idle}
 use Rattle.lq_model.specs.declared.machine.Seat.{Seat}
-use Rattle.lq_model.specs.Machine.{Qdisc, Machine, idle_seat, seat_at, is_open}
+use Rattle.lq_model.specs.Machine.{Qdisc, Machine, idle_seat, seat_at, is_queue_open}
 use Rattle.lq_model.specs.Steps.{is_idle}
 use Rattle.lq_model.specs.Positions.{IsClear, Holds, hidden_packet, is_going, is_on_way, some_seat, has_way_on, is_stopped, blocking}
 use Rattle.lq_model.specs.Kept.{IsKept}
@@ -24,7 +24,7 @@ none-at : (test : Position → Bool) (m : Machine) → test Idle ≡ false → I
 none-at test m e quiet =
     none-anywhere (λ s. test s.position) m.seats (λ i. ap test (idle-is (seat_at m i).position (quiet.all_idle i)) ∙ e)
 
-open-means : (q : Qdisc) (queue : Option ℕ) → ((n : ℕ) → is_open q n ≡ true) → is_stopped q queue ≡ false
+open-means : (q : Qdisc) (queue : Option ℕ) → ((n : ℕ) → is_queue_open q n ≡ true) → is_stopped q queue ≡ false
 open-means q (Some n) h = let e = h n in grind arith
 open-means q None h = refl
 

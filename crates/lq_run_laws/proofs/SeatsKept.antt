@@ -7,7 +7,7 @@ use Rattle.lq_model.specs.declared.machine.Blocked.TheVariants.{NoneTaken}
 use Rattle.lq_model.specs.declared.machine.Position.{Position}
 use Rattle.lq_model.specs.declared.machine.Position.TheVariants.{Idle, Xmit, Deq, BlockedDrain, Control}
 use Rattle.lq_model.specs.declared.machine.Seat.{Seat}
-use Rattle.lq_model.specs.Machine.{Qdisc, Machine, Purge, idle_seat, is_open, is_shared}
+use Rattle.lq_model.specs.Machine.{Qdisc, Machine, Purge, idle_seat, is_queue_open, has_several_queues}
 use Rattle.lq_model.specs.Steps.{queue_of_slot}
 use Rattle.lq_model.specs.Control.{holds_as_control, is_quiet}
 use Rattle.lq_model.specs.Positions.{IsHidden, IsStuck, BitsClear, ClearBelow, IsClear, hidden_packet, blocked, blocking, blocking_at, is_stopped, has_way_on, is_on_way, is_going, is_ending, is_second_scan, looked_below, needs_slot, may_be_inside, own_packet, direct_packet, Holds}
@@ -85,7 +85,7 @@ kept-up q {old = old} {now = now} more h = record {
   looked_clear = lift more (λ (p : Position). (band : ℕ) → looked_below q.purge p ≡ Some band → BitsClear q → ClearBelow (over q now) band) (λ band e. absurd cc) (λ k band e bits. clear-up q more band (h.looked_clear k band e bits));
   second_scan = lift more (λ (p : Position). is_second_scan p ≡ true → q.draining ≡ false) (λ e. absurd cc) h.second_scan;
   slot_free = lift more (λ (p : Position). needs_slot p ≡ true → q.slot ≡ None) (λ e. absurd cc) h.slot_free;
-  slot_waits = lift more (λ (p : Position). (queue : ℕ) → blocked p ≡ Some (NoneTaken queue) → (queue ≡ queue_of_slot q.slot) × (is_shared q ≡ true → is_some q.slot ≡ true)) (λ queue e. absurd cc) h.slot_waits;
+  slot_waits = lift more (λ (p : Position). (queue : ℕ) → blocked p ≡ Some (NoneTaken queue) → (queue ≡ queue_of_slot q.slot) × (has_several_queues q ≡ true → is_some q.slot ≡ true)) (λ queue e. absurd cc) h.slot_waits;
   one_holder = more.sum _ (λ run. refl) ∙ h.one_holder;
   calls_inside = more.sum _ (λ run. refl) ∙ h.calls_inside;
   one_scheduled = more.sum _ (λ run. refl) ∙ h.one_scheduled;
@@ -103,8 +103,8 @@ joins q {old = old} {now = now} more safe h = record {
   kept = kept-up q more h.kept;
   deactivation = h.deactivation;
   purging = λ u e. purging-up q safe u e (h.purging u e);
-  device_open = lift more (λ (s : Position). (p : Packet) (direct : Bool) → s ≡ Xmit p direct → is_open q p.queue ≡ true) (λ p direct e. absurd cc) h.device_open;
-  dequeue_waits = lift more (λ (p : Position). p ≡ Deq → is_shared q ≡ true → is_some q.slot ≡ true) (λ e. absurd cc) h.dequeue_waits;
+  device_open = lift more (λ (s : Position). (p : Packet) (direct : Bool) → s ≡ Xmit p direct → is_queue_open q p.queue ≡ true) (λ p direct e. absurd cc) h.device_open;
+  dequeue_waits = lift more (λ (p : Position). p ≡ Deq → has_several_queues q ≡ true → is_some q.slot ≡ true) (λ e. absurd cc) h.dequeue_waits;
   owners_differ = owners-up q more h.owners_differ;
   direct_alone = lift more (λ (s : Position). (p r : Packet) → direct_packet s ≡ Some p → Holds (over q old) r → r.owner ≢ p.owner) (λ p r e. absurd cc) h.direct_alone;
 }
@@ -135,7 +135,7 @@ kept-down q {old = old} {now = now} more h = record {
   looked_clear = lower more (λ (p : Position). (band : ℕ) → looked_below q.purge p ≡ Some band → BitsClear q → ClearBelow (over q old) band) (λ i band e bits. clear-down q more band (h.looked_clear i band e bits));
   second_scan = lower more (λ (p : Position). is_second_scan p ≡ true → q.draining ≡ false) h.second_scan;
   slot_free = lower more (λ (p : Position). needs_slot p ≡ true → q.slot ≡ None) h.slot_free;
-  slot_waits = lower more (λ (p : Position). (queue : ℕ) → blocked p ≡ Some (NoneTaken queue) → (queue ≡ queue_of_slot q.slot) × (is_shared q ≡ true → is_some q.slot ≡ true)) h.slot_waits;
+  slot_waits = lower more (λ (p : Position). (queue : ℕ) → blocked p ≡ Some (NoneTaken queue) → (queue ≡ queue_of_slot q.slot) × (has_several_queues q ≡ true → is_some q.slot ≡ true)) h.slot_waits;
   one_holder = sym (more.sum _ (λ run. refl)) ∙ h.one_holder;
   calls_inside = sym (more.sum _ (λ run. refl)) ∙ h.calls_inside;
   one_scheduled = sym (more.sum _ (λ run. refl)) ∙ h.one_scheduled;
@@ -157,8 +157,8 @@ leaves q {old = old} {now = now} more h = record {
   kept = kept-down q more h.kept;
   deactivation = h.deactivation;
   purging = λ u e. purging-down q more u (h.purging u e);
-  device_open = lower more (λ (s : Position). (p : Packet) (direct : Bool) → s ≡ Xmit p direct → is_open q p.queue ≡ true) h.device_open;
-  dequeue_waits = lower more (λ (p : Position). p ≡ Deq → is_shared q ≡ true → is_some q.slot ≡ true) h.dequeue_waits;
+  device_open = lower more (λ (s : Position). (p : Packet) (direct : Bool) → s ≡ Xmit p direct → is_queue_open q p.queue ≡ true) h.device_open;
+  dequeue_waits = lower more (λ (p : Position). p ≡ Deq → has_several_queues q ≡ true → is_some q.slot ≡ true) h.dequeue_waits;
   owners_differ = owners-down q more h.owners_differ;
   direct_alone = lower more (λ (s : Position). (p r : Packet) → direct_packet s ≡ Some p → Holds (over q old) r → r.owner ≢ p.owner) h.direct_alone;
 }

@@ -7,7 +7,7 @@ use Rattle.lq_model.specs.declared.machine.Blocked.TheVariants.{NoneTaken}
 use Rattle.lq_model.specs.declared.machine.Position.{Position}
 use Rattle.lq_model.specs.declared.machine.Position.TheVariants.{Deq, BlockedClear}
 use Rattle.lq_model.specs.declared.machine.Seat.{Seat}
-use Rattle.lq_model.specs.Machine.{Qdisc, Machine, is_shared, seat_at}
+use Rattle.lq_model.specs.Machine.{Qdisc, Machine, has_several_queues, seat_at}
 use Rattle.lq_model.specs.Steps.{After, queue_of_slot}
 use Rattle.lq_model.specs.Positions.{holds_lock, blocked}
 use Rattle.lq_model.specs.Kept.{IsInductive, SlotWaits}
@@ -20,7 +20,7 @@ use Rattle.lq_run_laws.proofs.Rely.{rely}
 
 -- the queue is that of the slot, which with several queues is full
 abbrev pub Waits : Qdisc → ℕ → Type 0
-Waits q queue = (queue ≡ queue_of_slot q.slot) × (is_shared q ≡ true → is_some q.slot ≡ true)
+Waits q queue = (queue ≡ queue_of_slot q.slot) × (has_several_queues q ≡ true → is_some q.slot ≡ true)
 
 -- only a holder finds a queue stopped
 pub blocked-holds : (p : Position) (b : Blocked) → blocked p ≡ Some b → holds_lock p ≡ true
@@ -30,7 +30,7 @@ blocked-holds _ c e = cc
 -- the moving seat's own
 mine : {sole : Bool} {free : Packet → Type 0} {q : Qdisc} {s : Seat} {before : Position} {after : After} → Local sole free q s before after
     → ((queue : ℕ) → blocked before ≡ Some (NoneTaken queue) → Waits q queue)
-    → (before ≡ Deq → is_shared q ≡ true → is_some q.slot ≡ true)
+    → (before ≡ Deq → has_several_queues q ≡ true → is_some q.slot ≡ true)
     → (queue : ℕ) → blocked after.seat.position ≡ Some (NoneTaken queue) → Waits after.qdisc queue
 mine local.deq_closed waits full queue e = (cc, full refl)
 mine (local.blocked_clear b) waits full queue e = waits queue e

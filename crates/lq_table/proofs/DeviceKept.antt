@@ -19,7 +19,7 @@ use Rattle.lq_model.specs.declared.device.Tx.TheVariants.{Sent, SentStop, SentHa
 use Rattle.lq_model.specs.declared.fate.Info.{Info}
 use Rattle.lq_model.specs.declared.machine.Position.{Position}
 use Rattle.lq_model.specs.declared.machine.Position.TheVariants.{Xmit}
-use Rattle.lq_model.specs.Machine.{is_open}
+use Rattle.lq_model.specs.Machine.{is_queue_open}
 use Rattle.lq_model.specs.Positions.{holds_lock}
 use Rattle.lq_model.specs.Plan.{queue_in}
 use Rattle.lq_table.specs.Views.{View, Setup, HolderPart, machine_packet}
@@ -113,7 +113,7 @@ pub alive_at_xmit : (k : Setup) (s : table.State (Option StationState) View) (r 
 alive_at_xmit k s r id v here live n direct position in_hand =
     let p = r.parts in let q = r.qdisc in let g = r.state in let a = account k g in let W = words_of k s.words in let D : HolderPart = holders g a W.size in
     let at : Holder k.infos W.xoff g.past D (Xmit (machine_packet k.infos n) direct) v.holder = subst (λ (z : Position). Holder k.infos W.xoff g.past D z v.holder) position (p.station.lends.knows id v here live (ap holds_lock position)) in
-    let open_ : is_open q (queue_in k.infos n) ≡ true = device_open k.infos s.views id v here live q a (bands_now g.left a.bands) p.machine.invariant p.station.ties (machine_packet k.infos n) direct position in
+    let open_ : is_queue_open q (queue_in k.infos n) ≡ true = device_open k.infos s.views id v here live q a (bands_now g.left a.bands) p.machine.invariant p.station.ties (machine_packet k.infos n) direct position in
     let known = p.account.accounted.brought.packets n (p.account.accounted.brought.hand n in_hand) in let below = r.setup.queues_are n known.0 known.1 in let long = xoff_long k s.words r.wide in
     ap (λ (z : HolderPart). z.station.device.hung) at.is ∙ by_cases g.station.device.hung (λ hangs.
     let two : slice_index W.xoff (queue_in k.infos n) ≡ 2 = at.alive refl hangs (queue_in k.infos n) (omega arith) in

@@ -15,7 +15,7 @@ use Rattle.lq_model.specs.declared.machine.Position.{Position}
 use Rattle.lq_model.specs.declared.machine.Position.TheVariants.{BlockedClear, Deq, Gate, Post, Quota, Scan, StoreXoff}
 use Rattle.lq_model.specs.declared.machine.Seat.{Seat}
 use Rattle.lq_model.specs.declared.state.TheConstants.{QUOTA}
-use Rattle.lq_model.specs.Machine.{Qdisc, is_open}
+use Rattle.lq_model.specs.Machine.{Qdisc, is_queue_open}
 use Rattle.lq_model.specs.Plan.{queue_in}
 use Rattle.lq_model.specs.Positions.{holds_lock}
 use Rattle.lq_model.specs.Steps.{After, deq, dequeue_begins, goes_to, queue_of_slot, slot_taken, step_at}
@@ -33,8 +33,8 @@ use Rattle.lq_table_laws.specs.Stepped.{Leads}
 use Rattle.lq_table_laws.proofs.Calls.{Beside, alike_holder, by_fits}
 use Rattle.lq_table_laws.proofs.Devices.{loaded, loads_only, slot_is, store_move}
 
-no_slot : (q : Qdisc) (s : Seat) → q.slot ≡ None → deq q s ≡ goes_to q s (if is_open q 0 then Scan 0 false else BlockedClear (NoneTaken 0))
-no_slot q s e = (λ j. if is_open q (queue_of_slot (e j)) then slot_taken (e j) q s else goes_to q s (BlockedClear (NoneTaken (queue_of_slot (e j))))) ∙ pull (is_open q 0)
+no_slot : (q : Qdisc) (s : Seat) → q.slot ≡ None → deq q s ≡ goes_to q s (if is_queue_open q 0 then Scan 0 false else BlockedClear (NoneTaken 0))
+no_slot q s e = (λ j. if is_queue_open q (queue_of_slot (e j)) then slot_taken (e j) q s else goes_to q s (BlockedClear (NoneTaken (queue_of_slot (e j))))) ∙ pull (is_queue_open q 0)
   where
     pull : (b : Bool) → (if b then goes_to q s (Scan 0 false) else goes_to q s (BlockedClear (NoneTaken 0))) ≡ goes_to q s (if b then Scan 0 false else BlockedClear (NoneTaken 0))
     pull true = refl
@@ -76,14 +76,14 @@ module _ (k : Setup) (s : Table) (r : Rule k s) (x id : ℕ) (v w : View) (homes
       let told : load_xoff_view n v ≡ load_xoff_view_from Deq (Some m) n v = λ j. load_xoff_view_from (at j) (full j) n v in
       let back = ap (λ (z : ℕ). words_of k (set s.words i z)) word ∙ set_back k s.words i in
       dite (ℕ_discrete n 0)
-      (λ zero_. let open_ : is_open q p.queue ≡ true = ap (λ (z : ℕ). eqb z 0) (found ∙ zero_) in let q' : Qdisc = record q { slot = None } in let is' = is ∙ (told ∙ ap (λ (z : ℕ). load_xoff_view_from Deq (Some m) z v) zero_) in
+      (λ zero_. let open_ : is_queue_open q p.queue ≡ true = ap (λ (z : ℕ). eqb z 0) (found ∙ zero_) in let q' : Qdisc = record q { slot = None } in let is' = is ∙ (told ∙ ap (λ (z : ℕ). load_xoff_view_from Deq (Some m) z v) zero_) in
       let live' : is_live w ≡ true = ap is_live is' ∙ live in let t = r.parts.station.stands in
       by_fits k s r i x id v w homes r' here live live' q Plain q' (subst (λ (z : Position). Fits q q Plain z v.place q') (sym at) record { may = refl; seat = refl; words = ap (λ (a : After). a.qdisc) (gates v.place p q has open_) })
       (ap (λ (u : View). u.place) is' ∙ sym (ap (λ (z : Position). (step_at z Plain q v.place).seat) at ∙ ap (λ (a : After). a.seat) (gates v.place p q has open_)))
       (alike_holder k s r i x id v w homes r' here live live' q' W (account k r.state).down back (record { slots = refl; size = refl }) (record { state = t.state; lock = t.lock; xoff = t.xoff; inside = t.inside; bypass = t.bypass }) holds (ap (λ (u : View). holds_lock u.place.position) is')
       (ap (λ (u : View). u.holder.ends) is') (ap (λ (u : View). u.holder.resizing) is') (ap (λ (u : View). option_map (machine_packet k.infos) u.holder.slot) is')
       (ap (λ (u : View). u.control.first) is') (ap (λ (u : View). u.control.phase) is') (ap (λ (u : View). u.control.purge) is') refl))
-      (λ other. let shut : is_open q p.queue ≡ false = ap (λ (z : ℕ). eqb z 0) found ∙ ne_eqb n 0 other in let to : View = record v { place = record v.place { position = BlockedClear (NoneTaken p.queue) } } in
+      (λ other. let shut : is_queue_open q p.queue ≡ false = ap (λ (z : ℕ). eqb z 0) found ∙ ne_eqb n 0 other in let to : View = record v { place = record v.place { position = BlockedClear (NoneTaken p.queue) } } in
       let leads : load_xoff_view_from Deq (Some m) n v ≡ to = ap (λ (b : Bool). if b then picking (Some m) (record v { place = record v.place { position = if b then Gate p false else BlockedClear (NoneTaken p.queue) } }) else record v { place = record v.place { position = if b then Gate p false else BlockedClear (NoneTaken p.queue) } }) (ne_eqb n 0 other) in
       let is' = is ∙ (told ∙ leads) in
       loads_only k s r x id v w homes here live same (queue_in k.infos m) r' word (ap is_live is' ∙ live) (subst (λ (z : Position). Fits q q Plain z v.place q) (sym at) record { may = refl; seat = refl; words = ap (λ (a : After). a.qdisc) (stays_out v.place p q has shut) })

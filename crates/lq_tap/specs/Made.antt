@@ -1,7 +1,7 @@
 -- The steps of a seat on the tap's words, by name.
 use Rattle.std.specs.Prelude.{ℕ, ◌+◌, ◌*◌, Bool}
 use Rattle.lq_log.specs.Made.{load, store, exchange, rise}
-pub use Rattle.lq_log.specs.Made.{Made, ◌⊳◌, cut, joined}
+pub use Rattle.lq_log.specs.Made.{Made, ◌⊳◌, cut, with_join}
 
 -- THE WORDS, which stand so far apart that no two of these share a cache line of 64 bytes with each other or with a slot
 

@@ -5,7 +5,7 @@ ghost use Rattle.lq_tap.specs.Views.{sender_view, spent_view};
 ghost use Rattle.lq_tap.specs.Told.{having_split, having_joined};
 ghost use Rattle.lq_tap.specs.Settled.{IsSettled};
 ghost use Rattle.lq_tap.specs.Sees.{view, steps, setup, IsReaderOf, IsSenderOf, IsCutOff};
-ghost use Rattle.lq_tap.specs.Made.{◌⊳◌, cut, joined, did_load_base};
+ghost use Rattle.lq_tap.specs.Made.{◌⊳◌, cut, with_join, did_load_base};
 
 use crate::shared::{Tap, TapSeat};
 use crate::view::Knowledge;
@@ -43,7 +43,7 @@ impl Tap {
         requires other { IsSenderOf self.now from × ((view from).sender.going ≡ false) }
         ensures seat { IsReaderOf self.now into.new }
         ensures view { view into.new ≡ having_joined (view from) (view into.old) }
-        ensures steps { (found : ℕ) × (steps into.new ≡ joined (steps from) (steps into.old) ⊳ did_load_base found) }
+        ensures steps { (found : ℕ) × (steps into.new ≡ with_join (steps from) (steps into.old) ⊳ did_load_base found) }
         ensures settled { (view into.new).reader.out ≡ 0 → (view into.new).reader.drained ≡ true → IsSettled (view into.new) }
     {
         let TapSeat { seat } = from;

@@ -3,60 +3,60 @@ use Rattle.std.proofs.Common.{◌≡◌, ℕ, zero, suc, ◌+◌, ◌-◌, ◌<�
 use Rattle.std.proofs.lemmas.Bool.{cond-false, cond-true}
 use Rattle.lq_model.specs.Alone.{opened, served}
 use Rattle.lq_model.specs.Capture.{Packets}
-use Rattle.lq_model.specs.Wire.{Opened, delay, has_room, interrupted, interrupted_while, is_shut, next_interrupt, opened_while, stepped}
+use Rattle.lq_model.specs.Wire.{OpenedSoFar, delay, ring_has_room, interrupted, interrupted_while, is_shut, next_interrupt, opened_while, made_at}
 use Rattle.lq_model.specs.declared.fate.Info.{Info}
 use Rattle.lq_model.specs.declared.flight.Flight.{Flight}
 use Rattle.lq_model.specs.declared.plan.Card.{Card}
 use Rattle.lq_wire.specs.Wire.{due_at}
-use Rattle.lq_wire.specs.Wired.{due_by, GoesOn, HasOpened, IsWired, OpensOn, StepsTo}
+use Rattle.lq_wire.specs.Wired.{due_by, InterruptsOn, HasOpened, IsWired, OpensOn, StepsTo}
 use Rattle.lq_wire.specs.declared.wired.Wired.{Wired as Linked}
 
 module _ (card : Card) (packets : Packets) (infos : List Info) where
   -- OPENINGS
 
-  abbrev may-open : Opened → Bool
-  may-open o = is_shut o.wired.station && has_room card o.wired.ring
+  abbrev may-open : OpenedSoFar → Bool
+  may-open o = is_shut o.wired.station && ring_has_room card o.wired.ring
 
-  pub opens-first : (now left : ℕ) (o : Opened) (m : Linked) → IsWired m o.wired → OpensOn card packets infos now (opened_while card packets infos now left o) o left 0 m
+  pub opens-first : (now left : ℕ) (o : OpenedSoFar) (m : Linked) → IsWired m o.wired → OpensOn card packets infos now (opened_while card packets infos now left o) o left 0 m
   opens-first now left o m wired = record { here = o; same = refl; opened = record { wired = wired; times = omega arith } }
 
-  pub opens-stop : (now left count : ℕ) (last first : Opened) (m : Linked) (on : OpensOn card packets infos now last first left count m) → may-open on.here ≡ false → HasOpened last first count m
-  opens-stop now left count last first m on shut = record { wired = subst (λ (o : Opened). IsWired m o.wired) (sym is) on.opened.wired; times = ap (λ (o : Opened). o.times) is ∙ on.opened.times }
+  pub opens-stop : (now left count : ℕ) (last first : OpenedSoFar) (m : Linked) (on : OpensOn card packets infos now last first left count m) → may-open on.here ≡ false → HasOpened last first count m
+  opens-stop now left count last first m on shut = record { wired = subst (λ (o : OpenedSoFar). IsWired m o.wired) (sym is) on.opened.wired; times = ap (λ (o : OpenedSoFar). o.times) is ∙ on.opened.times }
     where
-      stays : (left : ℕ) (o : Opened) → may-open o ≡ false → opened_while card packets infos now left o ≡ o
+      stays : (left : ℕ) (o : OpenedSoFar) → may-open o ≡ false → opened_while card packets infos now left o ≡ o
       stays zero o e = refl
       stays (suc left) o e = cond-false (may-open o) _ _ e
 
       is : last ≡ on.here
       is = on.same ∙ stays left on.here shut
 
-  pub opens-end : (now count : ℕ) (last first : Opened) (m : Linked) → OpensOn card packets infos now last first 0 count m → HasOpened last first count m
-  opens-end now count last first m on = record { wired = subst (λ (o : Opened). IsWired m o.wired) (sym on.same) on.opened.wired; times = ap (λ (o : Opened). o.times) on.same ∙ on.opened.times }
+  pub opens-end : (now count : ℕ) (last first : OpenedSoFar) (m : Linked) → OpensOn card packets infos now last first 0 count m → HasOpened last first count m
+  opens-end now count last first m on = record { wired = subst (λ (o : OpenedSoFar). IsWired m o.wired) (sym on.same) on.opened.wired; times = ap (λ (o : OpenedSoFar). o.times) on.same ∙ on.opened.times }
 
-  pub opens-more : (now left count : ℕ) (last first : Opened) (m new : Linked) (on : OpensOn card packets infos now last first (suc left) count m) → may-open on.here ≡ true
+  pub opens-more : (now left count : ℕ) (last first : OpenedSoFar) (m new : Linked) (on : OpensOn card packets infos now last first (suc left) count m) → may-open on.here ≡ true
       → StepsTo card packets now (λ s. served infos (opened s)) on.here.wired new → OpensOn card packets infos now last first left (count + 1) new
   opens-more now left count last first m new on may steps = record {
-    here = record { times = on.here.times + 1; wired = stepped card packets now (λ s. served infos (opened s)) on.here.wired };
+    here = record { times = on.here.times + 1; wired = made_at card packets now (λ s. served infos (opened s)) on.here.wired };
     same = on.same ∙ cond-true (may-open on.here) _ _ may;
     opened = record { wired = steps.wired; times = let is = on.opened.times in omega arith };
   }
 
   -- the same where some are left, and where none is
-  pub opens-next : (now left count : ℕ) (last first : Opened) (m new : Linked) (on : OpensOn card packets infos now last first left count m) → 0 < left → may-open on.here ≡ true
+  pub opens-next : (now left count : ℕ) (last first : OpenedSoFar) (m new : Linked) (on : OpensOn card packets infos now last first left count m) → 0 < left → may-open on.here ≡ true
       → StepsTo card packets now (λ s. served infos (opened s)) on.here.wired new → OpensOn card packets infos now last first (left - 1) (count + 1) new
   opens-next now zero count last first m new on some may steps = absurd (omega arith)
   opens-next now (suc left) count last first m new on some may steps =
       let same : left ≡ suc left - 1 = omega arith in subst (λ (k : ℕ). OpensOn card packets infos now last first k (count + 1) new) same (opens-more now left count last first m new on may steps)
 
-  pub opens-done : (now left count : ℕ) (last first : Opened) (m : Linked) → OpensOn card packets infos now last first left count m → left ≡ 0 → HasOpened last first count m
+  pub opens-done : (now left count : ℕ) (last first : OpenedSoFar) (m : Linked) → OpensOn card packets infos now last first left count m → left ≡ 0 → HasOpened last first count m
   opens-done now left count last first m on none = opens-end now count last first m (subst (λ (k : ℕ). OpensOn card packets infos now last first k count m) none on)
 
   -- INTERRUPTS
 
-  pub goes-first : (until left : ℕ) (o : Opened) (m : Linked) → IsWired m o.wired → GoesOn card packets infos (due_by until) (interrupted_while card packets infos (due_by until) left o) o left 0 m
+  pub goes-first : (until left : ℕ) (o : OpenedSoFar) (m : Linked) → IsWired m o.wired → InterruptsOn card packets infos (due_by until) (interrupted_while card packets infos (due_by until) left o) o left 0 m
   goes-first until left o m wired = record { here = o; same = refl; opened = record { wired = wired; times = omega arith } }
 
-  none-due : (until : ℕ) (go_on : Opened → Opened) (ring : List Flight) (o : Opened) → due_at card until ring ≡ None → next_interrupt card packets infos (due_by until) go_on ring o ≡ o
+  none-due : (until : ℕ) (go_on : OpenedSoFar → OpenedSoFar) (ring : List Flight) (o : OpenedSoFar) → due_at card until ring ≡ None → next_interrupt card packets infos (due_by until) go_on ring o ≡ o
   none-due until go_on [] o e = refl
   none-due until go_on (f ∷ ring) o e = by (nat_le (f.ends + delay card) until) refl
     where
@@ -64,7 +64,7 @@ module _ (card : Card) (packets : Packets) (infos : List Info) where
       by false late = cond-false (nat_le (f.ends + delay card) until) _ _ late
       by true early = absurd (let some = sym (cond-true (nat_le (f.ends + delay card) until) (Some (f.ends + delay card)) None early) ∙ e in cc)
 
-  one-due : (until now : ℕ) (go_on : Opened → Opened) (ring : List Flight) (o : Opened) → due_at card until ring ≡ Some now
+  one-due : (until now : ℕ) (go_on : OpenedSoFar → OpenedSoFar) (ring : List Flight) (o : OpenedSoFar) → due_at card until ring ≡ Some now
       → next_interrupt card packets infos (due_by until) go_on ring o ≡ go_on (interrupted card packets infos now o)
   one-due until now go_on [] o e = absurd cc
   one-due until now go_on (f ∷ ring) o e = by (nat_le (f.ends + delay card) until) refl
@@ -78,33 +78,33 @@ module _ (card : Card) (packets : Packets) (infos : List Info) where
           some-is : {a b : ℕ} → Some a ≡ Some b → a ≡ b
           some-is is = cc
 
-  pub goes-stop : (until left count : ℕ) (last first : Opened) (m : Linked) (on : GoesOn card packets infos (due_by until) last first left count m) → due_at card until on.here.wired.ring ≡ None → HasOpened last first count m
-  goes-stop until left count last first m on none = record { wired = subst (λ (o : Opened). IsWired m o.wired) (sym is) on.opened.wired; times = ap (λ (o : Opened). o.times) is ∙ on.opened.times }
+  pub goes-stop : (until left count : ℕ) (last first : OpenedSoFar) (m : Linked) (on : InterruptsOn card packets infos (due_by until) last first left count m) → due_at card until on.here.wired.ring ≡ None → HasOpened last first count m
+  goes-stop until left count last first m on none = record { wired = subst (λ (o : OpenedSoFar). IsWired m o.wired) (sym is) on.opened.wired; times = ap (λ (o : OpenedSoFar). o.times) is ∙ on.opened.times }
     where
-      stays : (left : ℕ) (o : Opened) → due_at card until o.wired.ring ≡ None → interrupted_while card packets infos (due_by until) left o ≡ o
+      stays : (left : ℕ) (o : OpenedSoFar) → due_at card until o.wired.ring ≡ None → interrupted_while card packets infos (due_by until) left o ≡ o
       stays zero o e = refl
       stays (suc left) o e = none-due until (interrupted_while card packets infos (due_by until) left) o.wired.ring o e
 
       is : last ≡ on.here
       is = on.same ∙ stays left on.here none
 
-  pub goes-end : (until count : ℕ) (last first : Opened) (m : Linked) → GoesOn card packets infos (due_by until) last first 0 count m → HasOpened last first count m
-  goes-end until count last first m on = record { wired = subst (λ (o : Opened). IsWired m o.wired) (sym on.same) on.opened.wired; times = ap (λ (o : Opened). o.times) on.same ∙ on.opened.times }
+  pub goes-end : (until count : ℕ) (last first : OpenedSoFar) (m : Linked) → InterruptsOn card packets infos (due_by until) last first 0 count m → HasOpened last first count m
+  goes-end until count last first m on = record { wired = subst (λ (o : OpenedSoFar). IsWired m o.wired) (sym on.same) on.opened.wired; times = ap (λ (o : OpenedSoFar). o.times) on.same ∙ on.opened.times }
 
-  pub goes-more : (until now left count more : ℕ) (last first : Opened) (m new : Linked) (on : GoesOn card packets infos (due_by until) last first (suc left) count m) → due_at card until on.here.wired.ring ≡ Some now
-      → HasOpened (interrupted card packets infos now on.here) on.here more new → GoesOn card packets infos (due_by until) last first left (count + more) new
+  pub goes-more : (until now left count more : ℕ) (last first : OpenedSoFar) (m new : Linked) (on : InterruptsOn card packets infos (due_by until) last first (suc left) count m) → due_at card until on.here.wired.ring ≡ Some now
+      → HasOpened (interrupted card packets infos now on.here) on.here more new → InterruptsOn card packets infos (due_by until) last first left (count + more) new
   goes-more until now left count more last first m new on some has = record {
     here = interrupted card packets infos now on.here;
     same = on.same ∙ one-due until now (interrupted_while card packets infos (due_by until) left) on.here.wired.ring on.here some;
     opened = record { wired = has.wired; times = let before = on.opened.times in let here = has.times in omega arith };
   }
 
-  pub goes-next : (until now left count more : ℕ) (last first : Opened) (m new : Linked) (on : GoesOn card packets infos (due_by until) last first left count m) → 0 < left → due_at card until on.here.wired.ring ≡ Some now
-      → HasOpened (interrupted card packets infos now on.here) on.here more new → GoesOn card packets infos (due_by until) last first (left - 1) (count + more) new
+  pub goes-next : (until now left count more : ℕ) (last first : OpenedSoFar) (m new : Linked) (on : InterruptsOn card packets infos (due_by until) last first left count m) → 0 < left → due_at card until on.here.wired.ring ≡ Some now
+      → HasOpened (interrupted card packets infos now on.here) on.here more new → InterruptsOn card packets infos (due_by until) last first (left - 1) (count + more) new
   goes-next until now zero count more last first m new on some comes has = absurd (omega arith)
   goes-next until now (suc left) count more last first m new on some comes has =
       let same : left ≡ suc left - 1 = omega arith in
-      subst (λ (k : ℕ). GoesOn card packets infos (due_by until) last first k (count + more) new) same (goes-more until now left count more last first m new on comes has)
+      subst (λ (k : ℕ). InterruptsOn card packets infos (due_by until) last first k (count + more) new) same (goes-more until now left count more last first m new on comes has)
 
-  pub goes-done : (until left count : ℕ) (last first : Opened) (m : Linked) → GoesOn card packets infos (due_by until) last first left count m → left ≡ 0 → HasOpened last first count m
-  goes-done until left count last first m on none = goes-end until count last first m (subst (λ (k : ℕ). GoesOn card packets infos (due_by until) last first k count m) none on)
+  pub goes-done : (until left count : ℕ) (last first : OpenedSoFar) (m : Linked) → InterruptsOn card packets infos (due_by until) last first left count m → left ≡ 0 → HasOpened last first count m
+  goes-done until left count last first m on none = goes-end until count last first m (subst (λ (k : ℕ). InterruptsOn card packets infos (due_by until) last first k count m) none on)

@@ -6,7 +6,7 @@ use Rattle.std.specs.Prelude.{min}
 use Rattle.lq_model.specs.Alone.{brought_in, bypass_of, events_before, served}
 use Rattle.lq_model.specs.Capture.{Packets}
 use Rattle.lq_model.specs.Plan.{Plan}
-use Rattle.lq_model.specs.Wire.{Opened, Wired, after_wired, all_interrupted, first_wired, moment, opened_at, openings_of_card, stepped, turned, wired_with, with_changes}
+use Rattle.lq_model.specs.Wire.{OpenedSoFar, Wired, after_wired, all_interrupted, first_wired, moment, opened_at, openings_of_card, made_at, turned, wired_with, with_changes}
 use Rattle.lq_model.specs.declared.fate.Info.{Info}
 use Rattle.lq_model.specs.declared.plan.Card.{Card}
 use Rattle.lq_model.specs.declared.plan.StationPlan.{StationPlan}
@@ -24,10 +24,10 @@ module _ (card : Card) (plan : Plan) (packets : Packets) (infos : List Info) (st
 
   -- the events before it, and the packet
   pub comes : (n now : ℕ) (m new : Linked) → now ≡ moment card packets n → StepsTo card packets now (with_changes plan infos (events_before plan n)) (at n) m
-      → StepsTo card packets now (λ s. served infos (brought_in infos (bypass_of plan 0) n s)) (stepped card packets now (with_changes plan infos (events_before plan n)) (at n)) new
+      → StepsTo card packets now (λ s. served infos (brought_in infos (bypass_of plan 0) n s)) (made_at card packets now (with_changes plan infos (events_before plan n)) (at n)) new
       → IsWired new (wired_with card plan packets infos n (at n))
   comes n now m new is first next =
-      subst (λ (t : ℕ). IsWired new (stepped card packets t (λ s. served infos (brought_in infos (bypass_of plan 0) n (with_changes plan infos (events_before plan n) s))) (at n))) is
+      subst (λ (t : ℕ). IsWired new (made_at card packets t (λ s. served infos (brought_in infos (bypass_of plan 0) n (with_changes plan infos (events_before plan n) s))) (at n))) is
       (steps-then card packets now (with_changes plan infos (events_before plan n)) (λ s. served infos (brought_in infos (bypass_of plan 0) n s)) (at n) m new first next).wired
 
   opens-are : plan.stations ≡ station ∷ [] → (n : ℕ) → n + 1 < packets.count → openings_of_card card plan packets infos n ≡ (turned card plan packets infos n (at n)).times
@@ -43,7 +43,7 @@ module _ (card : Card) (plan : Plan) (packets : Packets) (infos : List Info) (st
   pub turned-last : (n : ℕ) (m : Linked) → packets.count ≤ n + 1 → HasTurned card plan packets infos station n 0 m
   turned-last n m last = record { opens = sym (none-opens n last); next = λ more. absurd (omega arith) }
 
-  abbrev opened-by : ℕ → ℕ → ℕ → Opened
+  abbrev opened-by : ℕ → ℕ → ℕ → OpenedSoFar
   opened-by now until n = all_interrupted card packets infos (due_by until) (opened_at card packets infos now (record { times = 0; wired = wired_with card plan packets infos n (at n) }))
 
   pub turned-on : plan.stations ≡ station ∷ [] → (n now until times : ℕ) (m : Linked) → n + 1 < packets.count → now ≡ moment card packets n → until ≡ moment card packets (n + 1)
@@ -53,6 +53,6 @@ module _ (card : Card) (plan : Plan) (packets : Packets) (infos : List Info) (st
       let counts : (opened-by now until n).times ≡ times = has.times ∙ (let none : 0 + times ≡ times = omega arith in none) in
       let next : suc n ≡ n + 1 = omega arith in
       record {
-        opens = sym (opens-are stations n there ∙ (ap (λ (o : Opened). o.times) (sym same) ∙ counts));
-        next = λ more. subst (λ (k : ℕ). IsWired m (at k)) next (subst (λ (o : Opened). IsWired m o.wired) same has.wired);
+        opens = sym (opens-are stations n there ∙ (ap (λ (o : OpenedSoFar). o.times) (sym same) ∙ counts));
+        next = λ more. subst (λ (k : ℕ). IsWired m (at k)) next (subst (λ (o : OpenedSoFar). IsWired m o.wired) same has.wired);
       }

@@ -3,12 +3,12 @@ use Rattle.std.specs.Prelude.{◌≡◌, ◌<◌, ℕ, ◌+◌, Bool, true, fals
 use Rattle.lq_model.specs.Alone.{RunningStation}
 use Rattle.lq_model.specs.Capture.{Packets}
 use Rattle.lq_model.specs.Plan.{Plan, is_at, is_swap_kind}
-use Rattle.lq_model.specs.Wire.{Opened, Wired, after_wired, first_wired, interrupted_while, opened_while, openings_of_card, sent_now, stepped}
+use Rattle.lq_model.specs.Wire.{OpenedSoFar, Wired, after_wired, first_wired, interrupted_while, opened_while, openings_of_card, sent_now, made_at}
 use Rattle.lq_model.specs.declared.fate.Info.{Info}
 use Rattle.lq_model.specs.declared.plan.Card.{Card}
 use Rattle.lq_model.specs.declared.plan.EventPlan.{EventPlan}
 use Rattle.lq_model.specs.declared.plan.StationPlan.{StationPlan}
-use Rattle.lq_lone.specs.Lone.{IsLone, state_of, waiting}
+use Rattle.lq_lone.specs.Lone.{IsLone, lone_state, waiting}
 use Rattle.lq_wire.specs.declared.wire.Wire.{Wire}
 use Rattle.lq_wire.specs.declared.wired.Wired.{Wired as Linked}
 
@@ -19,12 +19,12 @@ pub record IsWire (m : Wire) (w : Wired) : Type 0 where
 
 -- it is this station with its card
 pub record IsWired (m : Linked) (w : Wired) : Type 0 where
-  pub station : IsLone (state_of m.station) w.station
+  pub station : IsLone (lone_state m.station) w.station
   pub wire : IsWire m.wire w
 
 -- how many packets wait or were accepted
 abbrev pub load : Linked → ℕ
-load m = waiting (state_of m.station) + m.wire.accepted
+load m = waiting (lone_state m.station) + m.wire.accepted
 
 -- 1 of a queue that is stopped
 abbrev pub stop_count : Linked → ℕ
@@ -32,7 +32,7 @@ stop_count m = if m.station.stopped then 1 else 0
 
 -- a step of the station at a moment leads to it; the step sent these packets
 pub record StepsTo (card : Card) (packets : Packets) (now : ℕ) (step : RunningStation → RunningStation) (w : Wired) (m : Linked) : Type 0 where
-  pub wired : IsWired m (stepped card packets now step w)
+  pub wired : IsWired m (made_at card packets now step w)
   pub more : List ℕ
   pub sent : sent_now (step w.station) ≡ sent_now w.station ++ more
 
@@ -41,18 +41,18 @@ abbrev pub due_by : ℕ → ℕ → Bool
 due_by until now = nat_le now until
 
 -- what was opened so often is it
-pub record HasOpened (last first : Opened) (count : ℕ) (m : Linked) : Type 0 where
+pub record HasOpened (last first : OpenedSoFar) (count : ℕ) (m : Linked) : Type 0 where
   pub wired : IsWired m last.wired
   pub times : last.times ≡ first.times + count
 
 -- so many openings, or interrupts, are left at most, and lead from here to the end
-pub record OpensOn (card : Card) (packets : Packets) (infos : List Info) (now : ℕ) (last first : Opened) (left count : ℕ) (m : Linked) : Type 0 where
-  pub here : Opened
+pub record OpensOn (card : Card) (packets : Packets) (infos : List Info) (now : ℕ) (last first : OpenedSoFar) (left count : ℕ) (m : Linked) : Type 0 where
+  pub here : OpenedSoFar
   pub same : last ≡ opened_while card packets infos now left here
   pub opened : HasOpened here first count m
 
-pub record GoesOn (card : Card) (packets : Packets) (infos : List Info) (due : ℕ → Bool) (last first : Opened) (left count : ℕ) (m : Linked) : Type 0 where
-  pub here : Opened
+pub record InterruptsOn (card : Card) (packets : Packets) (infos : List Info) (due : ℕ → Bool) (last first : OpenedSoFar) (left count : ℕ) (m : Linked) : Type 0 where
+  pub here : OpenedSoFar
   pub same : last ≡ interrupted_while card packets infos due left here
   pub opened : HasOpened here first count m
 

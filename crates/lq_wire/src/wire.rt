@@ -1,7 +1,7 @@
 //! The driver's ring and the wire.
 ghost use Rattle.std.specs.Prelude.{◌≡◌, ◌+◌, ◌*◌, ◌^◌, ◌<◌, ◌≤◌, ◌∷◌, ◌++◌, [], drop, option_to_list, IfSome, OnOk};
 ghost use Rattle.std.specs.VecDeque.{deque_len};
-ghost use Rattle.lq_model.specs.Wire.{delay, flight_of, frame_length, has_room, left_at, wire_time};
+ghost use Rattle.lq_model.specs.Wire.{delay, flight_of, frame_length, ring_has_room, left_at, wire_time};
 ghost use Rattle.lq_wire.specs.Wire.{due_at, first_has_left, flight_lengths};
 
 use lq_model::{Card, Flight, Limit};
@@ -36,7 +36,7 @@ pub struct Wire {
 }
 
 impl Wire {
-    ghost use Rattle.lq_model.specs.Wire.{Wired, all_accepted_at};
+    ghost use Rattle.lq_model.specs.Wire.{Wired, with_flights};
     ghost use Rattle.lq_lone.specs.Lone.{count_of};
     ghost use Rattle.lq_wire.specs.Wired.{IsWire};
 
@@ -56,8 +56,8 @@ impl Wire {
     }
 
     /// Whether the driver has room for a packet.
-    pub fn has_room(&self) -> bool
-        ensures { result ≡ has_room self.now.card self.now.ring.items }
+    pub fn ring_has_room(&self) -> bool
+        ensures { result ≡ ring_has_room self.now.card self.now.ring.items }
     {
         match self.card.limit {
             Limit::Ring { descriptors } => self.ring.len() < descriptors as usize,
@@ -99,7 +99,7 @@ impl Wire {
     ) -> Result<(), AllocError>
         requires near { now < 2 ^ 96 }
         requires few { self.old.accepted + count_of accepted ≤ 1000000 }
-        ensures accepts { OnOk result ((w : Wired) → IsWire self.old w → IsWire self.new (all_accepted_at self.old.card (F.packets frames.now) now (option_to_list accepted) w)) }
+        ensures accepts { OnOk result ((w : Wired) → IsWire self.old w → IsWire self.new (with_flights self.old.card (F.packets frames.now) now (option_to_list accepted) w)) }
         ensures accepted { OnOk result (self.new.accepted ≡ self.old.accepted + count_of accepted) }
         ensures card { self.new.card ≡ self.old.card }
     {

@@ -18,9 +18,9 @@ pub struct Wired {
 impl Wired {
     ghost use Rattle.lq_model.specs.Alone.{brought_in, changed, events_before, opened, served};
     ghost use Rattle.lq_model.specs.Plan.{Plan as PlanOfRun, band_in, is_swap_kind};
-    ghost use Rattle.lq_model.specs.Wire.{Opened, Wired as WiredStation, all_interrupted, first_wired, has_room, is_shut, opened_at, with_changes};
+    ghost use Rattle.lq_model.specs.Wire.{OpenedSoFar, Wired as WiredStation, all_interrupted, first_wired, ring_has_room, is_shut, opened_at, with_changes};
     ghost use Rattle.lq_model.specs.declared.fate.Info.{Info};
-    ghost use Rattle.lq_lone.specs.Lone.{HaveOneQueue, IsLengthened, state_of, waiting};
+    ghost use Rattle.lq_lone.specs.Lone.{HaveOneQueue, IsLengthened, lone_state, waiting};
     ghost use Rattle.lq_wire.specs.Wired.{AreForCard, HasOneStop, HasOpened, IsWired, StepsTo, due_by, load, stop_count};
 
     /// The station of a plan, with nothing brought yet.
@@ -44,7 +44,7 @@ impl Wired {
         ensures opens { OnOk result ((infos : List Info) (w : WiredStation) → HaveOneQueue infos → IsWired self.old w
             → StepsTo self.old.wire.card (F.packets frames.now) now (λ s. served infos (opened s)) w self.new) }
         ensures load { OnOk result (load self.new ≡ load self.old) }
-        ensures count { OnOk result (waiting (state_of self.new.station) + stop_count self.new ≡ waiting (state_of self.old.station)) }
+        ensures count { OnOk result (waiting (lone_state self.new.station) + stop_count self.new ≡ waiting (lone_state self.old.station)) }
         ensures bypass { self.new.station.bypass ≡ self.old.station.bypass }
         ensures card { self.new.wire.card ≡ self.old.wire.card }
     {
@@ -122,7 +122,7 @@ impl Wired {
 
     // Whether the queue is stopped and there is room.
     fn may_open(&self) -> bool
-        ensures opens { (w : WiredStation) → IsWired self.now w → result ≡ (is_shut w.station && has_room self.now.wire.card w.ring) }
+        ensures opens { (w : WiredStation) → IsWired self.now w → result ≡ (is_shut w.station && ring_has_room self.now.wire.card w.ring) }
         ensures stopped { result ≡ true → self.now.station.stopped ≡ true }
     {
         self.station.is_stopped() && self.wire.has_room()
@@ -132,9 +132,9 @@ impl Wired {
     pub fn open_while_room<F: Frames>(&mut self, frames: &F, now: u128) -> Result<u32, AllocError>
         requires near { now < 2 ^ 96 }
         requires few { load self.old ≤ 1000000 }
-        ensures opens { IfOk result (λ times. (infos : List Info) (o : Opened) → HaveOneQueue infos → IsWired self.old o.wired
+        ensures opens { IfOk result (λ times. (infos : List Info) (o : OpenedSoFar) → HaveOneQueue infos → IsWired self.old o.wired
             → HasOpened (opened_at self.old.wire.card (F.packets frames.now) infos now o) o times self.new) }
-        ensures count { IfOk result (λ times. times + waiting (state_of self.new.station) ≤ waiting (state_of self.old.station) + 1) }
+        ensures count { IfOk result (λ times. times + waiting (lone_state self.new.station) ≤ waiting (lone_state self.old.station) + 1) }
         ensures load { IfOk result (λ times. load self.new ≡ load self.old) }
         ensures bypass { IfOk result (λ times. self.new.station.bypass ≡ self.old.station.bypass) }
         ensures card { IfOk result (λ times. self.new.wire.card ≡ self.old.wire.card) }
@@ -155,7 +155,7 @@ impl Wired {
     pub fn on_until<F: Frames>(&mut self, frames: &F, until: u128) -> Result<u32, AllocError>
         requires near { until < 2 ^ 96 }
         requires few { load self.old ≤ 1000000 }
-        ensures opens { IfOk result (λ times. (infos : List Info) (o : Opened) → HaveOneQueue infos → IsWired self.old o.wired
+        ensures opens { IfOk result (λ times. (infos : List Info) (o : OpenedSoFar) → HaveOneQueue infos → IsWired self.old o.wired
             → HasOpened (all_interrupted self.old.wire.card (F.packets frames.now) infos (due_by until) o) o times self.new) }
         ensures count { IfOk result (λ times. times ≤ 3000000) }
         ensures load { IfOk result (λ times. load self.new ≡ load self.old) }
@@ -183,7 +183,7 @@ impl Wired {
     ) -> Result<u32, AllocError>
         requires near { (now < 2 ^ 96) × (until < 2 ^ 96) }
         requires few { load self.old ≤ 1000000 }
-        ensures opens { IfOk result (λ times. (infos : List Info) (o : Opened) → HaveOneQueue infos → IsWired self.old o.wired
+        ensures opens { IfOk result (λ times. (infos : List Info) (o : OpenedSoFar) → HaveOneQueue infos → IsWired self.old o.wired
             → HasOpened (all_interrupted self.old.wire.card (F.packets frames.now) infos (due_by until) (opened_at self.old.wire.card (F.packets frames.now) infos now o)) o times self.new) }
         ensures load { IfOk result (λ times. load self.new ≡ load self.old) }
         ensures bypass { IfOk result (λ times. self.new.station.bypass ≡ self.old.station.bypass) }

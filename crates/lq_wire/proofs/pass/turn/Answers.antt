@@ -1,6 +1,6 @@
 use Rattle.std.proofs.Common.{◌+◌, Bool, sym, subst, ◌∙◌, arith}
 use Rattle.lq_model.specs.Alone.{brought_in, events_before, served}
-use Rattle.lq_model.specs.Wire.{Opened, after_wired, first_wired, stepped, wired_with, with_changes}
+use Rattle.lq_model.specs.Wire.{OpenedSoFar, after_wired, first_wired, made_at, wired_with, with_changes}
 use Rattle.lq_model.specs.declared.plan.Card.{Card}
 use Rattle.lq_wire.specs.Wired.{HasOpened, StepsTo, due_by}
 use Rattle.lq_model.specs.Wire.{all_interrupted, opened_at}
@@ -20,12 +20,12 @@ returns-clause-turned g c = if-ok c.open_until.result c.open_until.ensures.opens
     let w = after_wired card plan packets infos (first_wired station) n in
     let changes = with_changes plan infos (events_before plan n) in
     let first = c.in_ok-change_before.ensures.changes infos w fits.first_queue wired in
-    let brings = c.in_ok-bring.ensures.brings infos (stepped card packets now changes w) fits.first_queue (sym c.band_at.ensures) first.wired in
-    let next = subst (λ (b : Bool). StepsTo card packets now (λ s. served infos (brought_in infos b n s)) (stepped card packets now changes w) c.bring.new.self) (c.in_ok-change_before.ensures.bypass ∙ c.requires.bypass)
-    (subst (λ (k : Card). StepsTo k packets now (λ s. served infos (brought_in infos c.change_before.new.self.station.bypass n s)) (stepped card packets now changes w) c.bring.new.self) c.in_ok-change_before.ensures.card brings) in
+    let brings = c.in_ok-bring.ensures.brings infos (made_at card packets now changes w) fits.first_queue (sym c.band_at.ensures) first.wired in
+    let next = subst (λ (b : Bool). StepsTo card packets now (λ s. served infos (brought_in infos b n s)) (made_at card packets now changes w) c.bring.new.self) (c.in_ok-change_before.ensures.bypass ∙ c.requires.bypass)
+    (subst (λ (k : Card). StepsTo k packets now (λ s. served infos (brought_in infos c.change_before.new.self.station.bypass n s)) (made_at card packets now changes w) c.bring.new.self) c.in_ok-change_before.ensures.card brings) in
     let now-is = moment-is card plan packets infos station n now c.args.time.now c.moment-now.ensures.moment c.requires.time in
     let came = comes card plan packets infos station n now c.change_before.new.self c.bring.new.self now-is first next in
-    let start : Opened = record { times = 0; wired = wired_with card plan packets infos n w } in
+    let start : OpenedSoFar = record { times = 0; wired = wired_with card plan packets infos n w } in
     let has = opens infos start fits.first_queue came in
     let same = c.in_ok-bring.ensures.card ∙ c.in_ok-change_before.ensures.card in
     turned-on card plan packets infos station fits.one.stations n now until times c.open_until.new.self (omega arith) now-is

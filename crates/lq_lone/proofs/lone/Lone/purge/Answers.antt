@@ -1,7 +1,7 @@
-use Rattle.lq_lone.specs.Lone.{band_of, state_of}
+use Rattle.lq_lone.specs.Lone.{line_band, lone_state}
 use Rattle.lq_lone.proofs.Changes.{purged}
 use Rattle.lq_lone.proofs.lone.Lone.purge.Goals as goal
 
 pub returns-clause-purges : goal.returns-clause-purges
 returns-clause-purges c s cause lone =
-    purged s (state_of c.args.self.now) lone cause (band_of c.empty.new.self) (band_of c.empty-2.new.self) (band_of c.empty-3.new.self) c.empty.ensures c.empty-2.ensures c.empty-3.ensures
+    purged s (lone_state c.args.self.now) lone cause (line_band c.empty.new.self) (line_band c.empty-2.new.self) (line_band c.empty-3.new.self) c.empty.ensures c.empty-2.ensures c.empty-3.ensures

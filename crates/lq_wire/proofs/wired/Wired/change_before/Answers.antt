@@ -1,7 +1,7 @@
 use Rattle.std.proofs.Common.{◌≡◌, ◌+◌, ℕ, length, refl, sym, subst, ◌∙◌, eq-eqb, arith}
 use Rattle.std.proofs.lemmas.Bool.{ne_eqb}
 use Rattle.lq_model.specs.Alone.{changed, served}
-use Rattle.lq_model.specs.Wire.{stepped, with_changes}
+use Rattle.lq_model.specs.Wire.{made_at, with_changes}
 use Rattle.lq_model.specs.declared.plan.Card.{Card}
 use Rattle.lq_plan.specs.Limits.{max_len_at}
 use Rattle.lq_wire.specs.Wired.{StepsTo}
@@ -31,8 +31,8 @@ loop-e-preserved g c =
           subst (HaveDone plan packets now n (e + 1) c.args.self.now) (sym w.self-is) (record {
             done = λ infos v queues wired.
                 let first = with_changes plan infos (below plan n e) in let so = inv.done infos v queues wired in
-                let next = subst (λ (k : Card). StepsTo k packets now (λ s. served infos (changed plan e event.kind s)) (stepped card packets now first v) w.change.new.self) inv.card
-                (w.in_ok-change.ensures.changes plan e infos (stepped card packets now first v) queues so.wired) in
+                let next = subst (λ (k : Card). StepsTo k packets now (λ s. served infos (changed plan e event.kind s)) (made_at card packets now first v) w.change.new.self) inv.card
+                (w.in_ok-change.ensures.changes plan e infos (made_at card packets now first v) queues so.wired) in
                 steps-same card packets now (λ s. served infos (changed plan e event.kind (first s))) (with_changes plan infos (below plan n (e + 1))) v w.change.new.self
                 (one-more plan infos n e event v.station is (eq-eqb event.before n w.if-event-n.true))
                 (steps-then card packets now first (λ s. served infos (changed plan e event.kind s)) v c.loop-e.self w.change.new.self so next);

@@ -1,6 +1,6 @@
 use Rattle.std.proofs.Common.{◌+◌, ◌-◌, ◌<◌, length, refl, sym, ap, subst, ◌∙◌, arith}
 use Rattle.lq_model.specs.Account.{held}
-use Rattle.lq_model.specs.Wire.{Opened, all_interrupted, interrupted, left_at}
+use Rattle.lq_model.specs.Wire.{OpenedSoFar, all_interrupted, interrupted, left_at}
 use Rattle.lq_model.specs.declared.plan.Card.{Card}
 use Rattle.lq_wire.specs.Wire.{due_at}
 use Rattle.lq_wire.specs.Wired.{HasOpened, due_by}
@@ -41,7 +41,7 @@ loop-interrupt-preserved g c =
           let some : 0 < at.0 = omega arith in
           let comes = ap (λ (k : Card). due_at k c.args.until on.here.wired.ring) (sym inv.card)
           ∙ (ap (due_at c.loop-interrupt.self.wire.card c.args.until) (sym on.opened.wired.wire.ring) ∙ (sym c.due.ensures.due ∙ c.in-Some.is)) in
-          let left : Opened = record on.here { wired = record on.here.wired { ring = left_at now on.here.wired.ring } } in
+          let left : OpenedSoFar = record on.here { wired = record on.here.wired { ring = left_at now on.here.wired.ring } } in
           let has = done.opens infos left queues (record {
             station = on.opened.wired.station;
             wire = record { ring = c.reclaim.ensures.ring ∙ ap (left_at now) on.opened.wired.wire.ring; free = c.reclaim.ensures.free ∙ on.opened.wired.wire.free };

@@ -17,7 +17,7 @@ use Rattle.lq_model.specs.declared.machine.Position.TheVariants.{Control, Gate, 
 use Rattle.lq_model.specs.declared.machine.Blocked.{Blocked}
 use Rattle.lq_model.specs.declared.machine.Blocked.TheVariants.{InHand, NoneTaken}
 use Rattle.lq_model.specs.declared.machine.Seat.{Seat}
-use Rattle.lq_model.specs.Machine.{Qdisc, is_open}
+use Rattle.lq_model.specs.Machine.{Qdisc, is_queue_open}
 use Rattle.lq_model.specs.Steps.{step_at, After, goes_to, queue_of_slot, queue_of_blocked, slot_taken, may_answer}
 use Rattle.lq_model.specs.Positions.{in_hand, needs_slot, holds_lock, is_hanging}
 use Rattle.lq_model.specs.Account.{Event, Pick, after}
@@ -45,7 +45,7 @@ record LoadsStop (position : Position) (queue : ℕ) (slot : Option Packet) (q :
   yes : Position
   no : Position
   may : may_answer position Plain q ≡ true
-  goes : (s : Seat) → step_at position Plain q s ≡ goes_to q s (if is_open q queue then yes else no)
+  goes : (s : Seat) → step_at position Plain q s ≡ goes_to q s (if is_queue_open q queue then yes else no)
   leads : (x : ℕ) → load_xoff_leads slot x position ≡ (if x == 0 then yes else no)
   still_yes : Still position yes
   still_no : Still position no
@@ -78,7 +78,7 @@ at_deq q e = record {
   yes = Scan 0 false;
   no = BlockedClear (NoneTaken 0);
   may = refl;
-  goes = λ s. (λ j. if is_open q (queue_of_slot (e j)) then slot_taken (e j) q s else goes_to q s (BlockedClear (NoneTaken (queue_of_slot (e j))))) ∙ pull (is_open q 0) q s;
+  goes = λ s. (λ j. if is_queue_open q (queue_of_slot (e j)) then slot_taken (e j) q s else goes_to q s (BlockedClear (NoneTaken (queue_of_slot (e j))))) ∙ pull (is_queue_open q 0) q s;
   leads = λ x. refl;
   still_yes = record { hand = refl; looked = refl; goes_on = refl; calm = refl };
   still_no = record { hand = refl; looked = refl; goes_on = refl; calm = refl };
@@ -172,7 +172,7 @@ module _ (k : Setup) where
       let knows_hung = alive s r id (queue_in k.infos n) v here live holds (ap is_hanging position) queue in
       let told : load_xoff_view f v ≡ load_xoff_view_from Deq (Some n) f v = λ j. load_xoff_view_from (position j) (slot j) f v in
       dite (ℕ_discrete f 0)
-      (λ zero_. let open_ : is_open q x.queue ≡ true = ap (λ (z : ℕ). z == 0) (loaded ∙ zero_) in let w : View = load_xoff_view_from Deq (Some n) 0 v in let e : Event = Pick in let q' : Qdisc = record q { slot = None } in
+      (λ zero_. let open_ : is_queue_open q x.queue ≡ true = ap (λ (z : ℕ). z == 0) (loaded ∙ zero_) in let w : View = load_xoff_view_from Deq (Some n) 0 v in let e : Event = Pick in let q' : Qdisc = record q { slot = None } in
       let fits : Fits q q Plain v.place.position v.place q' = subst (λ (z : Position). Fits q q Plain z v.place q') (sym position) record { may = refl; seat = refl; words = ap (λ (z : After). z.qdisc) (gates v.place x q has open_) } in
       let place : w.place ≡ (step_at v.place.position Plain q v.place).seat = sym (ap (λ (z : Position). (step_at z Plain q v.place).seat) position ∙ ap (λ (z : After). z.seat) (gates v.place x q has open_)) in
       let mach = plays k s r id v w here live Plain q q' fits place refl refl refl in
@@ -194,7 +194,7 @@ module _ (k : Setup) where
             }),
         ((λ j. (sym (told ∙ ap (λ (z : ℕ). load_xoff_view_from Deq (Some n) z v) zero_) j, m.1)), (λ _. knows_hung), room few s r id v here live),
       ))
-      (λ other. let shut : is_open q x.queue ≡ false = ap (λ (z : ℕ). z == 0) loaded ∙ ne_eqb f 0 other in let y : Position = BlockedClear (NoneTaken x.queue) in let w : View = record v { place = record v.place { position = y } } in
+      (λ other. let shut : is_queue_open q x.queue ≡ false = ap (λ (z : ℕ). z == 0) loaded ∙ ne_eqb f 0 other in let y : Position = BlockedClear (NoneTaken x.queue) in let w : View = record v { place = record v.place { position = y } } in
       let fits : Fits q q Plain v.place.position v.place q = subst (λ (z : Position). Fits q q Plain z v.place q) (sym position) record { may = refl; seat = refl; words = ap (λ (z : After). z.qdisc) (stays_out v.place x q has shut) } in
       let place : w.place ≡ (step_at v.place.position Plain q v.place).seat = sym (ap (λ (z : Position). (step_at z Plain q v.place).seat) position ∙ ap (λ (z : After). z.seat) (stays_out v.place x q has shut)) in
       let leads : load_xoff_view_from Deq (Some n) f v ≡ w = ap (λ (b : Bool). if b then picking (Some n) (record v { place = record v.place { position = if b then Gate x false else y } }) else record v { place = record v.place { position = if b then Gate x false else y } }) (ne_eqb f 0 other) in (

@@ -22,7 +22,7 @@ use Rattle.lq_model.specs.declared.state.TheConstants.{QUOTA}
 use Rattle.lq_model.specs.Account.{Account, Event, Send, sent_from_hand}
 use Rattle.lq_model.specs.Legal.{MayCome}
 use Rattle.lq_model.specs.Plan.{queue_in}
-use Rattle.lq_model.specs.Machine.{Qdisc, is_open}
+use Rattle.lq_model.specs.Machine.{Qdisc, is_queue_open}
 use Rattle.lq_model.specs.Steps.{step_at, accepted, counted}
 use Rattle.lq_model.specs.Positions.{holds_lock, may_be_inside}
 use Rattle.lq_model.specs.Control.{is_control}
@@ -113,7 +113,7 @@ module _ (k : Setup) where
       let fits : Fits q (seen_by v) (machine_answer st.last) v.place.position v.place (accepted q) =
       subst (λ (z : Option Tx × Position). Fits q (seen_by v) (machine_answer z.0) z.1 v.place (accepted q)) (λ j. (sym answered j, sym position j)) (xmit_fits q (seen_by v) (holder_shows k s r id v here live holds) tx sent x direct v.place) in
       let mach = plays k s r id v w here live (machine_answer st.last) (seen_by v) (accepted q) fits refl refl refl refl in
-      let open_ : is_open q (queue_in k.infos n) ≡ true = ap (λ (z : Packet). is_open q z.queue) x_is ∙ device_open k.infos s.views id v here live q a a.bands p.machine.invariant p.station.ties x direct position in
+      let open_ : is_queue_open q (queue_in k.infos n) ≡ true = ap (λ (z : Packet). is_queue_open q z.queue) x_is ∙ device_open k.infos s.views id v here live q a a.bands p.machine.invariant p.station.ties x direct position in
       let no_shut : g.shut ≡ None = call_none s.views id v here live q p.machine.invariant (ap may_be_inside position) g.shut a.stops p.station.stops in
       let may : MayCome k.infos k.station g.past a Send = (n, in_hand_is, eqb-true _ 0 (ap (λ (ls : List ℕ). slice_index ls (queue_in k.infos n) == 0) (sym (agree q.phase q.locked q.xoff a.stops g.shut no_shut p.station.stops)) ∙ open_)) in (
         w,
