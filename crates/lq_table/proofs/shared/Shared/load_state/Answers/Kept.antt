@@ -62,7 +62,7 @@ look_fits base q Late s shows h = record { may = refl; seat = refl; words = refl
 look_fits base q _ s shows h = absurd (false≢true h)
 
 begins_still : (q : Qdisc) (old : Position) → Rattle.lq_model.specs.Positions.in_hand old ≡ Rattle.std.proofs.Common.None → Rattle.lq_model.specs.Positions.is_hanging old ≡ false → Still old (Rattle.lq_model.specs.Steps.dequeue_begins q)
-begins_still q old e e' = either_place (Rattle.lq_model.specs.Machine.is_shared q && Rattle.std.specs.Prelude.is_none q.slot) old _ _ (plain_still (sym e) refl refl e') (plain_still (sym e) refl refl e')
+begins_still q old e e' = either_place (Rattle.lq_model.specs.Machine.has_several_queues q && Rattle.std.specs.Prelude.is_none q.slot) old _ _ (plain_still (sym e) refl refl e') (plain_still (sym e) refl refl e')
 
 look_still : (base q : Qdisc) (position : Position) (s : Seat) → looks_in_call position ≡ true → holds_lock position ≡ true → Still position (step_at position Plain (bits_only base q) s).seat.position
 look_still base q Post s h holds = either_still (is_non_empty q) Post (run_begins (bits_only base q) s) (goes_to (bits_only base q) s Unlock) (begins_still base Post refl refl) (plain_still refl refl refl refl)
