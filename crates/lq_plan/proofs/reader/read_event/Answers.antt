@@ -13,4 +13,4 @@ returns c =
     let groups = c.args.groups.now in let j = group_in (table_view c.args.event.now) in
     let mq : slice_index_or groups c.group_of-group.result 0 ≡ mq_at groups j = ap (λ k. slice_index_or groups k 0) c.group_of-group.ensures ∙ sym (mq-read groups j c.requires.small.group) in
     let first = c.first_child.ensures.first ∙ ap (first_at groups) c.group_of-group.ensures in
-    λ i. record { before = c.number_at.ensures i; station = first i; mq = mq i; kind = c.read_kind.ensures i }
+    λ i. record { before = c.number_value.ensures i; station = first i; mq = mq i; kind = c.read_kind.ensures i }

@@ -49,7 +49,7 @@ overflow_cast-result c =
 pub overflow_cast-result-2 : goal.overflow_cast-result-2
 overflow_cast-result-2 c =
     let all = facts (table_view c.args.root.now) (document_view c.in_ok-document.document) c.in_ok-document.ensures c.in_default.ensures in
-    omega (arith, c.number_at.ensures, all.senders.1, all.is.narrower.senders)
+    omega (arith, c.number_value.ensures, all.senders.1, all.is.narrower.senders)
 
 pub read_irq-requires : goal.read_irq-requires
 read_irq-requires c =
@@ -70,4 +70,4 @@ invariant_of-result c =
     in
     let in_order = sym (c.if-is_out_of_order.ensures ∙ ap is_out_of_order (c.deref-5.ensures.value ∙ events)) in
     let version = version_of (table_view c.args.root.now) in
-    widened version version_4 all.is.narrower _ (of_version version (table_view c.args.root.now) d _ all in_order c.version_number.ensures c.number_at.ensures c.read_split.ensures c.read_spread.ensures c.read_irq.ensures stations groups events)
+    widened version version_4 all.is.narrower _ (of_version version (table_view c.args.root.now) d _ all in_order c.version_number.ensures c.number_value.ensures c.read_split.ensures c.read_spread.ensures c.read_irq.ensures stations groups events)
