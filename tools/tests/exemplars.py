@@ -4,6 +4,17 @@ A chapter begins with the names of its exemplar, one thing of the chapter's kind
 
     Exemplar: `NAME`, in tools `name`; some 99 files.
 
+A number has a name in any case, or in a part of a name, on one line with it:
+
+    Exemplar: `NAME`, in any spelling beside `64`; some 99 files.
+
+Where a new case goes without a word into a catch-all, no file has the exemplar's name. So a chapter may name the type, and what tools compare a kind with:
+
+    A catch-all takes a new `TYPE`, in tools beside `NAME`, `OTHER`.
+
+A file has one if it is code that names the type and has an arm with `_`, a definition with `_` in the place of an argument of the type, or a tool that compares
+a kind with one of the names.
+
 Each of these files has to be among the chapter's paths. A path may leave out what it shares with the path before it in its line or cell: `crates`, the
 crate, or the folder. The path of a folder names all files in it. A chapter with a table of files has to have an exemplar.
 """
@@ -12,6 +23,9 @@ import pathlib
 import re
 
 EXEMPLAR = re.compile(r"^Exemplar: (.+?); some (\d+) files\.", re.M | re.S)
+BESIDE = re.compile(r", in any spelling beside `(\w+)`")
+CATCH_ALL = re.compile(r"^A catch-all takes a new `(\w+)`(?:, in tools beside (.+?))?\.$", re.M | re.S)
+ARM = re.compile(r"^ *(?:_|\(.*\b_\b.*\)) =>", re.M)
 TABLE = "| File | What |"
 QUOTED = re.compile(r"`([^`\s]+)`")
 # folders that are made, and the page itself
@@ -52,6 +66,55 @@ def files_of(top):
                 yield file, file.read_bytes()
 
 
+def pattern_of(names, value):
+    """Finds one of the names; and, if a value is given, a line that has one in any spelling and the value."""
+    words = "|".join(map(re.escape, names))
+    spelled = rf"|^(?=.*\b{value}\b).*(?i:{words})" if value else ""
+    return re.compile(rf"(?<!\w)(?:{words})(?!\w){spelled}".encode(), re.M)
+
+
+def pieces(text, mark):
+    """The pieces of a text between marks that aren't in brackets."""
+    found, depth = [""], 0
+    for at in re.findall(rf"{re.escape(mark)}|.", text, re.S):
+        depth += (at in "([{") - (at in ")]}")
+        if at == mark and not depth:
+            found.append("")
+        else:
+            found[-1] += at
+    return [it.strip() for it in found]
+
+
+def has_catch_all_definition(kind, text):
+    """Whether a definition whose type names the kind has `_` in the place of such an argument."""
+    for name, type_of in re.findall(r"^(?:abbrev |unfoldable )?pub (\S+) : (.*)$", text, re.M):
+        places = [at for at, it in enumerate(pieces(type_of, "→")[:-1]) if re.search(rf"\b{kind}\b", it)]
+        for line in re.findall(rf"^{re.escape(name)} ([^=\n]*)=", text, re.M) if places else []:
+            given = [it for it in pieces(line, " ") if it]
+            if any(given[at : at + 1] == ["_"] for at in places):
+                return True
+    return False
+
+
+def has_catch_all(top, file, text, kind, names):
+    """Whether a file takes a new case of the kind without a word."""
+    path = str(file.relative_to(top))
+    if path.startswith("tools/"):
+        words = "|".join(map(re.escape, names))
+        return bool(names) and file.suffix in ("", ".py") and bool(re.search(rf"\bkind (?:==|!=|in|not in) \W*(?:{words})\b", text))
+    if path.endswith(".antt"):
+        return "/specs/" in path and has_catch_all_definition(kind, text)
+    return path.endswith(".rt") and bool(re.search(rf"\b{kind}\b", text)) and bool(ARM.search(text))
+
+
+def faults_of_catch_alls(top, heading, chapter, files, named):
+    """The files with a catch-all that the chapter doesn't name."""
+    for said in CATCH_ALL.finditer(chapter):
+        for file, data in files:
+            if not named & {file, *file.parents} and has_catch_all(top, file, data.decode(errors="replace"), said[1], QUOTED.findall(said[2] or "")):
+                yield f"{PAGE}: {heading}: a catch-all in {file.relative_to(top)} takes a new {said[1]}, and the chapter doesn't name it"
+
+
 def faults_of_chapter(top, heading, chapter, files):
     """The files that name a chapter's exemplar and that the chapter doesn't name, and a wrong number of files."""
     said = EXEMPLAR.search(chapter)
@@ -59,13 +122,15 @@ def faults_of_chapter(top, heading, chapter, files):
         if TABLE in chapter:
             yield f"{PAGE}: {heading}: it has a table of files, and no line 'Exemplar: `NAME`; some N files.'"
         return
-    names = QUOTED.findall(said[1])
-    word = re.compile(rb"\b(?:" + b"|".join(re.escape(it).encode() for it in names) + rb")\b")
+    beside = BESIDE.search(said[1])
+    names = QUOTED.findall(BESIDE.sub("", said[1]))
+    word = pattern_of(names, beside[1] if beside else "")
     having = [file for file, data in files if word.search(data)]
     named = {path for line in lines_of(chapter) for path in paths_of(top, line)}
     for file in having:
         if not named & {file, *file.parents}:
             yield f"{PAGE}: {heading}: {file.relative_to(top)} names {' or '.join(names)}, and the chapter doesn't name it"
+    yield from faults_of_catch_alls(top, heading, chapter, files, named)
     if not 0.9 * len(having) <= int(said[2]) <= 1.1 * len(having):
         yield f"{PAGE}: {heading}: {len(having)} files name {' or '.join(names)}, not some {said[2]}"
 

@@ -66,6 +66,33 @@ def chapters_without_an_exemplar():
 
 
 @case
+def other_spellings_of_a_number():
+    """With a value each line that has the name in any spelling, and the value, is found."""
+    page = CHAPTER.replace("Exemplar: `Gone`, in texts and tools `gone`; some 6 files.", "Exemplar: `GONE`, in any spelling beside `64`; some 0 files.")
+    for line, found in (("gone: int = 64", True), ("if (path_gone < 64)", True), ("64 are gone", True), ("GONE", True), ("gone = 640", False),
+                        ("gone\n64", False), ("went = 64", False)):  # fmt: skip
+        has = faults_with("spelled", {"docs/CHANGING.md": page, "tools/other": line + "\n"})
+        is_equal(f"a line {line!r}", any(it.startswith("tools/other names GONE") for it in has), found)
+
+
+@case
+def catch_alls():
+    """A catch-all in which a new case goes without a word is found where it is code, a definition or a tool."""
+    page = CHAPTER.replace("Not tried yet.", "Not tried yet.\nA catch-all takes a new `Fate`, in tools beside `lost`.")
+    arm, definition = "fn f(fate: Fate) {\n        Fate::Lost => 1,\n", "pub of : ℕ → Fate → ℕ\n"
+    files = {
+        "crates/lq_low/src/other.rt": [(arm + "        _ => 0,\n", True), (arm + "        (true, _) => 0,\n", True), (arm, False), ("        _ => 0,\n", False)],
+        "crates/lq_low/specs/Other.antt": [(definition + "of n Lost = n\nof n _ = 0\n", True), (definition + "of _ Lost = 0\n", False),
+                                           ("abbrev pub of : (n : ℕ) → Option ℕ → ℕ\nof n _ = 0\n", False), ("pub of : List Fate → ℕ\nof _ = 0\n", True)],
+        "tools/other": [('if it.kind == "lost":\n', True), ("if kind != lost:\n", True), ('if it.kind == "found":\n', False), ('kind = "lost"\n', False)],
+    }  # fmt: skip
+    for path, texts in files.items():
+        for text, found in texts:
+            wanted = [f"a catch-all in {path} takes a new Fate, and the chapter doesn't name it"] if found else []
+            is_equal(f"{path}: {text!r}", faults_with("catch-" + path.replace("/", "-"), {"docs/CHANGING.md": page, path: text}), wanted)
+
+
+@case
 def crates_of_the_library_page():
     """docs/LIBRARY.md names the crates that each example stands on, all of them."""
     page, uses = (TOP / "docs/LIBRARY.md").read_text(encoding="utf-8"), crates.uses_of_crates()
