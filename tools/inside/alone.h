@@ -15,9 +15,6 @@ static Alone beside()
 	Alone it;
 	memset(&it, 0, sizeof it);
 	it.m = machine.of[0];
-	for (auto &s : it.m.seats)
-		s.behind_put = 0;
-	forget(it.m);
 	path_counts(it.sends, &it.wakes, &it.stops, &it.busy);
 	return it;
 }
@@ -26,12 +23,12 @@ static Alone beside()
 static void settle(Machine &m, int t)
 {
 	MachineSeat &s = m.seats[t];
-	if (s.at == AT_ENTER)
-		machine_step(m, t, PLAIN);
-	if (s.at == AT_CHECK && !m.bypass)
-		machine_step(m, t, PLAIN);
-	if (s.at == AT_LEAVE)
-		machine_step(m, t, PLAIN);
+	if (s.at == lq::ENTER)
+		machine_step(m, t, lq::PLAIN);
+	if (s.at == lq::CHECK && !m.q.bypass)
+		machine_step(m, t, lq::PLAIN);
+	if (s.at == lq::LEAVE)
+		machine_step(m, t, lq::PLAIN);
 }
 
 class MachineSearch {
@@ -41,7 +38,6 @@ class MachineSearch {
 	void come(Alone next, int t)
 	{
 		settle(next.m, t);
-		forget(next.m);
 		if (seen.add(key_of(next)))
 			states.push_back(next);
 	}
@@ -55,17 +51,17 @@ class MachineSearch {
 		for (int b = 0; b < bounds.bands && may_send(x, t); b++) {
 			Alone next = x;
 			MachineSeat &s = next.m.seats[t];
-			s.at = AT_ENTER, s.packet = t * bounds.sends + next.sends[t]++, s.band = bounds.bands == 1 ? 1 : b;
+			s.at = lq::ENTER, s.packet = t * bounds.sends + next.sends[t]++, s.band = bounds.bands == 1 ? 1 : b;
 			come(next, t);
 		}
 		if (x.m.seats[t].raised) {
 			Alone next = x;
-			next.m.seats[t].raised = 0, next.m.seats[t].at = AT_ENTER, next.m.seats[t].attempt = INTERRUPT;
+			next.m.seats[t].raised = 0, next.m.seats[t].at = lq::ENTER, next.m.seats[t].how = lq::INTERRUPT;
 			come(next, t);
 		}
 		if (x.wakes) {
 			Alone next = x;
-			next.wakes--, next.m.seats[t].at = AT_WAKE;
+			next.wakes--, next.m.seats[t].at = lq::WAKE, next.m.seats[t].how = lq::WAKER;
 			come(next, t);
 		}
 	}
@@ -73,27 +69,27 @@ class MachineSearch {
 	{
 		Alone next = x;
 		MachineSeat &s = next.m.seats[t];
-		int from = s.at * 8 + look_of(s);
+		int from = way_of(s);
 		machine_step(next.m, t, answer);
-		ways.insert({from, s.at * 8 + look_of(s)});
-		next.stops -= answer == STOPS;
-		next.busy -= answer == IS_BUSY;
+		ways.insert({from, way_of(s)});
+		next.stops -= answer == lq::STOPS;
+		next.busy -= answer == lq::BUSY;
 		come(next, t);
 	}
 	void steps(const Alone &x, int t)
 	{
 		const MachineSeat &s = x.m.seats[t];
-		int room = x.m.len - x.m.n[s.band];
-		if (s.at == AT_IDLE)
+		int room = x.m.q.len - x.m.q.ring[s.band].held;
+		if (s.at == lq::IDLE)
 			return begin(x, t);
-		if (s.at != AT_PUT || room > 0)
-			step(x, t, PLAIN);
-		if (s.at == AT_PUT && may_be_full && room <= batch_of(x.m.len))
-			step(x, t, IS_FULL);
-		if (s.at == AT_XMIT && x.stops)
-			step(x, t, STOPS);
-		if (s.at == AT_XMIT && x.busy)
-			step(x, t, IS_BUSY);
+		if (s.at != lq::PUT || room > 0)
+			step(x, t, lq::PLAIN);
+		if (s.at == lq::PUT && may_be_full && room <= lq::batch_of(x.m.q.len))
+			step(x, t, lq::FULL);
+		if (s.at == lq::XMIT && x.stops)
+			step(x, t, lq::STOPS);
+		if (s.at == lq::XMIT && x.busy)
+			step(x, t, lq::BUSY);
 	}
 
 public:
@@ -114,7 +110,7 @@ public:
 
 static void report_machine_alone(const Alone &first)
 {
-	bool full = same_step.count("Put, full: load slot"); // the machine may say full up to a batch early
+	bool full = same_step.count("put, full: load slot"); // the machine may say full up to a batch early
 	MachineSearch it(first, full);
 	long gone = std::count_if(it.ways.begin(), it.ways.end(), [](const pair<int, int> &way) { return arrows.count(way) > 0; });
 	printf("The machine alone%s has %zu states; the text came to all but %ld of them, and went %ld of its %zu ways.\n", full ? " (a ring may be full)" : "", it.count(), it.missed, gone,

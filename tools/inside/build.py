@@ -39,7 +39,8 @@ class Builder:
     def __init__(self, tree, folder, worlds=HERE, level=2):
         self.tree, self.folder, self.worlds, self.level = Path(tree), Path(folder), Path(worlds), level
         self.folder.mkdir(parents=True, exist_ok=True)
-        ours = [*sorted(HERE.glob("*.h")), *sorted(HERE.glob("*.c")), HERE / "search.cc", *sorted(self.worlds.glob("*.[ch]"))]
+        steps = [HERE.parent / "orders" / name for name in ("state.h", "steps.h")]
+        ours = [*sorted(HERE.glob("*.h")), *sorted(HERE.glob("*.c")), HERE / "search.cc", *steps, *sorted(self.worlds.glob("*.[ch]"))]
         self.sources = checksum(*(file.read_text(encoding="utf-8") for file in ours))
 
     def cut(self, world, changes=()):

@@ -35,19 +35,19 @@ static void finish_schedule()
 		bool moved = false;
 		for (int t = 0; t < seat_count; t++) {
 			MachineSeat &s = m.seats[t];
-			if (s.at == AT_IDLE && s.raised) {
+			if (s.at == lq::IDLE && s.raised) {
 				s.raised = 0;
-				begins(0, t, INTERRUPT, " softirq");
+				begins(0, t, lq::INTERRUPT, " softirq");
 			}
-			for (; s.at != AT_IDLE; moved = true)
-				move(0, t, s.at == AT_PUT && m.n[s.band] >= m.len ? IS_FULL : PLAIN);
+			for (; s.at != lq::IDLE; moved = true)
+				move(0, t, s.at == lq::PUT && m.q.ring[s.band].held >= m.q.len ? lq::FULL : lq::PLAIN);
 			moved |= s.raised;
 		}
-		if (!moved && !m.xoff)
+		if (!moved && !m.q.xoff[0])
 			return;
 		if (!moved) {
 			schedule_line("0 wake");
-			m.seats[0].at = AT_WAKE;
+			m.seats[0].at = lq::WAKE, m.seats[0].how = lq::WAKER;
 		}
 	}
 }

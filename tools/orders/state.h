@@ -2,7 +2,8 @@
  *
  * A value that no later step reads is 0, so that states which go on alike are one state. Sizes come from the compiler's command line
  * (tools/explore has them as words): SEATS, SENDS of each, BANDS that senders use, LEN of a ring, QUEUES, BYPASS, QUOTA (0: more than
- * all packets), WAITS (1: a deactivation as Linux's, whose steps the proved machine needn't have). */
+ * all packets), WAITS (1: a deactivation as Linux's, whose steps the proved machine needn't have). With NUMBERED, of one queue, each packet
+ * has a number, and a ring has room for so many. */
 #define POSITIONS(P) \
     P(IDLE, "idle") P(ENTER, "enter") P(CHECK, "check") P(PUT, "put") P(TRY1, "try1") P(MISS, "miss") P(TRY2, "try2") P(RECHECK, "recheck") \
     P(GATE, "gate") P(XMIT, "xmit") P(STOP, "stop") P(AGAIN, "again") P(POST, "post") P(DEQ, "deq") P(SCAN0, "scan 0") P(SCAN1, "scan 1") \
@@ -20,7 +21,10 @@ enum { PLAIN, FULL, STOPS, HANGS, BUSY };               /* what a ring or the de
 /* the packets of a band's ring, first to last: how many, and of several queues the queue of each */
 struct ring {
     unsigned char held;
-#if QUEUES > 1
+#ifdef NUMBERED
+#define ROOM NUMBERED
+    unsigned char packet[ROOM];
+#elif QUEUES > 1
 #define ROOM (SEATS * SENDS < LEN ? SEATS * SENDS : LEN)
     unsigned char queue[ROOM];
 #else
@@ -39,6 +43,10 @@ struct qdisc {
     unsigned noop : 1;                  /* the queue has noop_qdisc in place of this one: with WAITS */
     unsigned stops : 3, hangs : 2, busys : 3, downs : 2, swaps : 2;     /* how often these may still come */
     unsigned char xoff[QUEUES];         /* __QUEUE_STATE_DRV_XOFF of each queue: 0 open, 1 stopped, 2 hung */
+#ifdef NUMBERED
+    unsigned char gso_packet;           /* the number of the packet in the requeue slot */
+    unsigned char len, bypass;          /* what LEN and BYPASS stand for */
+#endif
     struct ring ring[3];
 };
 
@@ -55,6 +63,9 @@ struct seat {
     unsigned hung : 1;                  /* the device hung: each queue is stopped */
     unsigned was : 1;                   /* DEACTIVATED, as it was loaded */
     unsigned found : 1;                 /* for a change of yours: what a step remembers for a later one */
+#ifdef NUMBERED
+    unsigned char packet;
+#endif
 };
 
 static const char *said;                /* what the last step did, in words */
@@ -68,7 +79,9 @@ static void ring_put(struct qdisc *q, struct seat *s)
 {
     struct ring *r = &q->ring[s->band];
     if (r->held == ROOM) { lost("a packet is put twice"); return; }
-#if QUEUES > 1
+#ifdef NUMBERED
+    r->packet[r->held] = s->packet;
+#elif QUEUES > 1
     r->queue[r->held] = s->queue;
 #endif
     r->held++;
@@ -78,7 +91,11 @@ static void ring_take(struct qdisc *q, struct seat *s, int band)
     struct ring *r = &q->ring[band];
     if (!r->held) { lost("a packet is taken from an empty band"); return; }
     r->held--;
-#if QUEUES > 1
+#ifdef NUMBERED
+    s->packet = r->packet[0];
+    for (int i = 0; i < r->held; i++) r->packet[i] = r->packet[i + 1];
+    r->packet[r->held] = 0;
+#elif QUEUES > 1
     s->queue = r->queue[0];
     for (int i = 0; i < r->held; i++) r->queue[i] = r->queue[i + 1];
     r->queue[r->held] = 0;
@@ -86,5 +103,20 @@ static void ring_take(struct qdisc *q, struct seat *s, int band)
     (void)s;
 #endif
 }
-static void slot_put(struct qdisc *q, struct seat *s) { q->gso_skb = 1; q->gso_queue = s->queue; }
-static void slot_take(struct qdisc *q, struct seat *s) { s->queue = q->gso_queue; q->gso_skb = q->gso_queue = 0; }
+static void slot_put(struct qdisc *q, struct seat *s)
+{
+    q->gso_skb = 1;
+    q->gso_queue = s->queue;
+#ifdef NUMBERED
+    q->gso_packet = s->packet;
+#endif
+}
+static void slot_take(struct qdisc *q, struct seat *s)
+{
+    s->queue = q->gso_queue;
+    q->gso_skb = q->gso_queue = 0;
+#ifdef NUMBERED
+    s->packet = q->gso_packet;
+    q->gso_packet = 0;
+#endif
+}

@@ -4,12 +4,10 @@ import io
 
 from tests.bench import HERE, ROOM, TOP, case, expect, is_equal, load, run
 
-# it is called with the tree, for the states and for the order; its answers are those of a row
+# it is called with the tree; its answers are those of a row
 STAND_IN = """#!/bin/sh
 echo "$1" >>"{called}"
-case $* in
-*--machine*) for i in 1 2 3 4; do echo "tools/lib/machine.py has $i states{states}"; done; exit {counts} ;;
-esac
+[ {cut} = 0 ] || exit {cut}
 for order; do :; done
 [ {finds} = 0 ] || echo "{order}" >"$order"
 exit {finds}
@@ -17,10 +15,8 @@ exit {finds}
 # of a row: what the stand-in answers, the exit code, and what is said
 ORDER = "seats 2 len 2 bypass 0\n0 send 1\n0 step 3"
 ROWS = [
-    ({}, 0, "4 of 4 sizes beside the kernel's text: tools/lib/machine.py has as many states\nthe order of the text without its second try, as a schedule: the program works it as the model does\n"),
-    ({"states": ": another number"}, 1, "0 of 4 sizes beside the kernel's text"),
-    ({"counts": 1}, 1, "4 of 4 sizes beside the kernel's text"),
-    ({"counts": 3}, 1, "the kernel's text isn't compared"),
+    ({}, 0, "the order of the text without its second try, as a schedule: the program works it as the model does\n"),
+    ({"cut": 3}, 1, "the kernel's text isn't compared"),
     ({"finds": 0}, 1, "the text without its second try leaves no packet"),
     ({"order": ORDER + "\n0 send 1"}, 1, "as a schedule: differs"),
 ]
@@ -34,7 +30,7 @@ def compare_tree():
     compare.TOP, compare.PARTS = room, ()
     called, stand_in = room / "called", room / "tools/inside-calls"
     for row, code, said in ROWS:
-        stand_in.write_text(STAND_IN.format(**{"called": called, "states": ", too", "counts": 0, "finds": 1, "order": ORDER} | row), encoding="utf-8")
+        stand_in.write_text(STAND_IN.format(**{"called": called, "cut": 0, "finds": 1, "order": ORDER} | row), encoding="utf-8")
         stand_in.chmod(0o755)
         with contextlib.redirect_stdout(io.StringIO()) as told:
             ended = compare.main([str(HERE / "tests/by_the_rules.py"), "0", "--tree", str(room / "tree")])

@@ -202,7 +202,7 @@ def inside_calls_words():
         ("--model", "x86", "--fine", "1"): "--fine doesn't go with --model", ("--breaks", "--size", "bypass=0"): "--size doesn't go with --breaks",
         ("--breaks", "--change", "f", "a", "b"): "--change doesn't go with --breaks", ("--breaks", "--model", "x86"): "--model doesn't go with --breaks",
         ("--named", "second-try-left-out"): "--named goes with --breaks", ("--seed", "3"): "--seed goes with --walks",
-        ("--walks", "3", "--machine"): "--machine doesn't go with --walks", ("--model", "weak", "--walks", "3"): "--walks with --model goes with --size or --change",
+        ("--model", "weak", "--walks", "3"): "--walks with --model goes with --size or --change",
     }  # fmt: skip
     for words, text in refused.items():
         expect(f"inside-calls {words}", run(tool, ROOM, *words), 2, text)
