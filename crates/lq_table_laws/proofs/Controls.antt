@@ -17,6 +17,7 @@ use Rattle.lq_model.specs.Control.{after_purge, control_at, found_inside, holds_
 use Rattle.lq_model.specs.Machine.{Purge, Qdisc, bit, idle_seat, is_closed, state_word}
 use Rattle.lq_model.specs.Positions.{holds_lock}
 use Rattle.lq_model.specs.Steps.{is_idle}
+use Rattle.lq_run_core.specs.Progress.{Course}
 use Rattle.lq_table.specs.Controls.{MayDeactivate, begin_control_view, set_deactivated_view, clear_deactivated_view, end_control_view}
 use Rattle.lq_table.specs.Inside.{load_inside_view}
 use Rattle.lq_table.specs.Purges.{no_draining, no_missed, purge_ending, purge_going, reset_draining_view, reset_draining_view_in, reset_missed_view, reset_missed_view_in}
@@ -27,7 +28,7 @@ use Rattle.lq_table.specs.Locks.{try_lock_view_in_control, unlock_view_in_contro
 use Rattle.lq_table.proofs.Bits.{and_draining, and_event, and_missed, event_small, or_event}
 use Rattle.lq_table.proofs.ByName.{set_back, set_lock, set_state}
 use Rattle.lq_table_laws.specs.Stands.{Table}
-use Rattle.lq_table_laws.specs.Stepped.{Leads}
+use Rattle.lq_table_laws.specs.Stepped.{Leads, none_sent, of_control}
 use Rattle.lq_table_laws.proofs.Calls.{Beside, KeepsRings, alike_still}
 use Rattle.lq_table_laws.proofs.Determined.{SamePart, bands_still, bit_same, had, has, now, part_by, part_still, same_as, shown_tells, slot_still}
 use Rattle.lq_table_laws.proofs.Locks.{one_home, one_station}
@@ -43,9 +44,9 @@ module _ (k : Setup) (s : Table) (r : Rule k s) (i x id : ℕ) (v w : View) (hom
 
   -- a step of control is one move
   pub control_move : (step : ControlStep) (holds : Bool) → v.place.position ≡ Control holds → may_control step (is_sole (machine_of q s.views)) holds q ≡ true → w.place ≡ (control_at step holds q v.place).seat
-      → Alike r'.qdisc (control_at step holds q v.place).qdisc → Leads 1 18 (machine_of q s.views) (machine_of r'.qdisc (set s.views id w))
+      → Alike r'.qdisc (control_at step holds q v.place).qdisc → Leads (of_control 1 18) (machine_of q s.views) (machine_of r'.qdisc (set s.views id w))
   control_move step holds at may to e =
-      leads_by s.views id v w here live live' q r'.qdisc (control_at step holds q v.place) 18
+      leads_by s.views id v w here live live' q r'.qdisc (control_at step holds q v.place) (of_control 1 18)
       (by_control q (seats_of s.views) (place s.views id v w here live live') v.place (inside s.views id v w here live live') (there s.views id v w here live live') step holds (ap is_control at) (ap holds_as_control at) may) to e r.parts.machine.invariant.kept.one_holder
 
   -- the first seat does control, and knows how far it has come
@@ -86,14 +87,14 @@ module _ (k : Setup) (s : Table) (r : Rule k s) (i x id : ℕ) (v w : View) (hom
 
   -- A CALL OF CONTROL BEGINS, AND ENDS
 
-  pub begin_move : w ≡ begin_control_view v → homes ≡ s.homes → x ≡ get_or s.words i 0 → v.place.position ≡ Idle → Leads 1 1 (machine_of q s.views) (machine_of r'.qdisc (set s.views id w))
+  pub begin_move : w ≡ begin_control_view v → homes ≡ s.homes → x ≡ get_or s.words i 0 → v.place.position ≡ Idle → Leads (none_sent 1 1) (machine_of q s.views) (machine_of r'.qdisc (set s.views id w))
   begin_move is same word at =
-      leads_by s.views id v w here live live' q r'.qdisc (record { qdisc = q; seat = record v.place { position = Control false } }) 1
+      leads_by s.views id v w here live live' q r'.qdisc (record { qdisc = q; seat = record v.place { position = Control false } }) (none_sent 1 1)
       (by_start q (seats_of s.views) (place s.views id v w here live live') v.place (inside s.views id v w here live live') (there s.views id v w here live live') Controls (ap is_idle at) tt) (ap (λ (u : View). u.place) is)
       (alike_still k s r i x id v w homes r' here live live' q W (account k r.state).down (back word) (record { slots = refl; size = refl }) r.parts.station.stands refl (record { bands = refl; len = refl; slot = refl; phase = refl; purge = refl }) same
       (ap (λ (u : View). holds_lock u.place.position) is ∙ sym (ap holds_lock at)) (subst (Beside v) (sym is) record { part = record { ends = refl; slot = refl; resizing = refl }; first = refl; phase = refl; purge = refl })) r.parts.machine.invariant.kept.one_holder
 
-  pub return_move : w ≡ end_control_view v → homes ≡ s.homes → x ≡ get_or s.words i 0 → v.place.position ≡ Control false → Leads 1 18 (machine_of q s.views) (machine_of r'.qdisc (set s.views id w))
+  pub return_move : w ≡ end_control_view v → homes ≡ s.homes → x ≡ get_or s.words i 0 → v.place.position ≡ Control false → Leads (of_control 1 18) (machine_of q s.views) (machine_of r'.qdisc (set s.views id w))
   return_move is same word at =
       control_move Return false at refl (ap (λ (u : View). u.place) is)
       (alike_still k s r i x id v w homes r' here live live' q W (account k r.state).down (back word) (record { slots = refl; size = refl }) r.parts.station.stands refl (record { bands = refl; len = refl; slot = refl; phase = refl; purge = refl }) same
@@ -101,7 +102,7 @@ module _ (k : Setup) (s : Table) (r : Rule k s) (i x id : ℕ) (v w : View) (hom
 
   -- THE CALLS INSIDE
 
-  pub find_move : (holds : Bool) → w ≡ load_inside_view (get_or s.words i 0) v → homes ≡ s.homes → x ≡ get_or s.words i 0 → i ≡ inside_place → v.place.position ≡ Control holds → Leads 1 18 (machine_of q s.views) (machine_of r'.qdisc (set s.views id w))
+  pub find_move : (holds : Bool) → w ≡ load_inside_view (get_or s.words i 0) v → homes ≡ s.homes → x ≡ get_or s.words i 0 → i ≡ inside_place → v.place.position ≡ Control holds → Leads (of_control 1 18) (machine_of q s.views) (machine_of r'.qdisc (set s.views id w))
   find_move holds is same word at_place at =
       let first = is_first holds at in let t = r.parts.station.stands in let q' : Qdisc = record q { phase = found_inside q.inside q.phase } in
       let found : get_or s.words i 0 ≡ q.inside = ap (λ (z : ℕ). get_or s.words z 0) at_place ∙ t.inside in
@@ -127,8 +128,8 @@ reset_draining_live (Some u) v = either_live u.missed v (purge_ending no_drainin
 
 module _ (k : Setup) (s : Table) (r : Rule k s) (x id : ℕ) (v w : View) (homes : List (maybe.Option (Option StationState)))
     (r' : Rule k (record { words = set s.words state_place x; homes = homes; views = set s.views id w })) (here : get_elem? s.views id ≡ some v) (live : is_live v ≡ true) (live' : is_live w ≡ true) (same : homes ≡ s.homes) where
-  abbrev Goal : ℕ → ℕ → Type 0
-  Goal moves cost = Leads moves cost (machine_of r.qdisc s.views) (machine_of r'.qdisc (set s.views id w))
+  abbrev Goal : Course → Type 0
+  Goal c = Leads c (machine_of r.qdisc s.views) (machine_of r'.qdisc (set s.views id w))
 
   abbrev n : ℕ
   n = get_or s.words state_place 0
@@ -172,12 +173,12 @@ module _ (k : Setup) (s : Table) (r : Rule k s) (x id : ℕ) (v w : View) (homes
       none_down None e = refl
       none_down (Some y) e = absurd (true≢false e)
 
-  pub deactivate_move : (event : ℕ) → w ≡ set_deactivated_view event v → x ≡ bit_or n (2 + 256 * (event + 1)) → MayDeactivate v → v.place.position ≡ Control false → Goal 1 18
+  pub deactivate_move : (event : ℕ) → w ≡ set_deactivated_view event v → x ≡ bit_or n (2 + 256 * (event + 1)) → MayDeactivate v → v.place.position ≡ Control false → Goal (of_control 1 18)
   deactivate_move event is word may at = let d = deactivates event is word may (ap holds_lock at) in
       control_move k s r state_place x id v w homes r' here live live' SetDeactivated false at (ap₂ (λ (b : Bool) (p : Option Purge). not b && is_none p) d.0 d.1) (ap (λ (u : View). u.place) is) d.2
 
   -- it is cleared after the purge
-  pub activate_move : w ≡ clear_deactivated_view v → x ≡ bit_and n 13 → v.place.position ≡ Control false → v.control.phase ≡ Purged → v.control.purge ≡ None → Goal 1 18
+  pub activate_move : w ≡ clear_deactivated_view v → x ≡ bit_and n 13 → v.place.position ≡ Control false → v.control.phase ≡ Purged → v.control.purge ≡ None → Goal (of_control 1 18)
   activate_move is word at purged calm =
       let q = r.qdisc in let first = r.parts.machine.firsts.control id v here live (ap is_control at) in let q' : Qdisc = record q { deactivated = false; phase = Active } in
       let phase : q.phase ≡ Purged = sym (phase_is k s r state_place x id v w homes r' here live live' first) ∙ purged in let no_purge : q.purge ≡ None = sym (purge_is k s r state_place x id v w homes r' here live live' first) ∙ calm in
@@ -188,19 +189,19 @@ module _ (k : Setup) (s : Table) (r : Rule k s) (x id : ℕ) (v w : View) (homes
       (ap (λ (u : View). u.control.phase) is) (ap (λ (u : View). u.control.purge) is ∙ (calm ∙ sym no_purge)))
 
   -- from no call: the call of control begins with it
-  pub deactivate_moves : (event : ℕ) → w ≡ set_deactivated_view event v → x ≡ bit_or n (2 + 256 * (event + 1)) → MayDeactivate v → v.place.position ≡ Idle → Goal 2 19
+  pub deactivate_moves : (event : ℕ) → w ≡ set_deactivated_view event v → x ≡ bit_or n (2 + 256 * (event + 1)) → MayDeactivate v → v.place.position ≡ Idle → Goal (of_control 2 19)
   deactivate_moves event is word may at =
       let d = deactivates event is word may (ap holds_lock at) in let i = place s.views id v w here live live' in let seats : List Seat = seats_of s.views in let inside_ = inside s.views id v w here live live' in
       let begun_ : Seat = record v.place { position = Control false } in let q = r.qdisc in
       let first = by_start q seats i v.place inside_ (there s.views id v w here live live') Controls (ap is_idle at) tt in
       let second = by_control q (set seats i begun_) i begun_ (let l = length-set seats i begun_ in omega arith) (get_or-set_same seats i begun_ idle_seat inside_) SetDeactivated false refl refl
       (ap₂ (λ (b : Bool) (p : Option Purge). not b && is_none p) d.0 d.1) in
-      leads_twice s.views id v w here live live' q r'.qdisc (record { qdisc = q; seat = begun_ }) (record { qdisc = record q { deactivated = true; phase = Closing }; seat = begun_ }) 1 18 first second (ap (λ (u : View). u.place) is) d.2
+      leads_twice s.views id v w here live live' q r'.qdisc (record { qdisc = q; seat = begun_ }) (record { qdisc = record q { deactivated = true; phase = Closing }; seat = begun_ }) (none_sent 1 1) (of_control 1 18) first second (ap (λ (u : View). u.place) is) d.2
       r.parts.machine.invariant.kept.one_holder (still_serves q seats i v.place begun_ inside_ (there s.views id v w here live live') (ap holds_lock at) refl)
 
   -- A PURGE CLEARS THE BITS
 
-  pub reset_missed_move : (u : Purge) → w ≡ reset_missed_view v → x ≡ bit_and n 18446744073709551611 → n < 18446744073709551616 → v.place.position ≡ Control true → v.control.purge ≡ Some u → not (nat_lt u.band 3) ≡ true → Goal 1 18
+  pub reset_missed_move : (u : Purge) → w ≡ reset_missed_view v → x ≡ bit_and n 18446744073709551611 → n < 18446744073709551616 → v.place.position ≡ Control true → v.control.purge ≡ Some u → not (nat_lt u.band 3) ≡ true → Goal (of_control 1 18)
   reset_missed_move u is word small at under_way passed =
       let q = r.qdisc in let first = r.parts.machine.firsts.control id v here live (ap is_control at) in let phase = phase_is k s r state_place x id v w homes r' here live live' first in
       let purge : q.purge ≡ Some u = sym (purge_is k s r state_place x id v w homes r' here live live' first) ∙ under_way in
@@ -208,7 +209,7 @@ module _ (k : Setup) (s : Table) (r : Rule k s) (x id : ℕ) (v w : View) (homes
       let bits : x ≡ state_word (record q { missed = false }) + 256 * e = word ∙ (ap (λ (z : ℕ). bit_and z 18446744073709551611) r.parts.station.stands.state ∙ and_missed q.sched q.deactivated q.missed q.draining e (below small)) in
       by u.draining refl told bits purge phase first
     where
-      by : (b : Bool) → u.draining ≡ b → w ≡ reset_missed_view_in (Some u) v → x ≡ state_word (record r.qdisc { missed = false }) + 256 * e → r.qdisc.purge ≡ Some u → v.control.phase ≡ r.qdisc.phase → v.control.first ≡ true → Goal 1 18
+      by : (b : Bool) → u.draining ≡ b → w ≡ reset_missed_view_in (Some u) v → x ≡ state_word (record r.qdisc { missed = false }) + 256 * e → r.qdisc.purge ≡ Some u → v.control.phase ≡ r.qdisc.phase → v.control.first ≡ true → Goal (of_control 1 18)
       by true both told bits purge phase first = let q = r.qdisc in let is' : w ≡ purge_ending no_missed v = told ∙ ap (λ (b : Bool). if b then purge_ending no_missed v else purge_going no_missed (record u { missed = true }) v) both in
           let q' : Qdisc = record q { missed = false; purge = None; phase = after_purge q.phase } in
           let leads : purge_missed q.purge q ≡ q' = ap (λ (o : Option Purge). purge_missed o q) purge ∙ ap (λ (b : Bool). if b then q' else record q { missed = false; purge = Some (record u { missed = true }) }) both in
@@ -222,7 +223,7 @@ module _ (k : Setup) (s : Table) (r : Rule k s) (x id : ℕ) (v w : View) (homes
           (subst (Alike r'.qdisc) (sym leads) (alike_state q' (account k r.state).down first (ap (λ (y : View). y.control.first) is') bits refl (ap (λ (y : View). holds_lock y.place.position) is')
           (subst (λ (y : View). SamePart y.holder v.holder) (sym is') record { ends = refl; slot = refl; resizing = refl }) (ap (λ (y : View). y.control.phase) is' ∙ phase) (ap (λ (y : View). y.control.purge) is')))
 
-  pub reset_draining_move : (u : Purge) → w ≡ reset_draining_view v → x ≡ bit_and n 18446744073709551607 → n < 18446744073709551616 → v.place.position ≡ Control true → v.control.purge ≡ Some u → not (nat_lt u.band 3) ≡ true → Goal 1 18
+  pub reset_draining_move : (u : Purge) → w ≡ reset_draining_view v → x ≡ bit_and n 18446744073709551607 → n < 18446744073709551616 → v.place.position ≡ Control true → v.control.purge ≡ Some u → not (nat_lt u.band 3) ≡ true → Goal (of_control 1 18)
   reset_draining_move u is word small at under_way passed =
       let q = r.qdisc in let first = r.parts.machine.firsts.control id v here live (ap is_control at) in let phase = phase_is k s r state_place x id v w homes r' here live live' first in
       let purge : q.purge ≡ Some u = sym (purge_is k s r state_place x id v w homes r' here live live' first) ∙ under_way in
@@ -235,7 +236,7 @@ module _ (k : Setup) (s : Table) (r : Rule k s) (x id : ℕ) (v w : View) (homes
       leads_to true z e = ap (λ (b : Bool). if b && true then record z { purge = None; phase = after_purge z.phase } else record z { purge = Some (record u { draining = true }) }) e
       leads_to false z e = ap (λ (b : Bool). if b && true then record z { purge = None; phase = after_purge z.phase } else record z { purge = Some (record u { draining = true }) }) e
 
-      by : (b : Bool) → u.missed ≡ b → w ≡ reset_draining_view_in (Some u) v → x ≡ state_word (record r.qdisc { draining = false }) + 256 * e → r.qdisc.purge ≡ Some u → v.control.phase ≡ r.qdisc.phase → v.control.first ≡ true → Goal 1 18
+      by : (b : Bool) → u.missed ≡ b → w ≡ reset_draining_view_in (Some u) v → x ≡ state_word (record r.qdisc { draining = false }) + 256 * e → r.qdisc.purge ≡ Some u → v.control.phase ≡ r.qdisc.phase → v.control.first ≡ true → Goal (of_control 1 18)
       by true both told bits purge phase first = let q = r.qdisc in let is' : w ≡ purge_ending no_draining v = told ∙ ap (λ (b : Bool). if b then purge_ending no_draining v else purge_going no_draining (record u { draining = true }) v) both in
           let q' : Qdisc = record q { draining = false; purge = None; phase = after_purge q.phase } in
           let leads : purge_draining q.purge q ≡ q' = ap (λ (o : Option Purge). purge_draining o q) purge ∙ leads_to true (record q { draining = false }) both in
@@ -265,7 +266,7 @@ module _ (k : Setup) (s : Table) (r : Rule k s) (x id : ℕ) (v w : View) (homes
 
   -- control gets it, and with it the station
   pub control_gets : (d : HolderPart) → w ≡ try_lock_view_in_control d v → s.homes ≡ some (Some (shown d)) ∷ [] → IsResting d.size d.ends → d.resizing ≡ None → get_or s.words lock_place 0 ≡ 0 → x ≡ 1 → v.place.position ≡ Control false
-      → Leads 1 18 (machine_of r.qdisc s.views) (machine_of r'.qdisc (set s.views id w))
+      → Leads (of_control 1 18) (machine_of r.qdisc s.views) (machine_of r'.qdisc (set s.views id w))
   control_gets d is out rests calm found word at =
       let free : r.qdisc.locked ≡ false = bit_same r.qdisc.locked false (sym r.parts.station.stands.lock ∙ found) in let home = r.parts.station.lends.home free in
       let D : HolderPart = holders r.state (account k r.state) (words_of k s.words).size in
@@ -277,7 +278,7 @@ module _ (k : Setup) (s : Table) (r : Rule k s) (x id : ℕ) (v w : View) (homes
 
   -- it releases it: of an active station it then looks at the state as after a run
   pub control_releases : w ≡ unlock_view_in_control v → homes ≡ some (Some (shown v.holder)) ∷ [] → IsResting v.holder.size v.holder.ends → v.holder.resizing ≡ None → x ≡ 0 → v.place.position ≡ Control true → v.control.purge ≡ None
-      → Leads 1 18 (machine_of r.qdisc s.views) (machine_of r'.qdisc (set s.views id w))
+      → Leads (of_control 1 18) (machine_of r.qdisc s.views) (machine_of r'.qdisc (set s.views id w))
   control_releases is back rests calm word at no_purge =
       let free' : r'.qdisc.locked ≡ false = bit_same r'.qdisc.locked false (sym r'.parts.station.stands.lock ∙ (ap (λ (z : Words). z.lock) lock_is ∙ word)) in
       let home = r'.parts.station.lends.home free' in let D' : HolderPart = holders r'.state (account k r'.state) (words_of k (set s.words lock_place x)).size in
@@ -287,7 +288,7 @@ module _ (k : Setup) (s : Table) (r : Rule k s) (x id : ℕ) (v w : View) (homes
       let e = alike_lock false word first (ap (λ (u : View). u.control) is) (part_by D' v.holder _ (shown_tells D' v.holder shows_d home.resting rests home.calm calm) (had k s r lock_place x id v w homes r' here live live' (ap holds_lock at))) in
       by (is_closed v.control.phase) refl phase purge e
     where
-      by : (b : Bool) → is_closed v.control.phase ≡ b → v.control.phase ≡ r.qdisc.phase → r.qdisc.purge ≡ None → Alike r'.qdisc (record r.qdisc { locked = false }) → Leads 1 18 (machine_of r.qdisc s.views) (machine_of r'.qdisc (set s.views id w))
+      by : (b : Bool) → is_closed v.control.phase ≡ b → v.control.phase ≡ r.qdisc.phase → r.qdisc.purge ≡ None → Alike r'.qdisc (record r.qdisc { locked = false }) → Leads (of_control 1 18) (machine_of r.qdisc s.views) (machine_of r'.qdisc (set s.views id w))
       by true closed phase purge e = control_move k s r lock_place x id v w homes r' here live live' Release true at
           (ap₂ (λ (p : Option Purge) (b : Bool). is_none p && b) purge (r.parts.machine.invariant.deactivation ∙ (ap is_closed (sym phase) ∙ closed)))
           (ap (λ (u : View). u.place) is ∙ ap (λ (b : Bool). record v.place { position = if b then Control false else Tail false }) closed) e

@@ -19,6 +19,7 @@ use Rattle.lq_model.specs.Machine.{Qdisc, is_queue_open}
 use Rattle.lq_model.specs.Plan.{queue_in}
 use Rattle.lq_model.specs.Positions.{holds_lock}
 use Rattle.lq_model.specs.Steps.{After, deq, dequeue_begins, goes_to, queue_of_slot, slot_taken, step_at}
+use Rattle.lq_run_core.specs.Progress.{accepted_at}
 use Rattle.lq_table.specs.Places.{xoff_word}
 use Rattle.lq_table.specs.Views.{Setup, View, machine_packet}
 use Rattle.lq_table.specs.Rule.{Words, words_of, account, is_live, machine_of, Rule}
@@ -29,7 +30,7 @@ use Rattle.lq_table.proofs.Frames.{Fits}
 use Rattle.lq_table.proofs.StoreXoffKept.{gates, stays_out}
 use Rattle.lq_table.proofs.Shows.{shows_queues}
 use Rattle.lq_table_laws.specs.Stands.{Table}
-use Rattle.lq_table_laws.specs.Stepped.{Leads}
+use Rattle.lq_table_laws.specs.Stepped.{Leads, none_sent}
 use Rattle.lq_table_laws.proofs.Calls.{Beside, alike_holder, by_fits}
 use Rattle.lq_table_laws.proofs.Devices.{loaded, loads_only, slot_is, store_move}
 
@@ -52,7 +53,7 @@ module _ (k : Setup) (s : Table) (r : Rule k s) (x id : ℕ) (v w : View) (homes
   AfterAt i = Rule k (record { words = set s.words i x; homes = homes; views = set s.views id w })
 
   abbrev Goal : (i : ℕ) → AfterAt i → Type 0
-  Goal i r' = Leads 1 0 (machine_of q s.views) (machine_of r'.qdisc (set s.views id w))
+  Goal i r' = Leads (none_sent 1 0) (machine_of q s.views) (machine_of r'.qdisc (set s.views id w))
 
   -- with an empty requeue slot
   pub deq_none_move : (r' : AfterAt (xoff_word k 0)) → w ≡ load_xoff_view (get_or s.words (xoff_word k 0) 0) v → x ≡ get_or s.words (xoff_word k 0) 0 → v.place.position ≡ Deq → v.holder.slot ≡ None → Goal (xoff_word k 0) r'
@@ -60,7 +61,7 @@ module _ (k : Setup) (s : Table) (r : Rule k s) (x id : ℕ) (v w : View) (homes
       let none : q.slot ≡ None = sym (slot_is k s r x id v w homes here live same (ap holds_lock at)) ∙ ap (option_map (machine_packet k.infos)) empty in
       let to : View = record v { place = record v.place { position = if n == 0 then Scan 0 false else BlockedClear (NoneTaken 0) } } in
       let told : load_xoff_view n v ≡ to = (λ j. load_xoff_view_from (at j) (empty j) n v) ∙ same_either (n == 0) to in let is' = is ∙ told in
-      loads_only k s r x id v w homes here live same 0 r' word (ap is_live is' ∙ live) (subst (λ (z : Position). Fits q q Plain z v.place q) (sym at) record { may = refl; seat = refl; words = ap (λ (a : After). a.qdisc) (no_slot q v.place none) })
+      loads_only k s r x id v w homes here live same 0 r' (ap (λ (z : Position). accepted_at z Plain) at) word (ap is_live is' ∙ live) (subst (λ (z : Position). Fits q q Plain z v.place q) (sym at) record { may = refl; seat = refl; words = ap (λ (a : After). a.qdisc) (no_slot q v.place none) })
       (ap (λ (u : View). u.place) is' ∙ sym (ap (λ (z : Position). (step_at z Plain q v.place).seat) at ∙ (ap (λ (a : After). a.seat) (no_slot q v.place none)
       ∙ ap (λ (m : ℕ). record v.place { position = if m == 0 then Scan 0 false else BlockedClear (NoneTaken 0) }) (loaded k s r x id v w homes here live same 0))))
       (subst (Beside v) (sym is') record { part = record { ends = refl; slot = refl; resizing = refl }; first = refl; phase = refl; purge = refl })
@@ -78,7 +79,7 @@ module _ (k : Setup) (s : Table) (r : Rule k s) (x id : ℕ) (v w : View) (homes
       dite (ℕ_discrete n 0)
       (λ zero_. let open_ : is_queue_open q p.queue ≡ true = ap (λ (z : ℕ). eqb z 0) (found ∙ zero_) in let q' : Qdisc = record q { slot = None } in let is' = is ∙ (told ∙ ap (λ (z : ℕ). load_xoff_view_from Deq (Some m) z v) zero_) in
       let live' : is_live w ≡ true = ap is_live is' ∙ live in let t = r.parts.station.stands in
-      by_fits k s r i x id v w homes r' here live live' q Plain q' (subst (λ (z : Position). Fits q q Plain z v.place q') (sym at) record { may = refl; seat = refl; words = ap (λ (a : After). a.qdisc) (gates v.place p q has open_) })
+      by_fits k s r i x id v w homes r' here live live' q Plain (ap (λ (z : Position). accepted_at z Plain) at) q' (subst (λ (z : Position). Fits q q Plain z v.place q') (sym at) record { may = refl; seat = refl; words = ap (λ (a : After). a.qdisc) (gates v.place p q has open_) })
       (ap (λ (u : View). u.place) is' ∙ sym (ap (λ (z : Position). (step_at z Plain q v.place).seat) at ∙ ap (λ (a : After). a.seat) (gates v.place p q has open_)))
       (alike_holder k s r i x id v w homes r' here live live' q' W (account k r.state).down back (record { slots = refl; size = refl }) (record { state = t.state; lock = t.lock; xoff = t.xoff; inside = t.inside; bypass = t.bypass }) holds (ap (λ (u : View). holds_lock u.place.position) is')
       (ap (λ (u : View). u.holder.ends) is') (ap (λ (u : View). u.holder.resizing) is') (ap (λ (u : View). option_map (machine_packet k.infos) u.holder.slot) is')
@@ -86,7 +87,7 @@ module _ (k : Setup) (s : Table) (r : Rule k s) (x id : ℕ) (v w : View) (homes
       (λ other. let shut : is_queue_open q p.queue ≡ false = ap (λ (z : ℕ). eqb z 0) found ∙ ne_eqb n 0 other in let to : View = record v { place = record v.place { position = BlockedClear (NoneTaken p.queue) } } in
       let leads : load_xoff_view_from Deq (Some m) n v ≡ to = ap (λ (b : Bool). if b then picking (Some m) (record v { place = record v.place { position = if b then Gate p false else BlockedClear (NoneTaken p.queue) } }) else record v { place = record v.place { position = if b then Gate p false else BlockedClear (NoneTaken p.queue) } }) (ne_eqb n 0 other) in
       let is' = is ∙ (told ∙ leads) in
-      loads_only k s r x id v w homes here live same (queue_in k.infos m) r' word (ap is_live is' ∙ live) (subst (λ (z : Position). Fits q q Plain z v.place q) (sym at) record { may = refl; seat = refl; words = ap (λ (a : After). a.qdisc) (stays_out v.place p q has shut) })
+      loads_only k s r x id v w homes here live same (queue_in k.infos m) r' (ap (λ (z : Position). accepted_at z Plain) at) word (ap is_live is' ∙ live) (subst (λ (z : Position). Fits q q Plain z v.place q) (sym at) record { may = refl; seat = refl; words = ap (λ (a : After). a.qdisc) (stays_out v.place p q has shut) })
       (ap (λ (u : View). u.place) is' ∙ sym (ap (λ (z : Position). (step_at z Plain q v.place).seat) at ∙ ap (λ (a : After). a.seat) (stays_out v.place p q has shut)))
       (subst (Beside v) (sym is') record { part = record { ends = refl; slot = refl; resizing = refl }; first = refl; phase = refl; purge = refl }))
 

@@ -1,20 +1,28 @@
 -- What a step of the words sees is what the machine's step sees: so it is that step.
-use Rattle.std.proofs.Common.{◌≡◌, ◌-◌, Bool, true, false, refl, ◌∙◌, None}
+use Rattle.std.proofs.Common.{◌≡◌, ◌-◌, Bool, true, false, [], refl, sym, ◌∙◌, None}
 use Rattle.std.specs.Prelude.{if◌then◌else◌}
 use Rattle.std.proofs.lemmas.Bool.{false≢true}
+use Rattle.lq_model.specs.declared.machine.Answer.{Answer}
 use Rattle.lq_model.specs.declared.machine.Answer.TheVariants.{Plain}
 use Rattle.lq_model.specs.declared.machine.Blocked.TheVariants.{InHand, NoneTaken}
+use Rattle.lq_model.specs.declared.machine.Packet.{Packet}
 use Rattle.lq_model.specs.declared.machine.Position.{Position}
-use Rattle.lq_model.specs.declared.machine.Position.TheVariants.{Again, BlockedClear, BlockedDrain, BlockedMiss, Check, ClearDraining, ClearMissed, Late, Leave, Miss, Post, Quota, Recheck, Sched, Soft, SoftClear, Tail, Test, Try2, Unlock}
+use Rattle.lq_model.specs.declared.machine.Position.TheVariants.{Again, BlockedClear, BlockedDrain, BlockedMiss, Check, ClearDraining, ClearMissed, Late, Leave, Miss, Post, Quota, Recheck, Sched, Soft, SoftClear, Tail, Test, Try2, Unlock, Xmit}
 use Rattle.lq_model.specs.declared.machine.Seat.{Seat}
 use Rattle.lq_model.specs.Machine.{Qdisc, is_non_empty}
 use Rattle.lq_model.specs.Positions.{holds_lock, in_hand}
 use Rattle.lq_model.specs.Steps.{After, call_ends, gives_up, goes_to, run_begins}
+use Rattle.lq_run_core.specs.Progress.{accepted_at}
 use Rattle.lq_table.specs.States.{clear_draining_at, clear_missed_at, clear_sched_at, miss_at, set_sched_at, set_draining_at, set_missed_at}
 use Rattle.lq_table_laws.specs.Stepped.{looks_in_call}
 use Rattle.lq_table.proofs.RecheckKept.{bits_only}
 use Rattle.lq_table.proofs.Frames.{Fits}
 use Rattle.lq_table.proofs.Shows.{Shows, begins_alike}
+
+-- where nobody is at the device it accepts nothing
+pub none_accepted : (at : Position → Bool) → ((p : Packet) (direct : Bool) → at (Xmit p direct) ≡ false) → (position : Position) (answer : Answer) → at position ≡ true → accepted_at position answer ≡ []
+none_accepted at elsewhere (Xmit p direct) answer is = absurd (false≢true (sym (elsewhere p direct) ∙ is))
+none_accepted at elsewhere _ answer is = refl
 
 either_seat : (b : Bool) (x y x' y' : After) → x.seat ≡ x'.seat → y.seat ≡ y'.seat → (if b then x else y).seat ≡ (if b then x' else y').seat
 either_seat true x y x' y' e e' = e

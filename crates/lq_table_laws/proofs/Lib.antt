@@ -20,6 +20,8 @@ pub mod Devices
 pub mod Sets
 -- the number of a machine
 pub mod Numbers
+-- what is held is sent, by steps one after another
+pub mod Sent
 -- the steps at the rings, of the holder of the run lock and of senders
 pub mod Rings
 pub mod Puts

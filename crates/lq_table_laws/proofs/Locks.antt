@@ -15,6 +15,7 @@ use Rattle.lq_model.specs.declared.machine.Seat.{Seat}
 use Rattle.lq_model.specs.Machine.{Qdisc, bit}
 use Rattle.lq_model.specs.Positions.{holds_lock}
 use Rattle.lq_model.specs.Steps.{lock_got, step_at}
+use Rattle.lq_run_core.specs.Progress.{accepted_at}
 use Rattle.lq_table.specs.Places.{lock_place}
 use Rattle.lq_table.specs.Views.{View, Setup, HolderPart}
 use Rattle.lq_table.specs.Rule.{Words, words_of, account, holders, is_live, machine_of, shown, IsResting, Stands, Rule}
@@ -25,10 +26,10 @@ use Rattle.lq_table.proofs.Frames.{Fits}
 use Rattle.lq_table.proofs.LocksKept.{got_fits, held_fits}
 use Rattle.lq_table.proofs.Shows.{Shows, begins_holding, shows_queues, shows_slot}
 use Rattle.lq_table_laws.specs.Stands.{Table}
-use Rattle.lq_table_laws.specs.Stepped.{Leads, tries_in_call}
+use Rattle.lq_table_laws.specs.Stepped.{Leads, tries_in_call, none_sent}
 use Rattle.lq_table_laws.proofs.Calls.{Beside, by_fits, moves_beside}
 use Rattle.lq_table_laws.proofs.Determined.{SamePart, bands_still, bit_same, control_still, had, has, part_by, same_as, shown_tells, slot_still}
-use Rattle.lq_table_laws.proofs.Fits.{unlock_fits}
+use Rattle.lq_table_laws.proofs.Fits.{unlock_fits, none_accepted}
 use Rattle.lq_table_laws.proofs.Moves.{Alike}
 
 held_call : (q base : Qdisc) (s : Seat) → q.locked ≡ true → (position : Position) → tries_in_call position ≡ true → Fits q (seen_lock base true) Plain position s q
@@ -79,9 +80,9 @@ module _ (k : Setup) (s : Table) (r : Rule k s) (x id : ℕ) (v w : View) (homes
   free zero_ = bit_same q.locked false (sym r.parts.station.stands.lock ∙ zero_)
 
   -- the lock is found held
-  pub finds_locked : w ≡ look_lock_view v → homes ≡ s.homes → x ≡ n → n ≢ 0 → tries_in_call v.place.position ≡ true → Leads 1 0 (machine_of q s.views) (machine_of r'.qdisc (set s.views id w))
+  pub finds_locked : w ≡ look_lock_view v → homes ≡ s.homes → x ≡ n → n ≢ 0 → tries_in_call v.place.position ≡ true → Leads (none_sent 1 0) (machine_of q s.views) (machine_of r'.qdisc (set s.views id w))
   finds_locked is same word busy at =
-      moves_beside k s r lock_place x id v w homes r' here live (ap is_live is ∙ live) (seen_lock (seen_by v) true) Plain q (words_of k s.words) (account k r.state).down
+      moves_beside k s r lock_place x id v w homes r' here live (ap is_live is ∙ live) (seen_lock (seen_by v) true) Plain (none_accepted tries_in_call (λ p direct. refl) v.place.position Plain at) q (words_of k s.words) (account k r.state).down
       (held_call q (seen_by v) v.place (taken busy) v.place.position at) (ap (λ (u : View). u.place) is) (ap (λ (z : ℕ). words_of k (set s.words lock_place z)) word ∙ set_back k s.words lock_place) (record { slots = refl; size = refl })
       r.parts.station.stands refl (record { bands = refl; len = refl; slot = refl; phase = refl; purge = refl }) same
       (subst (Beside v) (sym is) record { part = record { ends = refl; slot = refl; resizing = refl }; first = refl; phase = refl; purge = refl })
@@ -104,7 +105,7 @@ module _ (k : Setup) (s : Table) (r : Rule k s) (x id : ℕ) (v w : View) (homes
 
   -- the lock is got, and with it the station
   pub gets_lock : (d : HolderPart) → w ≡ try_lock_view_in_call d v → s.homes ≡ some (Some (shown d)) ∷ [] → IsResting d.size d.ends → d.resizing ≡ None → n ≡ 0 → x ≡ 1 → tries_in_call v.place.position ≡ true
-      → Leads 1 0 (machine_of q s.views) (machine_of r'.qdisc (set s.views id w))
+      → Leads (none_sent 1 0) (machine_of q s.views) (machine_of r'.qdisc (set s.views id w))
   gets_lock d is out rests calm found word at =
       let home = r.parts.station.lends.home (free found) in let D : HolderPart = holders r.state (account k r.state) (words_of k s.words).size in
       let base : Qdisc = seen_by (record v { holder = d }) in
@@ -114,19 +115,19 @@ module _ (k : Setup) (s : Table) (r : Rule k s) (x id : ℕ) (v w : View) (homes
       let live' : is_live w ≡ true = ap is_live is ∙ live in
       let holds : holds_lock w.place.position ≡ true = ap (λ (u : View). holds_lock u.place.position) is ∙ try_holds base v.place v.place.position at in
       let mine : SamePart w.holder d = subst (λ (u : View). SamePart u.holder d) (sym is) record { ends = refl; slot = refl; resizing = refl } in
-      by_fits k s r lock_place x id v w homes r' here live live' (seen_lock base false) Plain (record q { locked = true }) (got_call q base shows v.place (free found) v.place.position at) (ap (λ (u : View). u.place) is)
+      by_fits k s r lock_place x id v w homes r' here live live' (seen_lock base false) Plain (none_accepted tries_in_call (λ p direct. refl) v.place.position Plain at) (record q { locked = true }) (got_call q base shows v.place (free found) v.place.position at) (ap (λ (u : View). u.place) is)
       (alike_locked true word (part_by _ w.holder D (has k s r lock_place x id v w homes r' here live live' holds) (part_by w.holder d D mine part)) live'
       (ap (λ (u : View). u.control.first) is) (ap (λ (u : View). u.control.phase) is) (ap (λ (u : View). u.control.purge) is))
 
   -- it is released, and the station goes back
   pub releases : w ≡ unlock_view_in_call v → homes ≡ some (Some (shown v.holder)) ∷ [] → IsResting v.holder.size v.holder.ends → v.holder.resizing ≡ None → x ≡ 0 → v.place.position ≡ Unlock
-      → Leads 1 0 (machine_of q s.views) (machine_of r'.qdisc (set s.views id w))
+      → Leads (none_sent 1 0) (machine_of q s.views) (machine_of r'.qdisc (set s.views id w))
   releases is back rests calm word at =
       let free' : r'.qdisc.locked ≡ false = bit_same r'.qdisc.locked false (sym r'.parts.station.stands.lock ∙ (ap (λ (z : Words). z.lock) lock_is ∙ word)) in
       let home = r'.parts.station.lends.home free' in let D' : HolderPart = holders r'.state (account k r'.state) (words_of k (set s.words lock_place x)).size in
       let shows_d : shown D' ≡ shown v.holder = one_station D' v.holder (sym home.there ∙ one_home r'.home (some (Some (shown v.holder))) (sym r'.deep ∙ back)) in
       let live' : is_live w ≡ true = ap is_live is ∙ live in
-      by_fits k s r lock_place x id v w homes r' here live live' (seen_lock (seen_by v) false) Plain (record q { locked = false })
+      by_fits k s r lock_place x id v w homes r' here live live' (seen_lock (seen_by v) false) Plain (ap (λ (z : Position). accepted_at z Plain) at) (record q { locked = false })
       (subst (λ (z : Position). Fits q (seen_lock (seen_by v) false) Plain z v.place (record q { locked = false })) (sym at) (unlock_fits (seen_lock (seen_by v) false) q v.place)) (ap (λ (u : View). u.place) is)
       (alike_locked false word (part_by D' v.holder _ (shown_tells D' v.holder shows_d home.resting rests home.calm calm) (had k s r lock_place x id v w homes r' here live live' (ap holds_lock at))) live'
       (ap (λ (u : View). u.control.first) is) (ap (λ (u : View). u.control.phase) is) (ap (λ (u : View). u.control.purge) is))

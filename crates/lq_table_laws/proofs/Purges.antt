@@ -25,6 +25,7 @@ use Rattle.lq_band_laws.specs.Three.{Three, at, put}
 use Rattle.lq_band_laws.proofs.Kept.{finds_none, takes}
 use Rattle.lq_band_laws.proofs.Seats.{total_set}
 use Rattle.lq_band_laws.proofs.Three.{at_put_other, at_put_same}
+use Rattle.lq_run_core.specs.Progress.{Course}
 use Rattle.lq_table.specs.Controls.{open_xoff_view, swap_view}
 use Rattle.lq_table.specs.Places.{slot_word, xoff_word}
 use Rattle.lq_table.specs.Purges.{first_purge, next_band, purge_slot_view_empty, begin_purge_view, purge_slot_view}
@@ -37,7 +38,7 @@ use Rattle.lq_table.proofs.HeadSlotKept.{first_of}
 use Rattle.lq_table.proofs.Middle.{few_seats, middle}
 use Rattle.lq_table.proofs.Ties.{band_set, band_tied, held_taken}
 use Rattle.lq_table_laws.specs.Stands.{Table}
-use Rattle.lq_table_laws.specs.Stepped.{Leads}
+use Rattle.lq_table_laws.specs.Stepped.{Leads, of_control}
 use Rattle.lq_table_laws.proofs.Controls.{alike_there, control_move, phase_is, purge_is}
 use Rattle.lq_table_laws.proofs.Determined.{SamePart, bands_still, had, has, now, same_as, slot_by, slot_still}
 use Rattle.lq_table_laws.proofs.Moves.{Alike}
@@ -64,8 +65,8 @@ module _ (k : Setup) (s : Table) (r : Rule k s) (i x id : ℕ) (v w : View) (hom
   abbrev W : Words
   W = words_of k s.words
 
-  abbrev Goal : ℕ → ℕ → Type 0
-  Goal moves cost = Leads moves cost (machine_of q s.views) (machine_of r'.qdisc (set s.views id w))
+  abbrev Goal : Course → Type 0
+  Goal c = Leads c (machine_of q s.views) (machine_of r'.qdisc (set s.views id w))
 
   first : v.control.first ≡ true
   first = r.parts.machine.firsts.control id v here live (ap is_control at_)
@@ -95,7 +96,7 @@ module _ (k : Setup) (s : Table) (r : Rule k s) (i x id : ℕ) (v w : View) (hom
   -- A PURGE
 
   -- it begins: the packet in the requeue slot is taken
-  pub purge_begins : (c : Cause) (bands : Three Band) → w ≡ begin_purge_view c bands v → x ≡ get_or s.words i 0 → v.control.purge ≡ None → (is_quiet v.control.phase ≡ true) ⊎ (v.share.shares ≡ 1024) → Goal 1 18
+  pub purge_begins : (c : Cause) (bands : Three Band) → w ≡ begin_purge_view c bands v → x ≡ get_or s.words i 0 → v.control.purge ≡ None → (is_quiet v.control.phase ≡ true) ⊎ (v.share.shares ≡ 1024) → Goal (of_control 1 18)
   purge_begins c bands is word calm alone =
       let q' : Qdisc = record q { slot = None; purge = Some first_purge } in let t = r.parts.station.stands in
       let was = had k s r i x id v w homes r' here live live' (ap holds_lock at_) in let is_now = has k s r i x id v w homes r' here live live' (ap (λ (u : View). holds_lock u.place.position) is ∙ ap holds_lock at_) in
@@ -110,7 +111,7 @@ module _ (k : Setup) (s : Table) (r : Rule k s) (i x id : ℕ) (v w : View) (hom
   -- THE SWAP OF THE DEVICE
 
   -- a stop word is opened, of a station that was purged
-  opens : (queue : ℕ) → i ≡ xoff_word k queue → queue < k.queues → x ≡ 0 → v.control.phase ≡ Purged → v.control.purge ≡ None → w.place ≡ v.place → SamePart w.holder v.holder → w.control.first ≡ v.control.first → w.control.phase ≡ v.control.phase → w.control.purge ≡ v.control.purge → Goal 1 18
+  opens : (queue : ℕ) → i ≡ xoff_word k queue → queue < k.queues → x ≡ 0 → v.control.phase ≡ Purged → v.control.purge ≡ None → w.place ≡ v.place → SamePart w.holder v.holder → w.control.first ≡ v.control.first → w.control.phase ≡ v.control.phase → w.control.purge ≡ v.control.purge → Goal (of_control 1 18)
   opens queue at_word below word purged calm to part same_first phase purge =
       let q' : Qdisc = record q { xoff = slice_set q.xoff queue 0 } in let t = r.parts.station.stands in
       control_move k s r i x id v w homes r' here live live' (StoreOpen queue) true at_ (ap₂ (λ (p : Option Purge) (f : Phase). is_none p && is_purged_phase f) (sym purge_here ∙ calm) (sym phase_here ∙ purged))
@@ -120,11 +121,11 @@ module _ (k : Setup) (s : Table) (r : Rule k s) (i x id : ℕ) (v w : View) (hom
       (record { state = t.state; lock = t.lock; xoff = ap₂ (λ (ls : List ℕ) (z : ℕ). slice_set ls queue z) t.xoff (sym word); inside = t.inside; bypass = t.bypass }) same refl (ap (λ (u : Seat). holds_lock u.position) to) part refl refl refl
       (phase ∙ phase_here) (purge ∙ purge_here))
 
-  pub swap_move : (st : StationState) → w ≡ swap_view st v → i ≡ xoff_word k 0 → 0 < k.queues → x ≡ 0 → v.control.phase ≡ Purged → v.control.purge ≡ None → Goal 1 18
+  pub swap_move : (st : StationState) → w ≡ swap_view st v → i ≡ xoff_word k 0 → 0 < k.queues → x ≡ 0 → v.control.phase ≡ Purged → v.control.purge ≡ None → Goal (of_control 1 18)
   swap_move st is at_word some_queue word purged calm = opens 0 at_word some_queue word purged calm (ap (λ (u : View). u.place) is) (subst (λ (u : View). SamePart u.holder v.holder) (sym is) record { ends = refl; slot = refl; resizing = refl })
       (ap (λ (u : View). u.control.first) is) (ap (λ (u : View). u.control.phase) is) (ap (λ (u : View). u.control.purge) is)
 
-  pub open_move : (queue : ℕ) → w ≡ open_xoff_view queue v → i ≡ xoff_word k queue → queue < k.queues → x ≡ 0 → v.control.phase ≡ Purged → v.control.purge ≡ None → Goal 1 18
+  pub open_move : (queue : ℕ) → w ≡ open_xoff_view queue v → i ≡ xoff_word k queue → queue < k.queues → x ≡ 0 → v.control.phase ≡ Purged → v.control.purge ≡ None → Goal (of_control 1 18)
   open_move queue is at_word below word purged calm = opens queue at_word below word purged calm (ap (λ (u : View). u.place) is) (subst (λ (u : View). SamePart u.holder v.holder) (sym is) record { ends = refl; slot = refl; resizing = refl })
       (ap (λ (u : View). u.control.first) is) (ap (λ (u : View). u.control.phase) is) (ap (λ (u : View). u.control.purge) is)
 
@@ -192,7 +193,7 @@ module _ (k : Setup) (s : Table) (r : Rule k s) (b h x id : ℕ) (v w : View) (h
   holds_now to = ap (λ (z : Seat). holds_lock z.position) to ∙ ap holds_lock at_
 
   -- the band is found empty: the purge goes on with the next
-  pub purge_passes : w ≡ purge_slot_view_empty u v → m ≡ 0 → Leads 1 18 (machine_of QD s.views) (machine_of r'.qdisc (set s.views id w))
+  pub purge_passes : w ≡ purge_slot_view_empty u v → m ≡ 0 → Leads (of_control 1 18) (machine_of QD s.views) (machine_of r'.qdisc (set s.views id w))
   purge_passes is empty_ =
       let none = finds_none _ _ _ _ _ _ ring rests_now (sym head_word ∙ empty_) in let q' : Qdisc = record QD { purge = Some (next_band u) } in
       let bare : band_at QD u.band ≡ [] = ap (band_at QD) band_is ∙ (band_tied k.infos QD (account k r.state) BS r.parts.station.ties b below ∙ ap (machine_packets k.infos) none) in
@@ -203,7 +204,7 @@ module _ (k : Setup) (s : Table) (r : Rule k s) (b h x id : ℕ) (v w : View) (h
       (stands_so q' refl) same refl (ap (λ (z : View). holds_lock z.place.position) is) part refl refl refl (ap (λ (z : View). z.control.phase) is ∙ its_phase) (ap (λ (z : View). z.control.purge) is)))
 
   -- a packet is taken
-  pub purge_takes_move : (l : Left) → w ≡ purge_slot_view b (m - 1) l v → m ≢ 0 → Leads 1 18 (machine_of QD s.views) (machine_of r'.qdisc (set s.views id w))
+  pub purge_takes_move : (l : Left) → w ≡ purge_slot_view b (m - 1) l v → m ≢ 0 → Leads (of_control 1 18) (machine_of QD s.views) (machine_of r'.qdisc (set s.views id w))
   purge_takes_move l is full =
       let c : Ends = at b r.state.ends in let head = head_word in let both = takes _ _ _ _ _ _ ring rests_now (omega arith) in
       let first_is : slice_get (held_of (BS b)) 0 ≡ Some (m - 1) = both.1 ∙ ap (λ (z : ℕ). Some (z - 1)) (sym head_word) in

@@ -22,6 +22,7 @@ use Rattle.lq_band_laws.specs.Ring.{Lock, having_stored, IsRing}
 use Rattle.lq_band_laws.specs.Three.{Three, at, put}
 use Rattle.lq_band_laws.proofs.Kept.{finds_full, stores}
 use Rattle.lq_band_laws.proofs.Three.{at_put_other, at_put_same}
+use Rattle.lq_run_core.specs.Progress.{accepted_at}
 use Rattle.lq_table.specs.Places.{slot_word}
 use Rattle.lq_table.specs.Views.{Setup, View, machine_packet, machine_packets}
 use Rattle.lq_table.specs.Rule.{Words, words_of, account, bands_now, bands_of, holders, is_live, locks_at, machine_of, Rule, Stands}
@@ -33,7 +34,7 @@ use Rattle.lq_table.proofs.Frames.{Fits, calm_here, holds_kept, locks_here, ring
 use Rattle.lq_table.proofs.Shows.{Shows, begins_alike, holder_shows}
 use Rattle.lq_table.proofs.Ties.{band_joined, band_set, band_tied}
 use Rattle.lq_table_laws.specs.Stands.{Table}
-use Rattle.lq_table_laws.specs.Stepped.{Leads}
+use Rattle.lq_table_laws.specs.Stepped.{Leads, none_sent}
 use Rattle.lq_table_laws.proofs.Calls.{Beside, by_fits, moves_beside}
 use Rattle.lq_table_laws.proofs.Determined.{SamePart, part_still, same_as, slot_still}
 use Rattle.std.proofs.lemmas.List.{length-map}
@@ -83,20 +84,20 @@ module _ (k : Setup) (s : Table) (r : Rule k s) (b i n x id : ℕ) (v w : View) 
   shows h = holder_shows k s r id v here live (ap holds_lock at_ ∙ h)
 
   -- the slot is found occupied: the packet is dropped
-  pub drops_move : w ≡ producer_slot_view_full n (get_or s.words (slot_word k b i) 0 - 1) v → x ≡ get_or s.words (slot_word k b i) 0 → get_or s.words (slot_word k b i) 0 ≢ 0 → Leads 1 0 (machine_of q s.views) (machine_of r'.qdisc (set s.views id w))
+  pub drops_move : w ≡ producer_slot_view_full n (get_or s.words (slot_word k b i) 0 - 1) v → x ≡ get_or s.words (slot_word k b i) 0 → get_or s.words (slot_word k b i) 0 ≢ 0 → Leads (none_sent 1 0) (machine_of q s.views) (machine_of r'.qdisc (set s.views id w))
   drops_move is word full =
       let found : get_or s.words (slot_word k b i) 0 ≡ get_or (at b W.slots) (at b v.locks).index 0 = slot_of k s.words b i below in_ring ∙ ap (λ (z : ℕ). get_or (at b W.slots) z 0) is_index in
       let told = finds_full _ _ _ _ _ _ id (at b v.locks) old (locks_here k s.views id v v here b) mine new (omega arith) in let q' : Qdisc = record q { full = one_more q.full } in
       let half : (q.len - batch q.len ≤ length (band_at q p.band)) = subst (λ (z : ℕ × ℕ). z.0 - batch z.0 ≤ z.1) (λ j. (size_is j, sym count j)) told.holds in
       let fits : Fits q (seen_by v) FullSlot v.place.position v.place q' = subst (λ (z : Position). Fits q (seen_by v) FullSlot z v.place q') (sym at_) (full_fits q (seen_by v) p puts v.place shows (le-leb _ _ half)) in
       let t = r.parts.station.stands in
-      moves_beside k s r (slot_word k b i) x id v w homes r' here live (ap is_live is ∙ live) (seen_by v) FullSlot q' W (account k r.state).down fits (ap (λ (u : View). u.place) is)
+      moves_beside k s r (slot_word k b i) x id v w homes r' here live (ap is_live is ∙ live) (seen_by v) FullSlot (ap (λ (z : Position). accepted_at z FullSlot) at_) q' W (account k r.state).down fits (ap (λ (u : View). u.place) is)
       (ap (λ (z : ℕ). words_of k (set s.words (slot_word k b i) z)) word ∙ set_back k s.words (slot_word k b i)) (record { slots = refl; size = refl }) (record { state = t.state; lock = t.lock; xoff = t.xoff; inside = t.inside; bypass = t.bypass }) refl
       (record { bands = refl; len = refl; slot = refl; phase = refl; purge = refl }) same
       (subst (Beside v) (sym is) record { part = record { ends = refl; slot = refl; resizing = refl }; first = refl; phase = refl; purge = refl })
 
   -- the packet is stored in it, and joins the band
-  pub joins_move : w ≡ store_slot_view b n v → x ≡ n + 1 → (at b v.locks).room ≡ true → Leads 1 0 (machine_of q s.views) (machine_of r'.qdisc (set s.views id w))
+  pub joins_move : w ≡ store_slot_view b n v → x ≡ n + 1 → (at b v.locks).room ≡ true → Leads (none_sent 1 0) (machine_of q s.views) (machine_of r'.qdisc (set s.views id w))
   joins_move is word room =
       let l : Lock = at b v.locks in let live' : is_live w ≡ true = ap is_live is ∙ live in let t = r.parts.station.stands in let q' : Qdisc = joined_band p q in
       let both = stores _ _ _ _ _ _ id l old (locks_here k s.views id v v here b) n mine new room in let few = both.1 in let c = count in let z = size_is in
@@ -117,7 +118,7 @@ module _ (k : Setup) (s : Table) (r : Rule k s) (b i n x id : ℕ) (v w : View) 
       let joined_is : q'.bands ≡ bands_of k.infos B' = ap (λ (y : ℕ). set q.bands y (band_at q y ++ p ∷ [])) of_band
       ∙ (ap₂ (λ (bs : List (List Packet)) (ps : List Packet). set bs b (ps ++ p ∷ [])) r.parts.station.ties.bands_are (band_tied k.infos q (account k r.state) B r.parts.station.ties b below)
       ∙ band_set k.infos B b (joined (B b) n) (machine_packets k.infos (held_of (B b)) ++ p ∷ []) below (band_joined k.infos (B b) n (let e = old.line_is in let y = old.taken_is in let f = old.taken_within in omega arith))) in
-      by_fits k s r (slot_word k b i) x id v w homes r' here live live' (seen_by v) Plain q' fits (ap (λ (u : View). u.place) is)
+      by_fits k s r (slot_word k b i) x id v w homes r' here live live' (seen_by v) Plain (ap (λ (z : Position). accepted_at z Plain) at_) q' fits (ap (λ (u : View). u.place) is)
       (alike_rings k s r (slot_word k b i) x id v w homes r' here live live' q' (record W { slots = slots' }) (account k r.state).down slots_are stands
       (bands.0 ∙ sym joined_is) (bands.1 ∙ sym r.parts.station.ties.len)
       (slot_still k s r (slot_word k b i) x id v w homes r' here live live' part.slot)

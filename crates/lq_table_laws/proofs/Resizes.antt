@@ -33,7 +33,7 @@ use Rattle.lq_table.specs.Views.{FirstPart, HalfResize, HolderPart, Setup, View,
 use Rattle.lq_table.specs.Rule.{Words, words_of, account, bands_now, bands_of, holders, is_live, locks_at, machine_of, Rings, Rule, Stands}
 use Rattle.lq_table.proofs.ByName.{set_back, set_fate, set_slot}
 use Rattle.lq_table_laws.specs.Stands.{Table}
-use Rattle.lq_table_laws.specs.Stepped.{Leads}
+use Rattle.lq_table_laws.specs.Stepped.{Leads, none_sent, of_control}
 use Rattle.lq_table_laws.proofs.Controls.{control_move, phase_is, purge_is}
 use Rattle.lq_table_laws.proofs.Determined.{bands_are, had, has, slot_still}
 use Rattle.lq_table_laws.proofs.Moves.{leads_nowhere}
@@ -94,7 +94,7 @@ module _ (k : Setup) (s : Table) (r : Rule k s) (i x id : ℕ) (v w : View) (hom
 
   -- it begins
   pub resize_begins : (limit len event : ℕ) (held : ℕ → List ℕ) (slots : Three (List ℕ)) → w ≡ begin_resize_view (resizing_of len event held slots) v → x ≡ get_or s.words i 0 → v.place.position ≡ Control true → v.control.purge ≡ None → v.holder.resizing ≡ None
-      → ((b : ℕ) → b < 3 → IsBeforeResize v.holder.size limit (at b slots) (held b) (at b v.holder.ends)) → Leads 1 18 (machine_of q s.views) (machine_of r'.qdisc (set s.views id w))
+      → ((b : ℕ) → b < 3 → IsBeforeResize v.holder.size limit (at b slots) (held b) (at b v.holder.ends)) → Leads (of_control 1 18) (machine_of q s.views) (machine_of r'.qdisc (set s.views id w))
   resize_begins limit len event held slots is word at_ calm no_resizing told =
       let t : HalfResize = resizing_of len event held slots in let holds : holds_lock v.place.position ≡ true = ap holds_lock at_ in let first = r.parts.machine.firsts.control id v here live (ap is_control at_) in
       let known : v.holder ≡ D = (r.parts.station.lends.knows id v here live holds).is in let st = r.parts.station.stands in
@@ -117,7 +117,7 @@ module _ (k : Setup) (s : Table) (r : Rule k s) (i x id : ℕ) (v w : View) (hom
 
   -- what control does at the slots leaves what each band keeps
   pub resize_stays : (t t' : HalfResize) (W' : Words) → words_of k (set s.words i x) ≡ W' → Stands k W' q (account k r.state).down → holds_lock v.place.position ≡ true → v.holder.resizing ≡ Some t → w.place ≡ v.place → w.holder.resizing ≡ Some t' → w.holder.slot ≡ v.holder.slot → w.control ≡ v.control
-      → t'.len ≡ t.len → ((b : ℕ) → b < 3 → (at b t'.works).kept ≡ (at b t.works).kept) → Leads 0 0 (machine_of q s.views) (machine_of r'.qdisc (set s.views id w))
+      → t'.len ≡ t.len → ((b : ℕ) → b < 3 → (at b t'.works).kept ≡ (at b t.works).kept) → Leads (none_sent 0 0) (machine_of q s.views) (machine_of r'.qdisc (set s.views id w))
   resize_stays t t' W' words stands holds under_way to under_way' slot control len kept =
       let was = had k s r i x id v w homes r' here live live' holds in let is_now = has k s r i x id v w homes r' here live live' (ap (λ (z : Seat). holds_lock z.position) to ∙ holds) in
       let half = half_bands _ _ _ _ _ _ _ _ r.state.resizing t (sym was.resizing ∙ under_way) r.parts.station.rings in
@@ -131,7 +131,7 @@ module _ (k : Setup) (s : Table) (r : Rule k s) (i x id : ℕ) (v w : View) (hom
 
   -- and the rings start again, with what each band keeps
   pub resize_ends : (t : HalfResize) → w ≡ store_size_view t v → words_of k (set s.words i x) ≡ record W { size = t.len } → holds_lock v.place.position ≡ true → v.holder.resizing ≡ Some t
-      → ((b : ℕ) → b < 3 → IsRefilled (at b t.works).slots (at b t.works).kept t.len) → Leads 0 0 (machine_of q s.views) (machine_of r'.qdisc (set s.views id w))
+      → ((b : ℕ) → b < 3 → IsRefilled (at b t.works).slots (at b t.works).kept t.len) → Leads (none_sent 0 0) (machine_of q s.views) (machine_of r'.qdisc (set s.views id w))
   resize_ends t is words holds under_way refilled =
       let was = had k s r i x id v w homes r' here live live' holds in let is_now = has k s r i x id v w homes r' here live live' (ap (λ (u : View). holds_lock u.place.position) is ∙ holds) in let st = r.parts.station.stands in
       let now_half = sym was.resizing ∙ under_way in let half = half_bands _ _ _ _ _ _ _ _ r.state.resizing t now_half r.parts.station.rings in
@@ -174,14 +174,14 @@ module _ (k : Setup) (s : Table) (r : Rule k s) (b x id : ℕ) (v w : View) (hom
   AfterAt i = Rule k (record { words = set s.words i x; homes = homes; views = set s.views id w })
 
   -- a slot is emptied or filled
-  pub slot_stays : (i : ℕ) (r' : AfterAt (slot_word k b i)) → i < k.max_len → w ≡ with_resizing (Some (with_work b y t)) v → Leads 0 0 (machine_of r.qdisc s.views) (machine_of r'.qdisc (set s.views id w))
+  pub slot_stays : (i : ℕ) (r' : AfterAt (slot_word k b i)) → i < k.max_len → w ≡ with_resizing (Some (with_work b y t)) v → Leads (none_sent 0 0) (machine_of r.qdisc s.views) (machine_of r'.qdisc (set s.views id w))
   slot_stays i r' in_ring is = let st = r.parts.station.stands in let WS : Words = words_of k s.words in
       resize_stays k s r (slot_word k b i) x id v w homes r' here live live' same t (with_work b y t) (record WS { slots = put b (set (at b WS.slots) i x) WS.slots }) (set_slot k s.words x b i below in_ring)
       (record { state = st.state; lock = st.lock; xoff = st.xoff; inside = st.inside; bypass = st.bypass }) holds under_way (ap (λ (u : View). u.place) is) (ap (λ (u : View). u.holder.resizing) is) (ap (λ (u : View). u.holder.slot) is) (ap (λ (u : View). u.control) is) refl
       (λ c within. kept_put b c y t.works below within keeps)
 
   -- the fate of a packet that it dropped is stored
-  pub fate_stays : (n event : ℕ) (r' : AfterAt (fates_offset k + n)) → n < length k.infos → y ≡ settled_work (at b t.works) → w ≡ settle_view_shrunk b n event v → Leads 0 0 (machine_of r.qdisc s.views) (machine_of r'.qdisc (set s.views id w))
+  pub fate_stays : (n event : ℕ) (r' : AfterAt (fates_offset k + n)) → n < length k.infos → y ≡ settled_work (at b t.works) → w ≡ settle_view_shrunk b n event v → Leads (none_sent 0 0) (machine_of r.qdisc s.views) (machine_of r'.qdisc (set s.views id w))
   fate_stays n event r' within settles is = let st = r.parts.station.stands in let WS : Words = words_of k s.words in
       let under : w.holder.resizing ≡ Some (with_work b y t) = ap (λ (u : View). u.holder.resizing) is ∙ (ap (option_map (λ (z : HalfResize). with_work b (settled_work (at b z.works)) z)) under_way ∙ ap (λ (z : Work). Some (with_work b z t)) (sym settles)) in
       resize_stays k s r (fates_offset k + n) x id v w homes r' here live live' same t (with_work b y t) (record WS { fates = set WS.fates n x }) (set_fate k s.words x n within)

@@ -20,6 +20,7 @@ use Rattle.lq_band_laws.specs.Ring.{Ends, Lock, is_emptying, taken_on, emptied_o
 use Rattle.lq_band_laws.specs.Three.{Three, at, put}
 use Rattle.lq_band_laws.proofs.Kept.{empties, finds_none, takes}
 use Rattle.lq_band_laws.proofs.Three.{at_put_other, at_put_same}
+use Rattle.lq_run_core.specs.Progress.{accepted_at}
 use Rattle.lq_table.specs.Places.{slot_word}
 use Rattle.lq_table.specs.Views.{HalfResize, HolderPart, Setup, View, machine_packet, machine_packets}
 use Rattle.lq_table.specs.Rule.{Words, words_of, account, bands_now, bands_of, holders, is_live, locks_at, machine_of, Rings, Rule, Stands}
@@ -30,7 +31,7 @@ use Rattle.lq_table.proofs.Frames.{Fits, locks_here, rings_step}
 use Rattle.lq_table.proofs.HeadSlotKept.{first_of}
 use Rattle.lq_table.proofs.Ties.{band_set, band_tied, held_taken}
 use Rattle.lq_table_laws.specs.Stands.{Table}
-use Rattle.lq_table_laws.specs.Stepped.{Leads}
+use Rattle.lq_table_laws.specs.Stepped.{Leads, none_sent}
 use Rattle.lq_table_laws.proofs.Calls.{Beside, by_fits, moves_beside}
 use Rattle.lq_table_laws.proofs.Determined.{bands_are, control_still, had, has, same_as, same_bands, slot_still}
 use Rattle.lq_table_laws.proofs.Moves.{Alike, leads_nowhere}
@@ -105,7 +106,7 @@ module _ (k : Setup) (s : Table) (r : Rule k s) (b i x id : ℕ) (v w : View) (h
   n = get_or s.words (slot_word k b i) 0
 
   abbrev Goal : ℕ → Type 0
-  Goal moves = Leads moves 0 (machine_of q s.views) (machine_of r'.qdisc (set s.views id w))
+  Goal moves = Leads (none_sent moves 0) (machine_of q s.views) (machine_of r'.qdisc (set s.views id w))
 
   -- what the holder knows
   is_known : holds_lock v.place.position ≡ true → v.holder ≡ D
@@ -131,7 +132,7 @@ module _ (k : Setup) (s : Table) (r : Rule k s) (b i x id : ℕ) (v w : View) (h
       let none = finds_none _ _ _ _ _ _ (ring_of (calm_now holds no_resizing)) (rests_now holds rests) (sym (head_word holds is_head) ∙ empty_) in
       let fits : Fits q (seen_band b []) Plain v.place.position v.place q = subst (λ (z : Position). Fits q (seen_band b []) Plain z v.place q) (sym at_)
       (none_fits q b second v.place below (band_tied k.infos q (account k r.state) B r.parts.station.ties b below ∙ ap (machine_packets k.infos) none)) in
-      moves_beside k s r (slot_word k b i) x id v w homes r' here live (ap is_live is ∙ live) (seen_band b []) Plain q W (account k r.state).down fits (ap (λ (u : View). u.place) is)
+      moves_beside k s r (slot_word k b i) x id v w homes r' here live (ap is_live is ∙ live) (seen_band b []) Plain (ap (λ (z : Position). accepted_at z Plain) at_) q W (account k r.state).down fits (ap (λ (u : View). u.place) is)
       (ap (λ (z : ℕ). words_of k (set s.words (slot_word k b i) z)) word ∙ set_back k s.words (slot_word k b i)) (record { slots = refl; size = refl }) r.parts.station.stands refl
       (record { bands = refl; len = refl; slot = refl; phase = refl; purge = refl }) same
       (subst (Beside v) (sym is) record { part = record { ends = refl; slot = refl; resizing = refl }; first = refl; phase = refl; purge = refl })
@@ -158,7 +159,7 @@ module _ (k : Setup) (s : Table) (r : Rule k s) (b i x id : ℕ) (v w : View) (h
       let bands = bands_to k s r (slot_word k b i) x id v w homes r' here live live' W.slots ends' r.state.resizing W.producers (set s.views id v) (account k r.state).len B' rings
       (ap (λ (z : Words). z.slots) back) (ap (λ (z : Words). z.size) back)
       (now.ends ∙ (ap (λ (u : View). u.holder.ends) is ∙ ap (λ (z : Three Ends). put b (taken_on (at b z)) z) was.ends)) (now.resizing ∙ (ap (λ (u : View). u.holder.resizing) is ∙ was.resizing)) in
-      by_fits k s r (slot_word k b i) x id v w homes r' here live live' seen Plain q' fits (ap (λ (u : View). u.place) is)
+      by_fits k s r (slot_word k b i) x id v w homes r' here live live' seen Plain (ap (λ (z : Position). accepted_at z Plain) at_) q' fits (ap (λ (u : View). u.place) is)
       (alike_rings k s r (slot_word k b i) x id v w homes r' here live live' q' W (account k r.state).down back (record { state = r.parts.station.stands.state; lock = r.parts.station.stands.lock; xoff = r.parts.station.stands.xoff; inside = r.parts.station.stands.inside; bypass = r.parts.station.stands.bypass })
       (bands.0 ∙ sym (ap (λ (bs : List (List Packet)). set bs b left) r.parts.station.ties.bands_are ∙ band_set k.infos B b (taken_by (B b) 1) left below (ap (machine_packets k.infos) (sym (held_taken (B b))))))
       (bands.1 ∙ sym r.parts.station.ties.len)

@@ -18,7 +18,7 @@ use Rattle.lq_table.specs.Moves.{is_set}
 use Rattle.lq_table.specs.Views.{Setup, Left, machine_packet}
 use Rattle.lq_table.proofs.Bits.{has_deactivated}
 use Rattle.lq_table.proofs.Ties.{holds_tied}
-use Rattle.lq_table_laws.specs.Stands.{Table, machine_by, AreOpen, LeavesNoPacket}
+use Rattle.lq_table_laws.specs.Stands.{Table, machine_by, AreOpen, AreQueuesOpen, LeavesNoPacket}
 
 pub no_packet_left : (m : Machine) → IsInductive m → LeavesNoPacket m
 no_packet_left m kept = record {
@@ -34,7 +34,7 @@ module _ (k : Setup) (s : Table) (r : Rule k s) where
   machine = machine_by r
 
   -- what the account holds the machine holds, and where a purge is half done that is in the requeue slot
-  holds : (n : ℕ) → Contains (held (account k r.state)) n → Holds machine (machine_packet k.infos n)
+  pub holds : (n : ℕ) → Contains (held (account k r.state)) n → Holds machine (machine_packet k.infos n)
   holds n is = by r.state.left refl
     where
       by : (o : Option Left) → r.state.left ≡ o → Holds machine (machine_packet k.infos n)
@@ -48,8 +48,8 @@ module _ (k : Setup) (s : Table) (r : Rule k s) where
   active : AreOpen (words_of k s.words) → r.qdisc.deactivated ≡ false
   active o = let q = r.qdisc in sym (ap (is_set 2) r.parts.station.stands.state ∙ has_deactivated q.sched q.deactivated q.missed q.draining (event_word (account k r.state).down)) ∙ o.active
 
-  all_open : AreOpen (words_of k s.words) → AllOpen machine
-  all_open o queue = ap (λ (n : ℕ). eqb n 0) (ap (λ (ns : List ℕ). slice_index ns queue) r.parts.station.stands.xoff ∙ o.queues_open queue)
+  pub all_open : AreQueuesOpen (words_of k s.words) → AllOpen machine
+  all_open o queue = ap (λ (n : ℕ). eqb n 0) (ap (λ (ns : List ℕ). slice_index ns queue) r.parts.station.stands.xoff ∙ o queue)
 
   pub comes : (n : ℕ) → AreOpen (words_of k s.words) → Contains (held (account k r.state)) n → SomebodyMoves machine ⊎ ControlMoves machine
-  comes n o is = somebody (machine_packet k.infos n) machine r.parts.machine.invariant.kept (active o) (record { waits = inl (holds n is); queues_open = all_open o })
+  comes n o is = somebody (machine_packet k.infos n) machine r.parts.machine.invariant.kept (active o) (record { waits = inl (holds n is); queues_open = all_open o.queues_open })

@@ -2,5 +2,7 @@
 pub mod Stands
 -- a step of a seat on the words, and which moves of the machine it is
 pub mod Stepped
+-- steps one after another
+pub mod Runs
 -- where a seat stands at a ring
 pub mod Rings

@@ -23,10 +23,14 @@ machine_for {s = s} x = machine_of x.qdisc s.views
 abbrev pub machine_by : {k : Setup} {s : Table} → Rule k s → Machine
 machine_by {s = s} r = machine_of r.qdisc s.views
 
+-- each stop word is 0
+abbrev pub AreQueuesOpen : Words → Type 0
+AreQueuesOpen w = (queue : ℕ) → slice_index w.xoff queue ≡ 0
+
 -- DEACTIVATED is clear, and each stop word is 0
 pub record AreOpen (w : Words) : Type 0 where
   pub active : is_set 2 w.state ≡ false
-  pub queues_open : (queue : ℕ) → slice_index w.xoff queue ≡ 0
+  pub queues_open : AreQueuesOpen w
 
 -- Somebody comes for each packet that waits, and no order of moves keeps it.
 pub record LeavesNoPacket (m : Machine) : Type 0 where

@@ -5,6 +5,7 @@ use mathlib.Core.Option as maybe
 use lib.ListN.{get_elem?}
 use Rattle.lq_device.specs.Station.{StationState}
 use Rattle.lq_model.specs.Machine.{Machine}
+use Rattle.lq_model.specs.declared.machine.Packet.{Packet}
 use Rattle.lq_model.specs.declared.machine.Position.{Position}
 use Rattle.lq_model.specs.declared.machine.Position.TheVariants.{Check, Late, Post, Recheck, Soft, Tail, Test, Try1, Try2}
 use Rattle.lq_run_core.specs.Measure.{ServesOpen, measure}
@@ -89,29 +90,46 @@ tries_in_call _ = false
 abbrev pub counting : ℕ → ℕ → Machine → Machine
 counting sent full m = record { qdisc = record m.qdisc { sent = sent; full = full }; seats = m.seats }
 
--- So many moves that cost so much together lead from m to n, but for the counts. And while a packet is served and all queues are open,
--- before and after them, each makes the number of the machine less, but for what it costs.
-pub record Leads (moves cost : ℕ) (m n : Machine) : Type 0 where
+-- so many moves that cost so much together, none of control and none by which the device accepts a packet
+abbrev pub none_sent : ℕ → ℕ → Course
+none_sent moves cost = record { moves = moves; cost = cost; accepted = []; with_control = false }
+
+-- with one of control among them
+abbrev pub of_control : ℕ → ℕ → Course
+of_control moves cost = record { moves = moves; cost = cost; accepted = []; with_control = true }
+
+-- the one by which it accepts this packet
+abbrev pub one_sent : Packet → Course
+one_sent p = record { moves = 1; cost = 0; accepted = p ∷ []; with_control = false }
+
+-- Moves that come to this lead from m to n, but for the counts. And while a packet is served and all queues are open, before and after
+-- them, each makes the number of the machine less, but for what it costs.
+pub record Leads (c : Course) (m n : Machine) : Type 0 where
   pub sent : ℕ
   pub full : ℕ
-  pub course : Course
-  pub goes : Goes IsAny m course (counting sent full n)
-  pub moves_are : course.moves ≡ moves
-  pub cost_is : course.cost ≡ cost
-  pub nearer : ServesOpen m → ServesOpen n → moves + measure n ≤ measure m + cost
+  pub goes : Goes IsAny m c (counting sent full n)
+  pub nearer : ServesOpen m → ServesOpen n → c.moves + measure n ≤ measure m + c.cost
 
 module _ {k : Setup} {place : ℕ} where
-  -- the step is so many moves of the machine, which cost so much together
+  -- the step is so many moves of the machine, as `none_sent` says
   abbrev pub AreMoves : ℕ → ℕ → Stepped k place → Type 0
-  AreMoves moves cost t = Leads moves cost (machine_before t) (machine_after t)
+  AreMoves moves cost t = Leads (none_sent moves cost) (machine_before t) (machine_after t)
 
-  -- it is one that costs nothing, or none
+  -- it is one such that costs nothing, or none
   abbrev pub IsMove : Stepped k place → Type 0
   IsMove t = AreMoves 1 0 t
 
-  -- or one of control
+  -- by it the device accepts this packet
+  abbrev pub DeviceAccepts : Packet → Stepped k place → Type 0
+  DeviceAccepts p t = Leads (one_sent p) (machine_before t) (machine_after t)
+
+  -- one of its moves is control's
+  abbrev pub AreMovesOfControl : ℕ → ℕ → Stepped k place → Type 0
+  AreMovesOfControl moves cost t = Leads (of_control moves cost) (machine_before t) (machine_after t)
+
+  -- it is one of control
   abbrev pub IsMoveOfControl : Stepped k place → Type 0
-  IsMoveOfControl t = AreMoves 1 control_cost t
+  IsMoveOfControl t = AreMovesOfControl 1 control_cost t
 
   abbrev pub IsNoMove : Stepped k place → Type 0
   IsNoMove t = AreMoves 0 0 t

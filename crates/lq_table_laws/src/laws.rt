@@ -23,7 +23,7 @@ ghost use Rattle.lq_table.specs.States.{clear_draining_at, clear_missed_at, clea
 ghost use Rattle.lq_table.specs.Locks.{look_lock_view, try_lock_view_in_call, try_lock_view_in_control, unlock_view_in_call, unlock_view_in_control};
 ghost use Rattle.lq_table.specs.Moves.{is_set, pass_view};
 ghost use Rattle.lq_table.specs.Stops.{load_xoff_view, stop_value, store_xoff_view, wake_view};
-ghost use Rattle.lq_table.specs.Views.{HalfResize, HolderPart, Left, Setup};
+ghost use Rattle.lq_table.specs.Views.{HalfResize, HolderPart, Left, Setup, machine_packet};
 ghost use Rattle.lq_device.specs.Station.{StationState};
 ghost use Rattle.lq_model.specs.Plan.{queue_in};
 ghost use Rattle.lq_model.specs.Steps.{queue_of_blocked};
@@ -31,10 +31,12 @@ ghost use Rattle.lq_model.specs.declared.fate.Fate.{Fate};
 ghost use Rattle.lq_model.specs.declared.machine.Blocked.{Blocked};
 ghost use Rattle.lq_model.specs.declared.machine.Packet.{Packet};
 ghost use Rattle.lq_model.specs.declared.machine.Position.TheVariants.{BlockedLoad, Control, Deq, Gate, Idle, Leave, StoreXoff, Unlock, Xmit};
-ghost use Rattle.lq_run_core.specs.Progress.{start_cost};
+ghost use Rattle.lq_run_core.specs.Progress.{Course, start_cost};
+ghost use Rattle.lq_run_core.specs.Waits.{packets};
 ghost use Rattle.lq_run_core.specs.Measure.{ServesOpen, measure};
 ghost use Rattle.lq_table_laws.specs.Rings.{BeginsResizeOf, IsEmptyingAt, IsLookingAt, IsPurgingAt, IsPuttingAt, IsInResize, IsAtPurge, IsAtSwap};
-ghost use Rattle.lq_table_laws.specs.Stepped.{AreMoves, GivesStation, IsMove, IsMoveOfControl, IsNoMove, KeepsStation, KeepsWord, Remains, Stepped, TakesStation, found, looks_in_call, machine_after, machine_before, stands_at, tries_in_call};
+ghost use Rattle.lq_table_laws.specs.Stepped.{AreMoves, AreMovesOfControl, GivesStation, IsMove, IsMoveOfControl, IsNoMove, DeviceAccepts, KeepsStation, KeepsWord, Leads, Remains, Stepped, TakesStation, found, looks_in_call, machine_after, machine_before, stands_at, tries_in_call};
+ghost use Rattle.lq_table_laws.specs.Runs.{Runs};
 ghost use Rattle.lq_table_laws.specs.Stands.{AreOpen, LeavesNoPacket, Table, machine_by, machine_for};
 
 /// Between any two steps of any seats the words stand for the machine that the rule tells. It keeps the invariant of the run lock and its
@@ -115,7 +117,7 @@ pub fn steps_at_the_device_are_moves()
     ensures store { (k : Setup) (queue : ℕ) (hung direct : Bool) (t : Stepped k (xoff_word k queue)) → queue < k.queues → KeepsStation t
         → t.stored ≡ stop_value hung → stands_at t ≡ StoreXoff queue hung direct → t.after ≡ store_xoff_view t.before → IsMove t }
     ensures send { (k : Setup) (n : ℕ) (f : Fate) (st : StationState) (t : Stepped k (fates_offset k + n)) → n < length k.infos → KeepsStation t
-        → MaySend n f st t.before → t.after ≡ settle_view_sent st t.before → IsMove t }
+        → MaySend n f st t.before → t.after ≡ settle_view_sent st t.before → DeviceAccepts (machine_packet k.infos n) t }
     ensures requeue { (k : Setup) (st : StationState) (p : Packet) (direct : Bool) (t : Stepped k state_place) → KeepsStation t → t.stored ≡ bit_or (found t) 4
         → stands_at t ≡ Xmit p direct → t.after ≡ requeue_view st t.before → AreMoves 2 19 t }
     ensures wake { (k : Setup) (queue : ℕ) (t : Stepped k (xoff_word k queue)) → queue < k.queues → KeepsStation t → found t ≡ 1 → t.stored ≡ 0 → stands_at t ≡ Idle
@@ -144,7 +146,7 @@ pub fn steps_at_the_calls_inside_are_moves()
     ensures enter { (k : Setup) (t : Stepped k inside_place) → KeepsStation t → stands_at t ≡ Idle → MayEnter t.before → t.after ≡ enter_view t.before
         → AreMoves 2 (start_cost (call_of (bringing_packet t.before))) t }
     ensures enter_returning { (k : Setup) (t : Stepped k inside_place) → KeepsStation t → stands_at t ≡ Control false → MayEnter t.before
-        → t.after ≡ enter_view t.before → AreMoves 3 (18 + start_cost (call_of (bringing_packet t.before))) t }
+        → t.after ≡ enter_view t.before → AreMovesOfControl 3 (18 + start_cost (call_of (bringing_packet t.before))) t }
 {}
 
 /// The steps of control: the start of a call of it costs 1, and each other step 18, which is one move of the machine. A set of DEACTIVATED by a seat in no call
@@ -161,7 +163,7 @@ pub fn steps_of_control_are_moves()
     ensures set_deactivated { (k : Setup) (event : ℕ) (t : Stepped k state_place) → KeepsStation t → t.stored ≡ bit_or (found t) (2 + 256 * (event + 1))
         → stands_at t ≡ Control false → MayDeactivate t.before → t.after ≡ set_deactivated_view event t.before → IsMoveOfControl t }
     ensures set_deactivated_idle { (k : Setup) (event : ℕ) (t : Stepped k state_place) → KeepsStation t
-        → t.stored ≡ bit_or (found t) (2 + 256 * (event + 1)) → stands_at t ≡ Idle → MayDeactivate t.before → t.after ≡ set_deactivated_view event t.before → AreMoves 2 19 t }
+        → t.stored ≡ bit_or (found t) (2 + 256 * (event + 1)) → stands_at t ≡ Idle → MayDeactivate t.before → t.after ≡ set_deactivated_view event t.before → AreMovesOfControl 2 19 t }
     ensures load_inside { (k : Setup) (holds : Bool) (t : Stepped k inside_place) → KeepsStation t → KeepsWord t → stands_at t ≡ Control holds
         → t.after ≡ load_inside_view (found t) t.before → IsMoveOfControl t }
     ensures clear_deactivated { (k : Setup) (t : Stepped k state_place) → KeepsStation t → t.stored ≡ bit_and (found t) 13 → stands_at t ≡ Control false
@@ -199,7 +201,16 @@ pub fn work_of_a_resize_is_no_move()
 /// So each of these steps that is one move or more makes the number of the machine less by one for each, but for what they cost, while a packet is
 /// served and all queues are open before and after it; and one that is no move leaves it.
 pub fn each_step_of_a_table_comes_nearer()
-    ensures moves { (k : Setup) (place n cost : ℕ) (t : Stepped k place) → AreMoves n cost t → ServesOpen (machine_before t) → ServesOpen (machine_after t)
-        → n + measure (machine_after t) ≤ measure (machine_before t) + cost }
+    ensures moves { (k : Setup) (place : ℕ) (c : Course) (t : Stepped k place) → Leads c (machine_before t) (machine_after t)
+        → ServesOpen (machine_before t) → ServesOpen (machine_after t) → c.moves + measure (machine_after t) ≤ measure (machine_before t) + c.cost }
     ensures none { (k : Setup) (place cost : ℕ) (t : Stepped k place) → AreMoves 0 cost t → measure (machine_after t) ≡ measure (machine_before t) }
+{}
+
+/// So what a table holds is sent, in whatever order its seats step. Let a packet be held, or in the hand of the run lock's holder, and let steps
+/// lead from one table to another, none of control, with every stop word 0 before and after each. If they are more moves than 20 for each packet
+/// that is held or with a seat, 42 for each seat and what the moves cost together, one of them stored that packet's fate as Sent.
+pub fn what_a_table_holds_is_sent()
+    ensures { (k : Setup) (first last : Table) (r : Rule k first) (q : Rule k last) (moves cost n : ℕ) (sent : List ℕ)
+        → Contains (held (account k r.state)) n ⊎ ((account k r.state).hand ≡ Some n) → Runs k first r moves cost sent last q
+        → 20 * packets (machine_by r) + 42 * length (machine_by r).seats + cost < moves → Contains sent n }
 {}
