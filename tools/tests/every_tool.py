@@ -52,7 +52,7 @@ OTHERS = {
     "compare-with-c": "in a folder of its own", "first-build": "in a folder of its own", "install": "below DIR, which tools/tests/installing.py tries",
     "check-kernel": "in --out, of its own", "inside-calls": "below --folder, and --schedule FILE, which is tried in tests/inside.py",
     "wrong-bodies": "crates/NAME/wrong-bodies/refused",
-    "names": "tools/names-left", "refused-growths": "in a folder of its own",
+    "refused-growths": "in a folder of its own",
     "test": "in folders of its own", "test-wrapper": "in a folder of its own",
     "test-beside-linux": "in a folder of its own", "test-docs": "in a folder of its own", "test-play": "in a folder of its own",
     "explore": "OUT.schedule and OUT.svg, which tools/tests/exploring.py tries", "make-play": "docs/play.html, or OUT.html",

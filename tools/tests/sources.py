@@ -89,7 +89,7 @@ def of_sources(name, files):
     """A repository with these files, and no tool but those that read them: the comments of others name files that it doesn't have."""
     top = repository(name, files)
     for it in (top / "tools").glob("**/*"):
-        if it.is_file() and it.name not in ("dead", "names", "names-left", "__init__.py", "words.py", "definitions.py", "comments.py"):
+        if it.is_file() and it.name not in ("dead", "names", "__init__.py", "words.py", "definitions.py", "comments.py"):
             it.unlink()
     return top
 
@@ -123,18 +123,10 @@ def dead():
 def names():
     other = {"crates/high/specs/Words.antt": "abbrev pub word : ℕ\nword = 2\n", "crates/high/specs/More.antt": "abbrev pub word : ℕ\nword = 3\n"}
     top = repository("names", SMALL | other)
-    (top / "tools/names-left").write_text("", encoding="utf-8")
-    said = run(top / "tools/names")
-    expect("names", said, 1, "word has 3 meanings, and may have 1: crates/high/specs/More.antt:1,", "1 names have several meanings, 1 of them")
-    (top / "tools/names-left").write_text("word 3\n", encoding="utf-8")
-    expect("names, as left", run(top / "tools/names"), 0, "word has 3 meanings: ")
-    (top / "crates/high/specs/More.antt").unlink()
-    expect("names, with fewer", run(top / "tools/names"), 1, "word no longer has 3 meanings")
-    expect("names, shrunk", run(top / "tools/names", "--shrink"), 0, "word has 2 meanings: ")
-    if (top / "tools/names-left").read_text(encoding="utf-8") != "word 2\n":
-        fault("names, shrunk: the list isn't 'word 2'")
-    (top / "crates/high/specs/Words.antt").unlink()
-    expect("names, all gone", run(top / "tools/names", "--shrink"), 0, "each name of a definition has one meaning")
+    expect("names", run(top / "tools/names"), 1, "word has 3 meanings: crates/high/specs/More.antt:1,", "1 names have several meanings")
+    for it in ("More", "Words"):
+        (top / f"crates/high/specs/{it}.antt").unlink()
+    expect("names, once each", run(top / "tools/names"), 0, "each name of a definition has one meaning")
 
 
 @case
