@@ -354,15 +354,18 @@ def can_be_read_again(name):
         return False
 
 
-def tell(tool, name, plan=None, capture=None):
-    """Says on standard error what is found of a capture; whether `lqtx` refuses it for that. What can't be read is left to who reads it."""
+def found_of(name, plan=None, capture=None):
+    """What is found of a capture; nothing of what can't be read, or read once alone: that is left to who reads it."""
     read = [name] if capture is None and str(name) != "-" else []
     if not all(map(can_be_read_again, read + [plan] * isinstance(plan, (str, os.PathLike)))):
-        return False
+        return []
     try:
-        found = of(name, plan, capture)
+        return of(name, plan, capture)
     except (OSError, Failed):
-        return False
-    for it in found:
+        return []
+
+
+def tell(tool, name, plan=None, capture=None):
+    """Says on standard error what is found of a capture."""
+    for it in found_of(name, plan, capture):
         say(tool, f"{name}: {it}")
-    return any(it.is_refused for it in found)

@@ -20,11 +20,13 @@ import shutil  # noqa: E402
 import signal  # noqa: E402
 import subprocess  # noqa: E402
 
-from lib import answers, kept, outputs, ways_out, without_proof  # noqa: E402
+from lib import answers, ends, kept, outputs, without_proof  # noqa: E402
 from lib.crates import NoKit  # noqa: E402
 
 TOP, say = kept.TOP, answers.tell
-MEANINGS = {2: f"the manual: man {TOP}/docs/lqtx.1, and {TOP}/README.md", 6: "not enough memory (exit code 6)", 9: "a word isn't UTF-8 (exit code 9)"}
+PAGES = {
+    2: f"the manual: man {TOP}/docs/lqtx.1, and {TOP}/README.md", 3: "docs/FORMATS.md, 'Plans', explains each reason, and lists common mistakes",
+}  # fmt: skip
 
 
 class Call:
@@ -38,19 +40,25 @@ class Call:
         self.kind = kept.PROVED if self.is_proved else kept.UNPROVED
         # whether `rt try` runs the program, and the note of the answer before the proof
         self.is_tried, self.note = False, kept.KEPT / f"answer.{os.getpid()}"
+        # what is found of the capture, once that was looked for; and the state in which its inputs are clean
+        self.found, self.looked_at = None, ""
 
+    def look(self):
+        """Looks for what is to be known of the capture. A fault of this tells nothing of the run."""
+        if self.found is None:
+            self.found = []
+            if self.given[:1] == ["run"] and self.command.inputs:
+                with contextlib.suppress(Exception):
+                    from lib import findings
 
-def why_not_read(file):
-    if os.access(file, os.R_OK) and not os.path.isdir(file):
-        return None
-    return f"a folder, not a file: {file}" if os.path.isdir(file) else f"can't be read: {file}" if os.path.exists(file) else f"there is no file {file}"
+                    state = self.command.state_of_inputs()
+                    self.found = findings.found_of(*reversed(self.command.inputs))
+                    self.looked_at = state if not self.found else ""
 
-
-def why_not_written(file):
-    folder = os.path.dirname(file) or "."
-    if not os.path.isdir(folder) or os.path.isdir(file):
-        return f"a folder, not a file: {file}" if os.path.isdir(file) else f"there is no folder {folder}"
-    return None if os.access(file if os.path.exists(file) else folder, os.W_OK) else f"can't be written: {file}"
+    def say_found(self, code=0):
+        """Says it, once."""
+        ends.say_found(self.command, self.found or [], code)
+        self.found = []
 
 
 def judge_outputs(call):
@@ -85,18 +93,19 @@ def judge_words(given):
     forms = {(form.split()[1], len(form.split()) - 1) for form in usage[len("usage: ") :].split(" | ")}
     if (given[0] if given else "", len(given)) not in forms or any(it[:1] in ("", "-") for it in given):
         print(usage)
-        say(MEANINGS[2])
+        say(PAGES[2])
         raise SystemExit(2)
-    fault = next(filter(None, map(why_not_read, outputs.Command(given).inputs)), None) if given[0] in ("run", "trace") else None
+    fault = next(filter(None, map(ends.why_not_read, outputs.Command(given).inputs)), None) if given[0] in ("run", "trace") else None
     if fault:
         say(fault)
         raise SystemExit(5)
 
 
-def ended(command, **how):
+def ended(command, meanwhile=lambda: None, **how):
     """The exit code of a command, which a signal to this process ends too."""
     process = subprocess.Popen(command, **how)
     try:
+        meanwhile()
         code = process.wait()
     except KeyboardInterrupt:
         process.terminate()
@@ -144,28 +153,23 @@ def make_unproved(call, sources):
         raise Failed("the program wasn't compiled without its proof") from fault
 
 
-def say_signal(number):
-    name = {int(it): it.name[3:] for it in signal.Signals}.get(number, "")
-    say(f"ended by signal {number} ({name}); the outputs may not be whole")
-
-
 def run_once(call, program):
     """Runs the program; notes which outputs it left."""
     before = call.command.written()
     try:
-        return answers.try_itself(call.command) if call.is_tried else ended([program, *call.command.words])
+        return answers.try_itself(call.command) if call.is_tried else ended([program, *call.command.words], call.look)
     except KeyboardInterrupt as it:
-        say_signal(it.args[0])
+        ends.say_signal(it.args[0])
         raise
     finally:
-        call.command.leave(before)
+        call.command.leave(before, call.looked_at)
 
 
 def run_program(call, program):
     """Runs it again where it came to its outputs, whose folder isn't there: it reads its inputs before it makes one."""
     code, command = run_once(call, program), call.command
     folder = os.path.dirname(command.out) if command.out is not None else ""
-    if code != 5 or not folder or os.path.exists(folder) or any(not os.path.isfile(it) or why_not_read(it) for it in command.inputs):
+    if code != 5 or not folder or os.path.exists(folder) or any(not os.path.isfile(it) or ends.why_not_read(it) for it in command.inputs):
         return code
     try:
         os.makedirs(folder)
@@ -175,64 +179,14 @@ def run_program(call, program):
     return run_once(call, program)
 
 
-def explain_fault(call):
-    """Which file a fault is about, as far as that can be seen from outside."""
-    command = call.command
-    say("a file or standard output can't be opened, read or written (exit code 5)")
-    faults = filter(None, [*map(why_not_read, command.inputs), *map(why_not_written, command.files())])
-    say(next(faults, None) or full_disk(command) or "its files can be opened: the disk may be full, or standard output closed")
-
-
-def full_disk(command):
-    """The file for which there was no room: the last one that was written."""
-    if command.out is None:
-        return None
-    room = os.statvfs(os.path.dirname(command.out) or ".")
-    if room.f_bavail * room.f_frsize > 65536 and (room.f_favail or not room.f_files):
-        return None
-    files = [f"{command.out}{it}" for it in command.written()]
-    return f"the disk is full: {max(files, key=os.path.getmtime) if files else command.names}"
-
-
-def told_by(tool, *given):
-    return subprocess.run([TOP / "tools" / tool, *given], stdin=subprocess.DEVNULL, capture_output=True, encoding="utf-8", errors="replace")
-
-
-def explain_capture(call, program):
-    """The line with the reason has gone to the caller: it is asked for once more."""
-    capture = next(iter(call.given[{"run": 2, "tap": 4}.get(call.given[0], len(call.given)) :]), "")
-    if os.path.isfile(capture) and not call.is_tried:
-        said = subprocess.run([program, *call.command.words], stdin=subprocess.DEVNULL, stdout=subprocess.PIPE, stderr=subprocess.DEVNULL).stdout
-        reason = re.search(rb"^capture refused: (\d+) ", said, re.M)
-        say(ways_out.way_out(int(reason[1]) if reason else None, capture))
-
-
-def explain(call, program, code):
-    if code in MEANINGS:
-        say(MEANINGS[code])
-    elif code == 3:
-        said = told_by("check-plan", call.given[1])
-        print(said.stdout, end="", file=sys.stderr)
-        # it ends with 3 where it found what is wrong
-        if said.returncode != 3:
-            say("docs/FORMATS.md, 'Plans', explains each reason, and lists common mistakes")
-    elif code == 4:
-        explain_capture(call, program)
-    elif code == 5:
-        explain_fault(call)
-    elif code == 7 and os.path.isfile(call.given[1]):
-        # which step failed, where the seat stood, and what can be done there
-        print(re.sub("^show-schedule: ", "lqtx: ", told_by("show-schedule", "--why", call.given[1]).stderr, flags=re.M), end="", file=sys.stderr)
-    elif code > 128:
-        say_signal(code - 128)
-
-
 def built(call, sources):
     """The program, made unless it is there."""
     program = sources.program(call.kind)
     if not kept.is_made(program):
         if not os.environ.get("LQTX_SHOW_PROGRAM"):
             judge_words(call.given)
+        call.look()
+        call.say_found()
         if not shutil.which("rt"):
             made, make = ("built", "build") if call.is_proved else ("compiled", "compile")
             raise Failed(f"the program isn't {made}, and there is no 'rt' on the PATH to {make} it")
@@ -247,7 +201,8 @@ def answer_of(call, program):
         writes = f"; it writes {call.command.names}" if call.command.out is not None else ""
         say(f"this program is not proved: checks stop it at an overflow or an index out of bounds, and nothing else is known of it{writes}")
     code = run_program(call, program)
-    explain(call, program, code)
+    call.say_found(code)
+    ends.explain(call.command, None if call.is_tried else program, code, PAGES)
     # with one sender both write the same, byte for byte
     if call.note.exists():
         try:
@@ -261,9 +216,9 @@ def main(given):
     if given[:1] == ["--after"]:
         call, code, number = Call(given[3:], ""), int(given[1]), int(given[2])
         if number:
-            say_signal(number)
+            ends.say_signal(number)
             raise KeyboardInterrupt(number)
-        explain(call, kept.KEPT / (kept.KEPT / f"current.{call.kind}").read_text(encoding="utf-8").split("\n")[0], code)
+        ends.explain(call.command, kept.KEPT / (kept.KEPT / f"current.{call.kind}").read_text(encoding="utf-8").split("\n")[0], code, PAGES)
         return code
     if given[:1] == ["--answer"]:
         try:

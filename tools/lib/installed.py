@@ -6,7 +6,7 @@ import signal
 import subprocess
 import sys
 
-from lib import findings, outputs, words
+from lib import ends, findings, outputs, words
 from lib.words import Failed
 
 TOP = pathlib.Path(__file__).resolve().parent.parent.parent
@@ -29,15 +29,6 @@ def judge_outputs(command):
         command.refuse_foreign()
 
 
-def explain(code, given):
-    """What an exit code is about, by the tools beside this."""
-    tools = {3: ["check-plan"], 7: ["show-schedule", "--why"]}
-    if code == 2:
-        words.say("lqtx", MANUAL)
-    elif code in tools and os.path.isfile(given[1]):
-        subprocess.run([sys.executable, TOP / "tools" / tools[code][0], *tools[code][1:], given[1]], stdin=subprocess.DEVNULL, stdout=sys.stderr)
-
-
 def main(given):
     if not PROGRAM.exists():
         raise Failed("the proved program wasn't there when this was installed: in the repository, ./lqtx proves and builds it, and then tools/install puts it here")
@@ -46,12 +37,12 @@ def main(given):
         return 0
     command = outputs.Command(given)
     judge_outputs(command)
-    if given[:1] == ["run"] and command.inputs:
-        findings.tell("lqtx", *reversed(command.inputs))
+    found = findings.found_of(*reversed(command.inputs)) if given[:1] == ["run"] and command.inputs else []
     before = command.written()
     code = subprocess.run([PROGRAM, *given], preexec_fn=end_with_caller).returncode
     command.leave(before)
-    explain(code, given)
+    ends.say_found(command, found, code)
+    ends.explain(command, PROGRAM, code, {2: MANUAL, 3: MANUAL})
     if code < 0:
         words.end_by(-code)
     return code

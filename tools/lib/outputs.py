@@ -5,7 +5,8 @@
 
 Files are compared by device and inode, so that neither a link nor another spelling hides one. Of an output that is left `.lqtx/NAME` beside it
 keeps inode, length and time. A file that has others now is the user's: one that was put there, or changed. The wrapper's shell reads and writes
-these notes too, for the outputs of a run together: `.lqtx/OUT.run`.
+these notes too, for the outputs of a run together: `.lqtx/OUT.run`. There the states of plan and capture come first, where they were looked at and nothing
+was found that is to be said of them (lib/findings.py).
 """
 import contextlib
 import os
@@ -63,12 +64,17 @@ class Command:
     def refuse_foreign(self, *counts: int) -> None:
         refuse_foreign(self.files(*counts), self.note)
 
-    def leave(self, before: Dict[str, str]) -> None:
-        """Notes which outputs a run left: those that were others before, and those that an earlier one left."""
+    def state_of_inputs(self) -> str:
+        """Of each input the device and the state; nothing where one is no file."""
+        states = [(it, state_of(it)) for it in self.inputs]
+        return "".join(f"{os.stat(it).st_dev}.{state} " for it, state in states) if all(state for _, state in states) else ""
+
+    def leave(self, before: Dict[str, str], looked_at: str = "") -> None:
+        """Notes which outputs a run left: those that were others before, and those that an earlier one left. LOOKED_AT is the state of its inputs."""
         own = noted(self.note) if self.out is not None else []
         left = [f"{self.out}{it}" for it, state in self.written().items() if state != before.get(it) or state in own]
         if left:
-            note(self.note, left)
+            note(self.note, left, looked_at)
 
 
 def picture(path: str) -> str:
@@ -149,12 +155,12 @@ def noted(name: str) -> List[str]:
         return []
 
 
-def note(name: str, files: Iterable[str]) -> None:
+def note(name: str, files: Iterable[str], looked_at: str = "") -> None:
     """Notes how files are left. Where that can't be written they count as the user's."""
     with contextlib.suppress(OSError):
         os.makedirs(os.path.dirname(note_of(name)), exist_ok=True)
         with open(note_of(name), "w", encoding="ascii") as it:
-            it.write("".join(f"{state} " for state in map(state_of, files) if state) + "\n")
+            it.write(looked_at + "".join(f"{state} " for state in map(state_of, files) if state) + "\n")
 
 
 def is_foreign(path: str, name: str) -> bool:
