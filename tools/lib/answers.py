@@ -20,6 +20,7 @@ from lib.outputs import Command, file_of, is_foreign
 from lib.words import Failed, ignore_signals, say
 
 NOT_COMPARED = {5: "a file can't be opened, read or written", 6: "not enough memory"}
+SMALL = 4 * 2**20  # bytes of inputs
 FREE = 3 * 2**30  # bytes of memory that are to be free where the proof is under way too
 tell = functools.partial(say, "lqtx")
 
@@ -31,6 +32,12 @@ def digest(path):
 def digests(command):
     """The outputs that are there, by what follows OUT in their names."""
     return {it: digest(f"{command.out}{it}") for it in command.written()}
+
+
+def kind_for(command, sources):
+    """Which program without a proof is to answer: for small inputs that whose compiling takes less time, unless the other is there."""
+    sizes = [os.path.getsize(it) if os.path.isfile(it) else SMALL + 1 for it in command.inputs]
+    return kept.FOR_SMALL if command.words and sum(sizes) <= SMALL and not kept.is_made(sources.program(kept.UNPROVED)) else kept.UNPROVED
 
 
 def make(program):
@@ -48,8 +55,11 @@ def make(program):
                 tell("another program without a proof is compiled here: this one waits for its end")
                 fcntl.flock(lock, fcntl.LOCK_EX)
             if not kept.is_made(program):
-                without_proof.make("lqtx", program)
-                kept.drop_old(kept.UNPROVED)
+                kind, _, sums = program.name.partition(".")
+                level = "-O0" if kind == kept.FOR_SMALL else "-O1"
+                without_proof.make("lqtx", program, level=level, module=program.with_name(f"{kept.MODULE}.{sums}"))
+                for it in (kept.UNPROVED, kept.FOR_SMALL, kept.MODULE):
+                    kept.drop_old(it)
     except OSError as fault:
         raise without_proof.NotMade(f"{program.parent} can't be written; it would be kept there ({fault.strerror})") from fault
 

@@ -47,6 +47,13 @@ def kit():
     return pathlib.Path(os.path.realpath(found)).parent.parent
 
 
+def link_command(code, program):
+    """What makes a program of its code."""
+    top = kit()
+    words = [f"{top}/bin/rattle-link", "--target", "x86_64-unknown-linux-gnu", "--toolchain", f"{top}/toolchain", "-o", str(program)]
+    return [*words, str(code), f"{top}/c/libos_c.a", f"{top}/c/liblibc_c.a"]
+
+
 def folders_of(crate):
     """The folders in which its sources and proofs are."""
     for folder, folders, _ in os.walk(TOP / "crates" / crate):

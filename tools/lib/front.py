@@ -121,7 +121,7 @@ def build(call, sources):
     try:
         with contextlib.ExitStack() as stack:
             if call.given:
-                command = [sys.executable, "-S", "-B", __file__, "--answer", sources.program(kept.UNPROVED), call.note, *call.given]
+                command = [sys.executable, "-S", "-B", __file__, "--answer", sources.program(answers.kind_for(outputs.Command(call.given), sources)), call.note, *call.given]
                 beside = subprocess.Popen(command, stdout=subprocess.DEVNULL)
                 stack.callback(beside.wait)
                 stack.callback(beside.terminate)
@@ -142,9 +142,10 @@ def build(call, sources):
 
 def make_unproved(call, sources):
     """Compiles the program without its proof. With a kit by which it can't be kept `rt try` runs it."""
-    say("compiling the program without its proof, once: a minute or two of one processor")
+    again = sources.program(kept.MODULE).is_file()
+    say(f"compiling the program without its proof, once: {'half a minute' if again else 'one or two minutes'} of a processor")
     try:
-        answers.make(sources.program(kept.UNPROVED))
+        answers.make(sources.program(call.kind))
     except without_proof.FormRefused as fault:
         say(f"this kit doesn't make a program that can be kept, so `rt try` runs it each time: {str(fault).splitlines()[0][:300]}")
         call.is_tried = True
@@ -181,6 +182,8 @@ def run_program(call, program):
 
 def built(call, sources):
     """The program, made unless it is there."""
+    if not call.is_proved:
+        call.kind = answers.kind_for(call.command, sources)
     program = sources.program(call.kind)
     if not kept.is_made(program):
         if not os.environ.get("LQTX_SHOW_PROGRAM"):

@@ -9,8 +9,9 @@ import os
 from lib.crates import CRATES, TOP, NoKit, checksum_of_sources, checksum_of_toolchain, crates_below, files_of, folders_of, kit, told_by_toolchain
 
 KEPT = TOP / "build"
-PROVED, UNPROVED = "lqtx", "unproved"
-STAYING = {PROVED: 5, UNPROVED: 2}  # the newest ones stay, for going back and forth between states of the sources
+# the unproved one for small inputs is compiled in less time; of a module the other is made
+PROVED, UNPROVED, FOR_SMALL, MODULE = "lqtx", "unproved", "small", "module"
+STAYING = {PROVED: 5, UNPROVED: 2, FOR_SMALL: 2, MODULE: 2}  # the newest ones stay, for going back and forth between states of the sources
 
 
 def is_made(program):
@@ -39,10 +40,11 @@ class Sources:
         with contextlib.suppress(OSError, NoKit):
             names = "".join(f"{os.path.relpath(it, TOP)}\0" for it in self.parts)
             for name, text in (("sources", names), ("current", f"{self.program(kind).name}\n{kit()}/bin/rt\n")):
-                part = KEPT / f"{name}.{kind}.{os.getpid()}"
+                whole = KEPT / f"{name}.{PROVED if kind == PROVED else UNPROVED}"
+                part = whole.with_name(f"{whole.name}.{os.getpid()}")
                 part.write_text(text, encoding="utf-8")
                 os.utime(part, ns=(self.last_change, self.last_change))
-                part.replace(KEPT / f"{name}.{kind}")
+                part.replace(whole)
 
 
 def drop_old(kind):
