@@ -37,7 +37,7 @@ pub struct Wire {
 
 impl Wire {
     ghost use Rattle.lq_model.specs.Wire.{Wired, with_flights};
-    ghost use Rattle.lq_lone.specs.Lone.{count_of};
+    ghost use Rattle.lq_lone.specs.Lone.{slot_count};
     ghost use Rattle.lq_wire.specs.Wired.{IsWire};
 
     pub fn new(alloc: Global, card: Card) -> Wire
@@ -98,9 +98,9 @@ impl Wire {
         accepted: Option<u32>,
     ) -> Result<(), AllocError>
         requires near { now < 2 ^ 96 }
-        requires few { self.old.accepted + count_of accepted ≤ 1000000 }
+        requires few { self.old.accepted + slot_count accepted ≤ 1000000 }
         ensures accepts { OnOk result ((w : Wired) → IsWire self.old w → IsWire self.new (with_flights self.old.card (F.packets frames.now) now (option_to_list accepted) w)) }
-        ensures accepted { OnOk result (self.new.accepted ≡ self.old.accepted + count_of accepted) }
+        ensures accepted { OnOk result (self.new.accepted ≡ self.old.accepted + slot_count accepted) }
         ensures card { self.new.card ≡ self.old.card }
     {
         match accepted {

@@ -125,7 +125,7 @@ impl Wired {
         ensures opens { (w : WiredStation) → IsWired self.now w → result ≡ (is_shut w.station && ring_has_room self.now.wire.card w.ring) }
         ensures stopped { result ≡ true → self.now.station.stopped ≡ true }
     {
-        self.station.is_stopped() && self.wire.has_room()
+        self.station.is_stopped() && self.wire.ring_has_room()
     }
 
     /// Opens the queue at a moment as often as it is stopped and there is room: how often.
