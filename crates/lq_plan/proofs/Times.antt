@@ -88,10 +88,3 @@ module _ (microseconds : ℕ) (packets : Packets) where
       | inr last ↦ so_far.rest k last ∙ sym (opened-last plan k (omega arith))
     ];
   }
-
-  -- none is above the most that count
-  pub times-few : (times : List ℕ) → AreTimes microseconds packets times → (plan : Plan) (n : ℕ) → n < packets.count → get_or times n 0 ≤ 65535
-  times-few times are plan n below = elim (cases_lt (n + 1) packets.count) [
-    | inl next ↦ omega (arith, are.each plan n below ∙ opened-within plan n next)
-    | inr last ↦ omega (arith, are.each plan n below ∙ opened-last plan n last)
-  ]

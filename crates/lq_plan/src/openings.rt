@@ -1,6 +1,6 @@
 //! How often the stopped queues are opened after each packet.
 ghost use Rattle.std.specs.Prelude.{◌≡◌, ◌<◌, IfOk, min, replicate};
-ghost use Rattle.lq_model.specs.Openings.{multiples_between};
+ghost use Rattle.lq_model.specs.Openings.{multiples_between, openings_by};
 ghost use Rattle.lq_plan.specs.Openings.{AreTimes, IsOpenings, opens_after, opens_within};
 
 use crate::plan::Plan;
@@ -18,18 +18,19 @@ pub enum Openings {
     Every { packets: u32 },
     /// So often after each packet of the capture.
     Listed { times: Vec<u16> },
+    /// So often after each packet, where a card on a wire opens them.
+    Wired { times: Vec<u32> },
 }
 
 impl Openings {
-    /// How often the plan opens them after each packet. The capture is looked at only where they are opened by its time.
+    /// How often after each packet as the plan's `irq` says. The capture is looked at only where that is by its time.
     ///
     /// # NoMemory
     ///
     /// There was no room for two bytes a packet, where they are opened by time.
     pub fn new<F: Frames>(alloc: Global, plan: &Plan, frames: &F) -> Result<Self, NoMemory>
-        ensures { IfOk result (IsOpenings plan.now (F.packets frames.now)) }
+        ensures { IfOk result (IsOpenings plan.now (F.packets frames.now) (openings_by plan.now.irq plan.now (F.packets frames.now))) }
     {
-        plan.stays_within_limits();
         match plan.irq() {
             Irq::Every { packets } => Ok(Openings::Every { packets }),
             Irq::Period { microseconds } => match times_of(alloc, microseconds, frames) {
@@ -47,6 +48,7 @@ impl Openings {
         match self {
             Openings::Every { packets } => u32::from(sent % *packets + 1 == *packets),
             Openings::Listed { times } => u32::from(times[n as usize]),
+            Openings::Wired { times } => times[n as usize],
         }
     }
 }

@@ -11,7 +11,7 @@ use Rattle.lq_model.specs.declared.fate.Info.{Info}
 use Rattle.lq_model.specs.declared.plan.EventKind.{EventKind}
 use Rattle.lq_plan.specs.Openings.{opens_after, opens_within}
 use Rattle.lq_plan.specs.declared.openings.Openings.{Openings}
-use Rattle.lq_plan.specs.declared.openings.Openings.TheVariants.{Every, Listed}
+use Rattle.lq_plan.specs.declared.openings.Openings.TheVariants.{Every, Listed, Wired}
 use Rattle.lq_seat.specs.Calls.{DoesEvent, DoesSwap}
 use Rattle.lq_seat.specs.State.{SeatState}
 
@@ -36,6 +36,7 @@ KnowOpenings openings infos = (n : ℕ) → n < length infos → opens_within op
 within-prop : (openings : Openings) (n : ℕ) → IsProp (opens_within openings n)
 within-prop (Every packets) n = le_prop
 within-prop (Listed times) n = le_prop
+within-prop (Wired times) n = le_prop
 
 -- there is one proof of it at most
 pub known-prop : (openings : Openings) (infos : List Info) → IsProp (KnowOpenings openings infos)
@@ -49,6 +50,7 @@ openings_of infos opens sender n = sum_by opens (filter (λ m. owner_in infos m 
 abbrev pub packets_each : Openings → ℕ
 packets_each (Every packets) = packets
 packets_each (Listed times) = 0
+packets_each (Wired times) = 0
 
 -- so many packets are left to the next opening by their number, where the sender sent so many
 abbrev pub CountsDown : Openings → ℕ → ℕ → Type 0

@@ -13,7 +13,7 @@ pub fn left_at_start(openings: &Openings) -> u32
 {
     match openings {
         Openings::Every { packets } => *packets,
-        Openings::Listed { times: _ } => 0,
+        Openings::Listed { times: _ } | Openings::Wired { times: _ } => 0,
     }
 }
 
@@ -23,7 +23,7 @@ pub fn left_after_packet(openings: &Openings, left: u32) -> u32
 {
     match openings {
         Openings::Every { packets } => left_after_one(left, *packets),
-        Openings::Listed { times: _ } => 0,
+        Openings::Listed { times: _ } | Openings::Wired { times: _ } => 0,
     }
 }
 
@@ -35,6 +35,6 @@ pub fn opened_after(openings: &Openings, n: u32, at: Progress) -> u32
 {
     match openings {
         Openings::Every { packets: _ } => u32::from(is_multiple_next(at.left)),
-        Openings::Listed { times: _ } => openings.after(n, at.sent),
+        Openings::Listed { times: _ } | Openings::Wired { times: _ } => openings.after(n, at.sent),
     }
 }

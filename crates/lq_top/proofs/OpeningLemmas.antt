@@ -68,10 +68,10 @@ module _ (plan : Plan) (packets : Packets) where
   below-count : (infos : List Info) (n : ℕ) → infos ≡ infos_of plan packets → n < length infos → n < packets.count
   below-count infos n are within = subst (λ count. n < count) (ap length are ∙ length-infos_of plan packets) within
 
-  pub know-openings : (infos : List Info) (found : Openings) → infos ≡ infos_of plan packets → IsOpenings plan packets found → KnowOpenings found infos
+  pub know-openings : (infos : List Info) (found : Openings) → infos ≡ infos_of plan packets → IsOpenings plan packets (openings plan packets) found → KnowOpenings found infos
   know-openings infos found are is n within = is.within n (below-count infos n are within)
 
-  pub opens-are : (infos : List Info) (found : Openings) → infos ≡ infos_of plan packets → IsOpenings plan packets found → OpensAre found infos (openings plan packets)
+  pub opens-are : (infos : List Info) (found : Openings) → infos ≡ infos_of plan packets → IsOpenings plan packets (openings plan packets) found → OpensAre found infos (openings plan packets)
   opens-are infos found are is =
       subst (λ (given : List Info). OpensAre found given (openings plan packets)) (sym are)
       (λ n within. let below = below-count (infos_of plan packets) n refl within in

@@ -19,9 +19,10 @@ use lq_fates::Fates;
 use lq_files::{RunInputs, RunReport, Stop, write_counts, write_run};
 use lq_host::Host;
 use lq_model::{Info, NoMemory};
-use lq_plan::{Openings, Plan, infos};
+use lq_plan::{Plan, infos};
 use lq_senders::{Gate, Resources, RunFates, send_all};
 use lq_table::Ended;
+use lq_wire::openings_of_plan;
 use std::alloc::Global;
 use std::marker::Sync;
 use std::sync::Wait;
@@ -53,7 +54,7 @@ pub fn send_capture<R: Threads + Wait + Sync, G: Gate, D: TxDevice>(
     ensures boxes { identities_of (map D.state bench.new.items) ≡ identities_of (map D.state bench.old.items) }
 {
     let infos = infos(on.rt, on.alloc, run.plan, run.capture)?;
-    let openings = Openings::new(on.alloc, run.plan, run.capture)?;
+    let openings = openings_of_plan(on.alloc, run.plan, &infos, run.capture)?;
     send_all(on, run.plan, &infos, &openings, bench, ended)?;
     Ok(infos)
 }

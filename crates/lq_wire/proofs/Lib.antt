@@ -12,3 +12,5 @@ pub mod Changes
 pub mod Starts
 -- a packet, and what follows it
 pub mod Turns
+-- a plan with a card fits it
+pub mod Fits

@@ -4,8 +4,10 @@
 //! that a byte takes 8,000,000 and nothing is rounded.
 #![tactic(auto)]
 
+mod opens;
 mod pass;
 mod wire;
 mod wired;
 
+pub use opens::openings_of_plan;
 pub use pass::times_of_wire;

@@ -1,7 +1,5 @@
-use Rattle.std.proofs.Common.{sym, ap, ◌∙◌, arith}
+use Rattle.std.proofs.Common.{ap, ◌∙◌, arith}
 use Rattle.lq_model.specs.Openings.{openings_by}
-use Rattle.lq_plan.specs.Limits.{version_4}
-use Rattle.lq_plan.proofs.Times.{opens-by, times-few}
 use Rattle.lq_plan.proofs.openings.Openings.new.Goals as goal
 
 pub returns-in-Ok : goal.returns-in-Ok
@@ -9,7 +7,5 @@ returns-in-Ok g c =
     let plan = c.args.plan.now in let packets = g.F.Frames.packets c.args.frames.now in
     record {
       within = λ n below. omega (arith, c.in-Ok.ensures.count);
-      each = λ n sent below number.
-          c.in-Ok.ensures.each plan n below ∙ ap (λ irq. openings_by irq plan packets n) c.in-Period.ensures.irq ∙ sym (opens-by version_4 plan packets n c.stays_within_limits.ensures);
-      few = λ n sent below. times-few c.in-Period.microseconds packets c.in-Ok.times.items c.in-Ok.ensures plan n below;
+      each = λ n sent below number. c.in-Ok.ensures.each plan n below ∙ ap (λ irq. openings_by irq plan packets n) c.in-Period.ensures.irq;
     }
