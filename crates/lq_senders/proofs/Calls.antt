@@ -36,8 +36,8 @@ calls-keep v w (one_more now new calls call) = seat-on v now new (calls-keep v n
 
 -- ALL SEATS
 
-pub none-called : (cpus : List SeatState) → AllDid PlanCalls cpus cpus
-none-called cpus = record {
+pub none-called : (seats : List SeatState) → AllDid PlanCalls seats seats
+none-called seats = record {
   long = refl;
   each = λ j c c' at at'. subst (λ (x : SeatState). PlanCalls c x) (same_Some c c' (sym at ∙ at')) not_called;
 }
@@ -46,10 +46,10 @@ pub called-keep : (old new : List SeatState) → AllDid PlanCalls old new → Ke
 called-keep old new did = record { long = did.long; each = λ j c c' at at'. calls-keep c c' (did.each j c c' at at') }
 
 -- a call at one of them
-pub called-set : (cpus : List SeatState) (i : ℕ) (c c' : SeatState) → slice_get cpus i ≡ Some c → PlanCalls c c' → AllDid PlanCalls cpus (slice_set cpus i c')
-called-set cpus i c c' there calls = record {
-  long = length-set cpus i c';
-  each = λ j d d' at at'. each-set (λ (j : ℕ) (x : SeatState). (d : SeatState) → slice_get cpus j ≡ Some d → PlanCalls d x) cpus i c' (slice_get_within cpus i c there)
+pub called-set : (seats : List SeatState) (i : ℕ) (c c' : SeatState) → slice_get seats i ≡ Some c → PlanCalls c c' → AllDid PlanCalls seats (slice_set seats i c')
+called-set seats i c c' there calls = record {
+  long = length-set seats i c';
+  each = λ j d d' at at'. each-set (λ (j : ℕ) (x : SeatState). (d : SeatState) → slice_get seats j ≡ Some d → PlanCalls d x) seats i c' (slice_get_within seats i c there)
       (λ d at. subst (λ (z : SeatState). PlanCalls z c') (same_Some c d (sym there ∙ at)) calls)
       (λ j x other at d at'. subst (λ (z : SeatState). PlanCalls d z) (same_Some d x (sym at' ∙ at)) not_called)
       j d' at' d at;

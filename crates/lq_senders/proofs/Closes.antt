@@ -140,18 +140,18 @@ fates-finished plan infos tables old new from lane did runs j c at =
 
 -- CLOSED TABLES
 
-pub none-closed : (plan : Plan) (infos : List Info) (cpus : List SeatState) → FirstClosed plan infos 0 cpus []
-none-closed plan infos cpus = record { so_many = refl; each = λ j c x at at'. absurd cc }
+pub none-closed : (plan : Plan) (infos : List Info) (seats : List SeatState) → FirstClosed plan infos 0 seats []
+none-closed plan infos seats = record { so_many = refl; each = λ j c x at at'. absurd cc }
 
-pub one-closed : (plan : Plan) (infos : List Info) (k : ℕ) (cpus : List SeatState) (closed : List ClosedState) (c : SeatState) (x : ClosedState) → slice_get cpus k ≡ Some c → IsClosedStation plan infos k c x
-    → FirstClosed plan infos k cpus closed → FirstClosed plan infos (k + 1) cpus (closed ++ x ∷ [])
-one-closed plan infos k cpus closed c x at-c is first = record {
+pub one-closed : (plan : Plan) (infos : List Info) (k : ℕ) (seats : List SeatState) (closed : List ClosedState) (c : SeatState) (x : ClosedState) → slice_get seats k ≡ Some c → IsClosedStation plan infos k c x
+    → FirstClosed plan infos k seats closed → FirstClosed plan infos (k + 1) seats (closed ++ x ∷ [])
+one-closed plan infos k seats closed c x at-c is first = record {
   so_many = let so_many = first.so_many in omega (arith, length-append closed (x ∷ []));
   each = λ j d y at at'. elim (get-push-cases closed x y j at') [
     | inl old ↦ first.each j d y at old
     | inr new ↦
         (let here : j ≡ k = new.0 ∙ first.so_many in
-        let d-is : c ≡ d = same_Some c d (sym at-c ∙ (ap (slice_get cpus) (sym here) ∙ at)) in
+        let d-is : c ≡ d = same_Some c d (sym at-c ∙ (ap (slice_get seats) (sym here) ∙ at)) in
         subst (λ (i : ℕ). IsClosedStation plan infos i d y) (sym here) (subst (λ (z : SeatState). IsClosedStation plan infos k z y) d-is (subst (λ (z : ClosedState). IsClosedStation plan infos k c z) new.1 is)))
   ];
 }

@@ -32,13 +32,13 @@ pub record EventsDone (plan : Plan) (infos : List Info) (tables : List TableStat
   pub stands : LaneStands plan infos sender e n tables now
   pub others : sender ≢ 0 → now ≡ start
 
-pub none-done : (plan : Plan) (infos : List Info) (tables : List TableState) (sender next n : ℕ) (cpus : List SeatState) (spares : List DeviceState)
-    → next ≤ length plan.events → (sender ≡ 0 → StandAfter plan next n) → LaneStands plan infos sender next n tables cpus → EventsDone plan infos tables sender next n next cpus spares cpus spares
-none-done plan infos tables sender next n cpus spares within left lane = record {
+pub none-done : (plan : Plan) (infos : List Info) (tables : List TableState) (sender next n : ℕ) (seats : List SeatState) (spares : List DeviceState)
+    → next ≤ length plan.events → (sender ≡ 0 → StandAfter plan next n) → LaneStands plan infos sender next n tables seats → EventsDone plan infos tables sender next n next seats spares seats spares
+none-done plan infos tables sender next n seats spares within left lane = record {
   order = omega arith;
   within = within;
   left = left;
-  first = no-events-yet plan infos tables next n cpus spares;
+  first = no-events-yet plan infos tables next n seats spares;
   stands = lane;
   others = λ _. refl;
 }
@@ -76,21 +76,21 @@ pub record PacketSent (plan : Plan) (infos : List Info) (tables : List TableStat
   pub runs : (stations : List RunningStation) → AreRunAlone plan infos old stations → AreRunAlone plan infos new (with_packet plan infos n stations)
 
 -- the sender's seat at its packet's station, before the packet is sent and once it is
-pub record SeatOfPacket (plan : Plan) (infos : List Info) (tables : List TableState) (sender count n : ℕ) (cpus : List SeatState) (info : Info) (t : TableState) (c : SeatState) : Type 0 where
+pub record SeatOfPacket (plan : Plan) (infos : List Info) (tables : List TableState) (sender count n : ℕ) (seats : List SeatState) (info : Info) (t : TableState) (c : SeatState) : Type 0 where
   pub stands : StandsAt plan infos sender count n info.station t c
   pub next : MaySendNext n c
-  pub sent : (c' : SeatState) → (sender ≡ 0 → IsSplitAt plan count n) → SendsPacket n c c' → PacketSent plan infos tables sender count n cpus (slice_set cpus info.station c')
+  pub sent : (c' : SeatState) → (sender ≡ 0 → IsSplitAt plan count n) → SendsPacket n c c' → PacketSent plan infos tables sender count n seats (slice_set seats info.station c')
 
-module _ (plan : Plan) (infos : List Info) (sendable : IsSendable plan infos) (tables : List TableState) (sender count n : ℕ) (cpus : List SeatState) (lane : LaneStands plan infos sender count n tables cpus)
-    (info : Info) (there : slice_get infos n ≡ Some info) (own : info.owner ≡ sender) (t : TableState) (is-t : t ≡ slice_index_or tables info.station t) (c : SeatState) (is-c : c ≡ slice_index_or cpus info.station c) where
+module _ (plan : Plan) (infos : List Info) (sendable : IsSendable plan infos) (tables : List TableState) (sender count n : ℕ) (seats : List SeatState) (lane : LaneStands plan infos sender count n tables seats)
+    (info : Info) (there : slice_get infos n ≡ Some info) (own : info.owner ≡ sender) (t : TableState) (is-t : t ≡ slice_index_or tables info.station t) (c : SeatState) (is-c : c ≡ slice_index_or seats info.station c) where
   within : info.station < length plan.stations
   within = (all-at (IsInfoWithin plan) infos n info sendable.within there).station
 
   at-t : slice_get tables info.station ≡ Some t
-  at-t = table-at plan infos sender count n tables cpus lane info.station t within is-t
+  at-t = table-at plan infos sender count n tables seats lane info.station t within is-t
 
-  at-c : slice_get cpus info.station ≡ Some c
-  at-c = seat-at plan infos sender count n tables cpus lane info.station c within is-c
+  at-c : slice_get seats info.station ≡ Some c
+  at-c = seat-at plan infos sender count n tables seats lane info.station c within is-c
 
   here : StandsAt plan infos sender count n info.station t c
   here = lane.each info.station t c at-t at-c
@@ -106,21 +106,21 @@ module _ (plan : Plan) (infos : List Info) (sendable : IsSendable plan infos) (t
         turn = ap (λ (o : ℕ). slice_index c.turns o) owner ∙ (here.stands.turn ∙ rank);
       })
 
-  packet-sent : (c' : SeatState) → (sender ≡ 0 → IsSplitAt plan count n) → SendsPacket n c c' → PacketSent plan infos tables sender count n cpus (slice_set cpus info.station c')
+  packet-sent : (c' : SeatState) → (sender ≡ 0 → IsSplitAt plan count n) → SendsPacket n c c' → PacketSent plan infos tables sender count n seats (slice_set seats info.station c')
   packet-sent c' split sends = record {
-    stands = lane-sent plan infos sender count n tables cpus info t c c' sendable.ranks there own at-t at-c split sends lane;
-    keeps = keep-set cpus info.station c c' at-c (sends-keep n c c' sends);
+    stands = lane-sent plan infos sender count n tables seats info t c c' sendable.ranks there own at-t at-c split sends lane;
+    keeps = keep-set seats info.station c c' at-c (sends-keep n c c' sends);
     packet = let at : info.station ≡ station_in infos n = sym (station-is infos n info there) in record {
       before = c;
       after = c';
-      there = subst (λ (j : ℕ). slice_get cpus j ≡ Some c) at at-c;
+      there = subst (λ (j : ℕ). slice_get seats j ≡ Some c) at at-c;
       sends = sends;
-      laid = ap (λ (j : ℕ). slice_set cpus j c') at;
+      laid = ap (λ (j : ℕ). slice_set seats j c') at;
     };
-    runs = λ stations runs. runs-sent plan infos sender count n tables cpus stations info t c c' there at-t at-c sends lane runs;
+    runs = λ stations runs. runs-sent plan infos sender count n tables seats stations info t c c' there at-t at-c sends lane runs;
   }
 
-  pub seat-of-packet : SeatOfPacket plan infos tables sender count n cpus info t c
+  pub seat-of-packet : SeatOfPacket plan infos tables sender count n seats info t c
   seat-of-packet = record { stands = here; next = may-send; sent = packet-sent }
 
 -- ALL OF IT

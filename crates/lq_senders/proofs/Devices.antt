@@ -46,24 +46,24 @@ has-first f (x ∷ xs) y ys same = omega arith
 
 module _ (plan : Plan) (infos : List Info) (units : List DeviceState) where
   -- the first spare device is that of the next swap
-  first-spare : (count : ℕ) (event : EventPlan) (cpus : List SeatState) (spares : List DeviceState) → slice_get plan.events count ≡ Some event → is_swap event ≡ true
-      → (stand : DevicesStand plan infos units count cpus spares)
+  first-spare : (count : ℕ) (event : EventPlan) (seats : List SeatState) (spares : List DeviceState) → slice_get plan.events count ≡ Some event → is_swap event ≡ true
+      → (stand : DevicesStand plan infos units count seats spares)
       → (came : DeviceState) × (slice_get units (unit_of_swap plan count) ≡ Some came) × (spares ≡ came ∷ (drop (suc (unit_of_swap plan count)) units ++ stand.taken))
-  first-spare count event cpus spares there swap stand = (x.0, x.1, stand.spares_are ∙ ap (λ l. l ++ stand.taken) (drop-one units (unit_of_swap plan count) x.0 x.1))
+  first-spare count event seats spares there swap stand = (x.0, x.1, stand.spares_are ∙ ap (λ l. l ++ stand.taken) (drop-one units (unit_of_swap plan count) x.0 x.1))
     where
       x : (came : DeviceState) × (slice_get units (unit_of_swap plan count) ≡ Some came)
       x = event-there units (unit_of_swap plan count) (let within = unit-within plan count event there swap in let long = stand.units_are.long in omega arith)
 
-  pub first-comes : {X : Type 0} (f : X → DeviceState) (count : ℕ) (event : EventPlan) (cpus : List SeatState) (items : List X) (x : X) → slice_get plan.events count ≡ Some event → is_swap event ≡ true
-      → x ≡ slice_index_or items 0 x → DevicesStand plan infos units count cpus (map f items) → slice_get units (unit_of_swap plan count) ≡ Some (f x)
-  first-comes f count event cpus items x there swap is stand =
-      let first = first-spare count event cpus (map f items) there swap stand in
+  pub first-comes : {X : Type 0} (f : X → DeviceState) (count : ℕ) (event : EventPlan) (seats : List SeatState) (items : List X) (x : X) → slice_get plan.events count ≡ Some event → is_swap event ≡ true
+      → x ≡ slice_index_or items 0 x → DevicesStand plan infos units count seats (map f items) → slice_get units (unit_of_swap plan count) ≡ Some (f x)
+  first-comes f count event seats items x there swap is stand =
+      let first = first-spare count event seats (map f items) there swap stand in
       first.1 ∙ ap Some (first-read f items x first.0 (drop (suc (unit_of_swap plan count)) units ++ stand.taken) first.2 is)
 
-  pub some-spare : {X : Type 0} (f : X → DeviceState) (count : ℕ) (event : EventPlan) (cpus : List SeatState) (items : List X) → slice_get plan.events count ≡ Some event → is_swap event ≡ true
-      → DevicesStand plan infos units count cpus (map f items) → 0 < length items
-  some-spare f count event cpus items there swap stand =
-      let first = first-spare count event cpus (map f items) there swap stand in has-first f items first.0 (drop (suc (unit_of_swap plan count)) units ++ stand.taken) first.2
+  pub some-spare : {X : Type 0} (f : X → DeviceState) (count : ℕ) (event : EventPlan) (seats : List SeatState) (items : List X) → slice_get plan.events count ≡ Some event → is_swap event ≡ true
+      → DevicesStand plan infos units count seats (map f items) → 0 < length items
+  some-spare f count event seats items there swap stand =
+      let first = first-spare count event seats (map f items) there swap stand in has-first f items first.0 (drop (suc (unit_of_swap plan count)) units ++ stand.taken) first.2
 
   -- the seats have the same devices still
   pub devices-same : (count : ℕ) (old new : List SeatState) (spares : List DeviceState) → SameDevices old new → DevicesStand plan infos units count old spares → DevicesStand plan infos units count new spares
@@ -88,9 +88,9 @@ module _ (plan : Plan) (infos : List Info) (units : List DeviceState) where
   devices-kept count old new spares keeps = devices-same count old new spares (record { long = keeps.long; each = λ j c c' at at'. let own = keeps.each j c c' at at' in (ap (λ (s : SeatState). s.origin) own, ap (λ (s : SeatState). s.gone) own) })
 
   -- an event that swaps no device
-  pub devices-past : (count : ℕ) (event : EventPlan) (cpus : List SeatState) (spares : List DeviceState) → slice_get plan.events count ≡ Some event → is_swap event ≡ false
-      → DevicesStand plan infos units count cpus spares → DevicesStand plan infos units (suc count) cpus spares
-  devices-past count event cpus spares there none stand = record {
+  pub devices-past : (count : ℕ) (event : EventPlan) (seats : List SeatState) (spares : List DeviceState) → slice_get plan.events count ≡ Some event → is_swap event ≡ false
+      → DevicesStand plan infos units count seats spares → DevicesStand plan infos units (suc count) seats spares
+  devices-past count event seats spares there none stand = record {
     units_are = stand.units_are;
     home = λ j c at. ap (slice_get units) (unit-stays plan j count event there none) ∙ stand.home j c at;
     taken = stand.taken;
@@ -104,14 +104,14 @@ module _ (plan : Plan) (infos : List Info) (units : List DeviceState) where
   }
 
   -- a swap: this device came, and that one went
-  pub devices-swapped : (count : ℕ) (event : EventPlan) (cpus : List SeatState) (spares : List DeviceState) (c c' : SeatState) (came went : DeviceState) → slice_get plan.events count ≡ Some event → is_swap event ≡ true
-      → slice_get cpus event.station ≡ Some c → slice_get units (unit_of_swap plan count) ≡ Some came → c'.origin ≡ came
+  pub devices-swapped : (count : ℕ) (event : EventPlan) (seats : List SeatState) (spares : List DeviceState) (c c' : SeatState) (came went : DeviceState) → slice_get plan.events count ≡ Some event → is_swap event ≡ true
+      → slice_get seats event.station ≡ Some c → slice_get units (unit_of_swap plan count) ≡ Some came → c'.origin ≡ came
       → HasServed infos event.station c.origin went
       → c'.gone ≡ (unit_at plan event.station count, went.accepted) ∷ c.gone
-      → DevicesStand plan infos units count cpus spares → DevicesStand plan infos units (suc count) (slice_set cpus event.station c') (drop 1 spares ++ went ∷ [])
-  devices-swapped count event cpus spares c c' came went there swap at-c brought origin has_served gone stand = record {
+      → DevicesStand plan infos units count seats spares → DevicesStand plan infos units (suc count) (slice_set seats event.station c') (drop 1 spares ++ went ∷ [])
+  devices-swapped count event seats spares c c' came went there swap at-c brought origin has_served gone stand = record {
     units_are = stand.units_are;
-    home = each-set (λ (j : ℕ) (x : SeatState). slice_get units (unit_at plan j (suc count)) ≡ Some x.origin) cpus event.station c' (slice_get_within cpus event.station c at-c)
+    home = each-set (λ (j : ℕ) (x : SeatState). slice_get units (unit_at plan j (suc count)) ≡ Some x.origin) seats event.station c' (slice_get_within seats event.station c at-c)
         (ap (slice_get units) (unit-here plan event.station count event there (at-own-swap event swap) ∙ ap (λ b. cond b (unit_of_swap plan count) (unit_at plan event.station count)) swap) ∙ (brought ∙ ap Some (sym origin)))
         (λ j x other at. ap (slice_get units) (unit-elsewhere plan j count event there (swap-apart j event swap other)) ∙ stand.home j x at);
     taken = stand.taken ++ went ∷ [];
@@ -133,7 +133,7 @@ module _ (plan : Plan) (infos : List Info) (units : List DeviceState) where
           ∙ ap (λ u. drop u units ++ (stand.taken ++ went ∷ [])) same)
 
       -- one that an earlier swap took
-      before : (e : ℕ) (late : EventPlan) → e < count → slice_get plan.events e ≡ Some late → is_swap late ≡ true → IsTaken plan infos units (stand.taken ++ went ∷ []) (slice_set cpus event.station c') e late
+      before : (e : ℕ) (late : EventPlan) → e < count → slice_get plan.events e ≡ Some late → is_swap late ≡ true → IsTaken plan infos units (stand.taken ++ went ∷ []) (slice_set seats event.station c') e late
       before e late below at is = let took = stand.each e late below at is in record {
         origin = took.origin;
         device = took.device;
@@ -141,23 +141,23 @@ module _ (plan : Plan) (infos : List Info) (units : List DeviceState) where
         went = get-push-old stand.taken (went ∷ []) took.device (swaps_before plan e) took.went;
         has_served = took.has_served;
         gone = λ x there-x. dite (ℕ_discrete late.station event.station)
-            (λ same. let is : c' ≡ x = same_Some c' x (sym (set-here cpus event.station c' (slice_get_within cpus event.station c at-c)) ∙ (ap (slice_get (slice_set cpus event.station c')) (sym same) ∙ there-x)) in
+            (λ same. let is : c' ≡ x = same_Some c' x (sym (set-here seats event.station c' (slice_get_within seats event.station c at-c)) ∙ (ap (slice_get (slice_set seats event.station c')) (sym same) ∙ there-x)) in
             subst (λ (z : SeatState). Contains z.gone (unit_at plan late.station e, took.device.accepted)) is
-            (subst (λ l. Contains l (unit_at plan late.station e, took.device.accepted)) (sym gone) (there-in _ c.gone _ (took.gone c (ap (slice_get cpus) same ∙ at-c)))))
-            (λ other. took.gone x (sym (set-apart cpus event.station late.station c' other) ∙ there-x));
+            (subst (λ l. Contains l (unit_at plan late.station e, took.device.accepted)) (sym gone) (there-in _ c.gone _ (took.gone c (ap (slice_get seats) same ∙ at-c)))))
+            (λ other. took.gone x (sym (set-apart seats event.station late.station c' other) ∙ there-x));
       }
 
-      now : (e : ℕ) (late : EventPlan) → e ≡ count → slice_get plan.events e ≡ Some late → is_swap late ≡ true → IsTaken plan infos units (stand.taken ++ went ∷ []) (slice_set cpus event.station c') e late
+      now : (e : ℕ) (late : EventPlan) → e ≡ count → slice_get plan.events e ≡ Some late → is_swap late ≡ true → IsTaken plan infos units (stand.taken ++ went ∷ []) (slice_set seats event.station c') e late
       now e late same at is =
           let late-is : event ≡ late = same_Some event late (sym there ∙ (ap (slice_get plan.events) (sym same) ∙ at)) in
-          subst (λ (k : ℕ). IsTaken plan infos units (stand.taken ++ went ∷ []) (slice_set cpus event.station c') k late) (sym same)
-          (subst (λ (x : EventPlan). IsTaken plan infos units (stand.taken ++ went ∷ []) (slice_set cpus event.station c') count x) late-is (record {
+          subst (λ (k : ℕ). IsTaken plan infos units (stand.taken ++ went ∷ []) (slice_set seats event.station c') k late) (sym same)
+          (subst (λ (x : EventPlan). IsTaken plan infos units (stand.taken ++ went ∷ []) (slice_set seats event.station c') count x) late-is (record {
             origin = c.origin;
             device = went;
             came = stand.home event.station c at-c;
             went = ap (slice_get (stand.taken ++ went ∷ [])) (sym stand.so_many) ∙ get-push-new stand.taken went;
             has_served = has_served;
-            gone = λ x there-x. let is : c' ≡ x = same_Some c' x (sym (set-here cpus event.station c' (slice_get_within cpus event.station c at-c)) ∙ there-x) in
+            gone = λ x there-x. let is : c' ≡ x = same_Some c' x (sym (set-here seats event.station c' (slice_get_within seats event.station c at-c)) ∙ there-x) in
                 subst (λ (z : SeatState). Contains z.gone (unit_at plan event.station count, went.accepted)) is
                 (subst (λ l. Contains l (unit_at plan event.station count, went.accepted)) (sym gone) (here-in _ c.gone));
           }))

@@ -74,9 +74,9 @@ module _ (plan : Plan) (infos : List Info) (station place : ℕ) (v w : SeatStat
 
 -- ALL SEATS
 
-pub joins-start : (plan : Plan) (infos : List Info) (place owner : ℕ) (tables : List TableState) (cpus others : List SeatState) → LaneJoined plan infos (place + 1) tables cpus → IsDoneLane plan infos tables place owner others
-    → (count : ℕ) → length others ≡ count → JoinsDown plan infos place count tables cpus others
-joins-start plan infos place owner tables cpus others first done count so_many = record {
+pub joins-start : (plan : Plan) (infos : List Info) (place owner : ℕ) (tables : List TableState) (seats others : List SeatState) → LaneJoined plan infos (place + 1) tables seats → IsDoneLane plan infos tables place owner others
+    → (count : ℕ) → length others ≡ count → JoinsDown plan infos place count tables seats others
+joins-start plan infos place owner tables seats others first done count so_many = record {
   long = first.long;
   all = first.all;
   left = so_many;
@@ -88,8 +88,8 @@ joins-start plan infos place owner tables cpus others first done count so_many =
       subst (λ (o : ℕ). IsOtherDone plan infos o j t c) done.owner_is (record { seat = own.seat; stands = own.stands; shares = one.0; owners = one.1; first = one.2 });
 }
 
-pub joins-end : (plan : Plan) (infos : List Info) (place : ℕ) (tables : List TableState) (cpus others : List SeatState) → JoinsDown plan infos place 0 tables cpus others → LaneJoined plan infos place tables cpus
-joins-end plan infos place tables cpus others down = record { long = down.long; all = down.all; each = λ j t c at at'. down.joined j t c (omega arith) at at' }
+pub joins-end : (plan : Plan) (infos : List Info) (place : ℕ) (tables : List TableState) (seats others : List SeatState) → JoinsDown plan infos place 0 tables seats others → LaneJoined plan infos place tables seats
+joins-end plan infos place tables seats others down = record { long = down.long; all = down.all; each = λ j t c at at'. down.joined j t c (omega arith) at at' }
 
 -- it may be joined into the first sender's
 pub beside : (plan : Plan) (infos : List Info) (place n : ℕ) (t : TableState) (d c : SeatState) → JoinedAt plan infos (place + 1) n t d → IsOtherDone plan infos (place + 1) n t c → IsBeside d c
@@ -134,8 +134,8 @@ join-one plan infos place n tables now all rest t d c d' is so_many at-t at-d jo
         }
 
 -- the first sender's seats after its last packet
-pub joined-first : (plan : Plan) (infos : List Info) (out : ℕ) (tables : List TableState) (cpus : List SeatState) → out + 1 ≡ plan.senders → LaneDone plan infos 0 tables cpus → AreFirst out cpus → LaneJoined plan infos out tables cpus
-joined-first plan infos out tables cpus senders lane first = record {
+pub joined-first : (plan : Plan) (infos : List Info) (out : ℕ) (tables : List TableState) (seats : List SeatState) → out + 1 ≡ plan.senders → LaneDone plan infos 0 tables seats → AreFirst out seats → LaneJoined plan infos out tables seats
+joined-first plan infos out tables seats senders lane first = record {
   long = lane.long;
   all = lane.all;
   each = λ j t c at at'.
@@ -167,8 +167,8 @@ first-keep out old new keeps first j c at =
 
 -- THE DEVICES
 
-pub same-devices : (cpus : List SeatState) → SameDevices cpus cpus
-same-devices cpus = record {
+pub same-devices : (seats : List SeatState) → SameDevices seats seats
+same-devices seats = record {
   long = refl;
   each = λ j c c' at at'. let same : c ≡ c' = same_Some c c' (sym at ∙ at') in (ap (λ (x : SeatState). x.origin) (sym same), ap (λ (x : SeatState). x.gone) (sym same));
 }

@@ -14,10 +14,10 @@ pub record AreOpenedTimes (plan : Plan) (infos : List Info) (tables : List Table
   pub runs : (stations : List RunningStation) → AreRunAlone plan infos old stations → AreRunAlone plan infos new (opened_and_served infos times stations)
   pub opened : OpenedTimes times old new
 
-pub not-opened : (plan : Plan) (infos : List Info) (tables : List TableState) (cpus : List SeatState) → AreOpenedTimes plan infos tables 0 cpus cpus
-not-opened plan infos tables cpus = record {
+pub not-opened : (plan : Plan) (infos : List Info) (tables : List TableState) (seats : List SeatState) → AreOpenedTimes plan infos tables 0 seats seats
+not-opened plan infos tables seats = record {
   stands = λ sender count n lane. lane;
-  keeps = keep-none cpus;
+  keeps = keep-none seats;
   runs = λ stations runs. runs;
   opened = refl;
 }

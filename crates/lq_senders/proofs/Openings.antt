@@ -47,11 +47,11 @@ opened-here plan infos devices j device t c there table is = subst (IsOpenedAt p
   view_is = ap (λ (k : Setup). new_seat t.id k device) table.setup_is;
 })
 
-pub opened-more : (plan : Plan) (infos : List Info) (devices : List DeviceState) (tables : List TableState) (cpus : List SeatState) (t : TableState) (c : SeatState)
-    → AreOpened plan infos devices tables cpus → IsOpenedAt plan infos devices (length tables) t c → AreOpened plan infos devices (tables ++ t ∷ []) (cpus ++ c ∷ [])
-opened-more plan infos devices tables cpus t c opened new = record {
-  long = let long = opened.long in omega (arith, length-append tables (t ∷ []), length-append cpus (c ∷ []));
-  each = pairs-more (IsOpenedAt plan infos devices) tables cpus t c opened.long opened.each new;
+pub opened-more : (plan : Plan) (infos : List Info) (devices : List DeviceState) (tables : List TableState) (seats : List SeatState) (t : TableState) (c : SeatState)
+    → AreOpened plan infos devices tables seats → IsOpenedAt plan infos devices (length tables) t c → AreOpened plan infos devices (tables ++ t ∷ []) (seats ++ c ∷ [])
+opened-more plan infos devices tables seats t c opened new = record {
+  long = let long = opened.long in omega (arith, length-append tables (t ∷ []), length-append seats (c ∷ []));
+  each = pairs-more (IsOpenedAt plan infos devices) tables seats t c opened.long opened.each new;
 }
 
 -- WHERE THERE WAS NO ROOM
@@ -89,28 +89,28 @@ firsts-are h g (x ∷ xs) (y ∷ ys) each =
     ap (λ z. g z ∷ map (λ w. g (h w)) xs) (sym (same_Some y (h x) (each 0 x refl))) ∙ ap (λ zs. g y ∷ zs) (firsts-are h g xs ys (λ j. each (suc j)))
 
 -- the devices of opened stations are those that came
-pub origins-are : (plan : Plan) (infos : List Info) (devices : List DeviceState) (tables : List TableState) (cpus : List SeatState) → AreOpened plan infos devices tables cpus
-    → origins_of cpus ≡ take (length tables) (identities_of devices)
-origins-are plan infos devices tables cpus opened =
-    firsts-are (λ (c : SeatState). c.origin) (λ (d : DeviceState). d.identity) cpus devices (λ j c at'. elim (slice_get_cases tables j).1 [
+pub origins-are : (plan : Plan) (infos : List Info) (devices : List DeviceState) (tables : List TableState) (seats : List SeatState) → AreOpened plan infos devices tables seats
+    → origins_of seats ≡ take (length tables) (identities_of devices)
+origins-are plan infos devices tables seats opened =
+    firsts-are (λ (c : SeatState). c.origin) (λ (d : DeviceState). d.identity) seats devices (λ j c at'. elim (slice_get_cases tables j).1 [
       | inl (t, inside, at, same) ↦ (opened.each j t c at at').device
-      | inr (past, nothing) ↦ absurd (let inside = slice_get_within cpus j c at' in let long = opened.long in omega arith)
+      | inr (past, nothing) ↦ absurd (let inside = slice_get_within seats j c at' in let long = opened.long in omega arith)
     ])
     ∙ ap (λ k. take k (identities_of devices)) opened.long
 
-pub whole-opened : (plan : Plan) (infos : List Info) (devices : List DeviceState) (tables : List TableState) (cpus : List SeatState) → AreOpened plan infos devices tables cpus → AreWhole tables cpus
-whole-opened plan infos devices tables cpus opened = record {
+pub whole-opened : (plan : Plan) (infos : List Info) (devices : List DeviceState) (tables : List TableState) (seats : List SeatState) → AreOpened plan infos devices tables seats → AreWhole tables seats
+whole-opened plan infos devices tables seats opened = record {
   long = opened.long;
   each = λ j t c at at'. let here = opened.each j t c at at' in record { seat = here.seat; may = subst MayCloseBy (sym here.view_is) (record { first = refl; raised = refl; sole = (refl, refl) }) };
 }
 
 -- and each box is in its place again
-pub boxes-again : {X : Type 0} (state : X → DeviceState) (plan : Plan) (infos : List Info) (old mid new : List X) (tables : List TableState) (cpus : List SeatState)
-    → AreOpened plan infos (map state old) tables cpus → map state mid ≡ drop (length tables) (map state old)
-    → identities_of (map state new) ≡ origins_of cpus ++ identities_of (map state mid) → identities_of (map state new) ≡ identities_of (map state old)
-boxes-again state plan infos old mid new tables cpus opened left laid =
+pub boxes-again : {X : Type 0} (state : X → DeviceState) (plan : Plan) (infos : List Info) (old mid new : List X) (tables : List TableState) (seats : List SeatState)
+    → AreOpened plan infos (map state old) tables seats → map state mid ≡ drop (length tables) (map state old)
+    → identities_of (map state new) ≡ origins_of seats ++ identities_of (map state mid) → identities_of (map state new) ≡ identities_of (map state old)
+boxes-again state plan infos old mid new tables seats opened left laid =
     laid
-    ∙ (ap (λ ids. ids ++ identities_of (map state mid)) (origins-are plan infos (map state old) tables cpus opened)
+    ∙ (ap (λ ids. ids ++ identities_of (map state mid)) (origins-are plan infos (map state old) tables seats opened)
     ∙ (ap (λ ds. take (length tables) (identities_of (map state old)) ++ identities_of ds) left
     ∙ (ap (λ ids. take (length tables) (identities_of (map state old)) ++ ids) (drop-map (λ (d : DeviceState). d.identity) (length tables) (map state old))
     ∙ take-append-drop (length tables) (identities_of (map state old)))))

@@ -9,8 +9,8 @@ use Rattle.lq_senders.specs.Lanes.{FirstDid, AllDid, AreSeats}
 use Rattle.lq_senders.proofs.Seats.{read-at, set-here, set-apart}
 
 module _ (R : SeatState → SeatState → Type 0) where
-  pub none-did : (cpus : List SeatState) → FirstDid R 0 cpus cpus
-  none-did cpus = record { long = refl; done = λ j c c' below. absurd (omega arith); rest = λ j above. refl }
+  pub none-did : (seats : List SeatState) → FirstDid R 0 seats seats
+  none-did seats = record { long = refl; done = λ j c c' below. absurd (omega arith); rest = λ j above. refl }
 
   pub one-more-did : (count : ℕ) (old new : List SeatState) (c c' : SeatState) → slice_get new count ≡ Some c → R c c' → FirstDid R count old new → FirstDid R (count + 1) old (slice_set new count c')
   one-more-did count old new c c' at-c did first = record {

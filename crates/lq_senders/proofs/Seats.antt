@@ -170,10 +170,10 @@ stands-elsewhere plan infos e n station event v there other stands = record {
 
 -- ALL SEATS
 
-pub keep-set : (cpus : List SeatState) (i : ℕ) (c c' : SeatState) → slice_get cpus i ≡ Some c → Keeps c c' → KeepAll cpus (slice_set cpus i c')
-keep-set cpus i c c' there keeps = record {
-  long = length-set cpus i c';
-  each = λ j d d' at at'. each-set (λ (j : ℕ) (x : SeatState). (d : SeatState) → slice_get cpus j ≡ Some d → Keeps d x) cpus i c' (slice_get_within cpus i c there)
+pub keep-set : (seats : List SeatState) (i : ℕ) (c c' : SeatState) → slice_get seats i ≡ Some c → Keeps c c' → KeepAll seats (slice_set seats i c')
+keep-set seats i c c' there keeps = record {
+  long = length-set seats i c';
+  each = λ j d d' at at'. each-set (λ (j : ℕ) (x : SeatState). (d : SeatState) → slice_get seats j ≡ Some d → Keeps d x) seats i c' (slice_get_within seats i c there)
       (λ d at. subst (λ (z : SeatState). Keeps z c') (same_Some c d (sym there ∙ at)) keeps)
       (λ j x other at d at'. subst (λ (z : SeatState). Keeps d z) (same_Some d x (sym at' ∙ at)) (keeps-itself d))
       j d' at' d at;
@@ -182,34 +182,34 @@ keep-set cpus i c c' there keeps = record {
 pub seats-kept : (old new : List SeatState) → KeepAll old new → KeepSeats old new
 seats-kept old new keeps = record { long = keeps.long; each = λ j c c' at at'. seat-kept c c' (keeps.each j c c' at at') }
 
-pub runs-set : (plan : Plan) (infos : List Info) (cpus : List SeatState) (stations : List RunningStation) (i : ℕ) (c c' : SeatState) (step : RunningStation → RunningStation) → slice_get cpus i ≡ Some c
-    → Does infos (start_of plan i) step (solo_of c) (solo_of c') → AreRunAlone plan infos cpus stations → AreRunAlone plan infos (slice_set cpus i c') (changed_where (λ k. k == i) step stations)
-runs-set plan infos cpus stations i c c' step there does runs =
-    each-set (λ (j : ℕ) (x : SeatState). IsAlone infos (start_of plan j) (solo_of x) × (slice_get (changed_where (λ k. k == i) step stations) j ≡ Some (running (start_of plan j) (solo_of x)))) cpus i c' (slice_get_within cpus i c there)
+pub runs-set : (plan : Plan) (infos : List Info) (seats : List SeatState) (stations : List RunningStation) (i : ℕ) (c c' : SeatState) (step : RunningStation → RunningStation) → slice_get seats i ≡ Some c
+    → Does infos (start_of plan i) step (solo_of c) (solo_of c') → AreRunAlone plan infos seats stations → AreRunAlone plan infos (slice_set seats i c') (changed_where (λ k. k == i) step stations)
+runs-set plan infos seats stations i c c' step there does runs =
+    each-set (λ (j : ℕ) (x : SeatState). IsAlone infos (start_of plan j) (solo_of x) × (slice_get (changed_where (λ k. k == i) step stations) j ≡ Some (running (start_of plan j) (solo_of x)))) seats i c' (slice_get_within seats i c there)
     (let was = runs i c there in let now = does was.0 in (now.0, where-here (λ k. k == i) i step stations _ (eq-eqb i i refl) was.1 ∙ ap Some (sym now.1)))
     (λ j x other at. let was = runs j x at in (was.0, where-apart (λ k. k == i) j step stations (ne_eqb j i other) ∙ was.1))
 
-pub table-at : (plan : Plan) (infos : List Info) (sender count n : ℕ) (tables : List TableState) (cpus : List SeatState) → LaneStands plan infos sender count n tables cpus
+pub table-at : (plan : Plan) (infos : List Info) (sender count n : ℕ) (tables : List TableState) (seats : List SeatState) → LaneStands plan infos sender count n tables seats
     → (station : ℕ) (t : TableState) → station < length plan.stations → t ≡ slice_index_or tables station t → slice_get tables station ≡ Some t
-table-at plan infos sender count n tables cpus lane station t within is = let all = lane.all in read-at tables station t (omega arith) is
+table-at plan infos sender count n tables seats lane station t within is = let all = lane.all in read-at tables station t (omega arith) is
 
-pub seat-at : (plan : Plan) (infos : List Info) (sender count n : ℕ) (tables : List TableState) (cpus : List SeatState) → LaneStands plan infos sender count n tables cpus
-    → (station : ℕ) (c : SeatState) → station < length plan.stations → c ≡ slice_index_or cpus station c → slice_get cpus station ≡ Some c
-seat-at plan infos sender count n tables cpus lane station c within is = let all = lane.all in let long = lane.long in read-at cpus station c (omega arith) is
+pub seat-at : (plan : Plan) (infos : List Info) (sender count n : ℕ) (tables : List TableState) (seats : List SeatState) → LaneStands plan infos sender count n tables seats
+    → (station : ℕ) (c : SeatState) → station < length plan.stations → c ≡ slice_index_or seats station c → slice_get seats station ≡ Some c
+seat-at plan infos sender count n tables seats lane station c within is = let all = lane.all in let long = lane.long in read-at seats station c (omega arith) is
 
 -- how a seat stands that was read from the lane
-pub stands-at : (plan : Plan) (infos : List Info) (sender count n : ℕ) (tables : List TableState) (cpus : List SeatState) → LaneStands plan infos sender count n tables cpus
-    → (station : ℕ) (t : TableState) (c : SeatState) → station < length plan.stations → t ≡ slice_index_or tables station t → c ≡ slice_index_or cpus station c → StandsAt plan infos sender count n station t c
-stands-at plan infos sender count n tables cpus lane station t c within is-t is-c =
-    lane.each station t c (table-at plan infos sender count n tables cpus lane station t within is-t) (seat-at plan infos sender count n tables cpus lane station c within is-c)
+pub stands-at : (plan : Plan) (infos : List Info) (sender count n : ℕ) (tables : List TableState) (seats : List SeatState) → LaneStands plan infos sender count n tables seats
+    → (station : ℕ) (t : TableState) (c : SeatState) → station < length plan.stations → t ≡ slice_index_or tables station t → c ≡ slice_index_or seats station c → StandsAt plan infos sender count n station t c
+stands-at plan infos sender count n tables seats lane station t c within is-t is-c =
+    lane.each station t c (table-at plan infos sender count n tables seats lane station t within is-t) (seat-at plan infos sender count n tables seats lane station c within is-c)
 
 -- a swap of the plan, at its one station
-pub lane-event : (plan : Plan) (infos : List Info) (e n : ℕ) (tables : List TableState) (cpus : List SeatState) (event : EventPlan) (t : TableState) (c c' : SeatState)
+pub lane-event : (plan : Plan) (infos : List Info) (e n : ℕ) (tables : List TableState) (seats : List SeatState) (event : EventPlan) (t : TableState) (c c' : SeatState)
     → slice_get plan.events e ≡ Some event → is_swap event ≡ true → event.station < 8 → is_out_of_order plan.events ≡ false
-    → slice_get tables event.station ≡ Some t → slice_get cpus event.station ≡ Some c → EventChanges plan e event.kind c c'
-    → LaneStands plan infos 0 e n tables cpus → LaneStands plan infos 0 (e + 1) n tables (slice_set cpus event.station c')
-lane-event plan infos e n tables cpus event t c c' there swap few order at-t at-c does lane = record {
-  long = length-set cpus event.station c' ∙ lane.long;
+    → slice_get tables event.station ≡ Some t → slice_get seats event.station ≡ Some c → EventChanges plan e event.kind c c'
+    → LaneStands plan infos 0 e n tables seats → LaneStands plan infos 0 (e + 1) n tables (slice_set seats event.station c')
+lane-event plan infos e n tables seats event t c c' there swap few order at-t at-c does lane = record {
+  long = length-set seats event.station c' ∙ lane.long;
   all = lane.all;
   each = λ j u d at at'. subst (λ (k : ℕ). StandsAt plan infos 0 k n j u d) more (stands j u d at at');
 }
@@ -217,8 +217,8 @@ lane-event plan infos e n tables cpus event t c c' there swap few order at-t at-
     more : suc e ≡ e + 1
     more = omega arith
 
-    stands : (j : ℕ) (u : TableState) (d : SeatState) → slice_get tables j ≡ Some u → slice_get (slice_set cpus event.station c') j ≡ Some d → StandsAt plan infos 0 (suc e) n j u d
-    stands j u d at at' = each-set (λ (j : ℕ) (x : SeatState). (u : TableState) → slice_get tables j ≡ Some u → StandsAt plan infos 0 (suc e) n j u x) cpus event.station c' (slice_get_within cpus event.station c at-c)
+    stands : (j : ℕ) (u : TableState) (d : SeatState) → slice_get tables j ≡ Some u → slice_get (slice_set seats event.station c') j ≡ Some d → StandsAt plan infos 0 (suc e) n j u d
+    stands j u d at at' = each-set (λ (j : ℕ) (x : SeatState). (u : TableState) → slice_get tables j ≡ Some u → StandsAt plan infos 0 (suc e) n j u x) seats event.station c' (slice_get_within seats event.station c at-c)
         (λ u at. let was = lane.each event.station t c at-t at-c in subst (λ (z : TableState). StandsAt plan infos 0 (suc e) n event.station z c') (same_Some t u (sym at-t ∙ at)) (record {
           table = was.table;
           seat = here-kept t c c' does.keeps was.seat;
@@ -227,17 +227,17 @@ lane-event plan infos e n tables cpus event t c c' there swap few order at-t at-
         (λ j x other at u at'. let was = lane.each j u x at' at in record { table = was.table; seat = was.seat; stands = stands-elsewhere plan infos e n j event x there (swap-apart j event swap other) was.stands })
         j d at' u at
 
-pub runs-event : (plan : Plan) (infos : List Info) (e n : ℕ) (tables : List TableState) (cpus : List SeatState) (stations : List RunningStation) (event : EventPlan) (t : TableState) (c c' : SeatState)
-    → slice_get plan.events e ≡ Some event → is_swap event ≡ true → slice_get tables event.station ≡ Some t → slice_get cpus event.station ≡ Some c
+pub runs-event : (plan : Plan) (infos : List Info) (e n : ℕ) (tables : List TableState) (seats : List SeatState) (stations : List RunningStation) (event : EventPlan) (t : TableState) (c c' : SeatState)
+    → slice_get plan.events e ≡ Some event → is_swap event ≡ true → slice_get tables event.station ≡ Some t → slice_get seats event.station ≡ Some c
     → DoesAlone (λ s. served c.made.infos (changed plan e event.kind s)) c c'
-    → LaneStands plan infos 0 e n tables cpus → AreRunAlone plan infos cpus stations → AreRunAlone plan infos (slice_set cpus event.station c') (with_event plan infos e stations)
-runs-event plan infos e n tables cpus stations event t c c' there swap at-t at-c does lane runs =
+    → LaneStands plan infos 0 e n tables seats → AreRunAlone plan infos seats stations → AreRunAlone plan infos (slice_set seats event.station c') (with_event plan infos e stations)
+runs-event plan infos e n tables seats stations event t c c' there swap at-t at-c does lane runs =
     let step : RunningStation → RunningStation = λ s. served infos (changed plan e event.kind s) in
     let own : Does infos (start_of plan event.station) step (solo_of c) (solo_of c') =
     let was = lane.each event.station t c at-t at-c in
     own-step plan infos event.station (λ k s. served k.infos (changed plan e event.kind s)) c c' (made-of plan infos event.station t was.table c was.seat) does in
-    subst (AreRunAlone plan infos (slice_set cpus event.station c')) (sym (with-event plan infos e event stations there))
+    subst (AreRunAlone plan infos (slice_set seats event.station c')) (sym (with-event plan infos e event stations there))
     (each-set (λ (j : ℕ) (x : SeatState). IsAlone infos (start_of plan j) (solo_of x) × (slice_get (changed_where (λ k. is_at k event) step stations) j ≡ Some (running (start_of plan j) (solo_of x))))
-    cpus event.station c' (slice_get_within cpus event.station c at-c)
+    seats event.station c' (slice_get_within seats event.station c at-c)
     (let was = runs event.station c at-c in let now = own was.0 in (now.0, where-here (λ k. is_at k event) event.station step stations _ (at-own-swap event swap) was.1 ∙ ap Some (sym now.1)))
     (λ j x other at. let was = runs j x at in (was.0, where-apart (λ k. is_at k event) j step stations (swap-apart j event swap other) ∙ was.1)))

@@ -133,16 +133,16 @@ sending-past plan infos opens tables sender n k next start brought now spares in
   alone = λ units stand tell z own from begins. absurd (other (sym (owner-is infos n info there) ∙ (own n (slice_get_within infos n info there) ∙ sym z)));
 }
 
-pub sending-start : (plan : Plan) (infos : List Info) (opens : ℕ → ℕ) (tables : List TableState) (sender : ℕ) (cpus : List SeatState) (spares : List DeviceState) → LaneStands plan infos sender 0 0 tables cpus
-    → IsSending plan infos opens tables sender 0 0 0 cpus spares cpus spares
-sending-start plan infos opens tables sender cpus spares lane = record {
+pub sending-start : (plan : Plan) (infos : List Info) (opens : ℕ → ℕ) (tables : List TableState) (sender : ℕ) (seats : List SeatState) (spares : List DeviceState) → LaneStands plan infos sender 0 0 tables seats
+    → IsSending plan infos opens tables sender 0 0 0 seats spares seats spares
+sending-start plan infos opens tables sender seats spares lane = record {
   within = omega arith;
   few = omega arith;
   sent = refl;
   came = refl;
   stands = lane;
   earlier = λ j event below there. absurd (omega arith);
-  keeps = seats-kept cpus cpus (keep-none cpus);
+  keeps = seats-kept seats seats (keep-none seats);
   devices = λ units stand. stand;
   alone = λ units stand tell z own from begins. (refl, (λ j event above there. omega arith), begins);
 }
@@ -157,8 +157,8 @@ at-last plan last n within left all = elim (cases_order last (length plan.events
 ]
 
 -- the events are the first sender's alone
-pub lane-any : (plan : Plan) (infos : List Info) (sender a b n : ℕ) (tables : List TableState) (cpus : List SeatState) → sender ≢ 0 → LaneStands plan infos sender a n tables cpus → LaneStands plan infos sender b n tables cpus
-lane-any plan infos sender a b n tables cpus other lane = record {
+pub lane-any : (plan : Plan) (infos : List Info) (sender a b n : ℕ) (tables : List TableState) (seats : List SeatState) → sender ≢ 0 → LaneStands plan infos sender a n tables seats → LaneStands plan infos sender b n tables seats
+lane-any plan infos sender a b n tables seats other lane = record {
   long = lane.long;
   all = lane.all;
   each = λ j t c at at'. let was = lane.each j t c at at' in record {

@@ -93,21 +93,21 @@ stands-sent plan infos sender station count n info v w same ranks there owner at
 
 -- ALL SEATS
 
-pub lane-past : (plan : Plan) (infos : List Info) (sender count n : ℕ) (tables : List TableState) (cpus : List SeatState) (info : Info) → slice_get infos n ≡ Some info → info.owner ≢ sender
-    → LaneStands plan infos sender count n tables cpus → LaneStands plan infos sender count (n + 1) tables cpus
-lane-past plan infos sender count n tables cpus info there other lane = record {
+pub lane-past : (plan : Plan) (infos : List Info) (sender count n : ℕ) (tables : List TableState) (seats : List SeatState) (info : Info) → slice_get infos n ≡ Some info → info.owner ≢ sender
+    → LaneStands plan infos sender count n tables seats → LaneStands plan infos sender count (n + 1) tables seats
+lane-past plan infos sender count n tables seats info there other lane = record {
   long = lane.long;
   all = lane.all;
   each = λ j t c at at'. let was = lane.each j t c at at' in
       record { table = was.table; seat = was.seat; stands = stands-past plan infos sender j count n info c there (inl other) was.stands };
 }
 
-pub lane-sent : (plan : Plan) (infos : List Info) (sender count n : ℕ) (tables : List TableState) (cpus : List SeatState) (info : Info) (t : TableState) (c c' : SeatState) → AreRanks infos → slice_get infos n ≡ Some info
-    → info.owner ≡ sender → slice_get tables info.station ≡ Some t → slice_get cpus info.station ≡ Some c → (sender ≡ 0 → IsSplitAt plan count n)
+pub lane-sent : (plan : Plan) (infos : List Info) (sender count n : ℕ) (tables : List TableState) (seats : List SeatState) (info : Info) (t : TableState) (c c' : SeatState) → AreRanks infos → slice_get infos n ≡ Some info
+    → info.owner ≡ sender → slice_get tables info.station ≡ Some t → slice_get seats info.station ≡ Some c → (sender ≡ 0 → IsSplitAt plan count n)
     → SendsPacket n c c'
-    → LaneStands plan infos sender count n tables cpus → LaneStands plan infos sender count (n + 1) tables (slice_set cpus info.station c')
-lane-sent plan infos sender count n tables cpus info t c c' ranks there owner at-t at-c split sends lane = record {
-  long = length-set cpus info.station c' ∙ lane.long;
+    → LaneStands plan infos sender count n tables seats → LaneStands plan infos sender count (n + 1) tables (slice_set seats info.station c')
+lane-sent plan infos sender count n tables seats info t c c' ranks there owner at-t at-c split sends lane = record {
+  long = length-set seats info.station c' ∙ lane.long;
   all = lane.all;
   each = stands;
 }
@@ -115,8 +115,8 @@ lane-sent plan infos sender count n tables cpus info t c c' ranks there owner at
     was : StandsAt plan infos sender count n info.station t c
     was = lane.each info.station t c at-t at-c
 
-    stands : (j : ℕ) (u : TableState) (d : SeatState) → slice_get tables j ≡ Some u → slice_get (slice_set cpus info.station c') j ≡ Some d → StandsAt plan infos sender count (n + 1) j u d
-    stands j u d at at' = each-set (λ (j : ℕ) (x : SeatState). (u : TableState) → slice_get tables j ≡ Some u → StandsAt plan infos sender count (n + 1) j u x) cpus info.station c' (slice_get_within cpus info.station c at-c)
+    stands : (j : ℕ) (u : TableState) (d : SeatState) → slice_get tables j ≡ Some u → slice_get (slice_set seats info.station c') j ≡ Some d → StandsAt plan infos sender count (n + 1) j u d
+    stands j u d at at' = each-set (λ (j : ℕ) (x : SeatState). (u : TableState) → slice_get tables j ≡ Some u → StandsAt plan infos sender count (n + 1) j u x) seats info.station c' (slice_get_within seats info.station c at-c)
         (λ u at. subst (λ (z : TableState). StandsAt plan infos sender count (n + 1) info.station z c') (same_Some t u (sym at-t ∙ at)) (record {
           table = was.table;
           seat = here-kept t c c' (seat-kept c c' (sends-keep n c c' sends)) was.seat;
@@ -125,12 +125,12 @@ lane-sent plan infos sender count n tables cpus info t c c' ranks there owner at
         (λ j x other at u at'. let was = lane.each j u x at' at in record { table = was.table; seat = was.seat; stands = stands-past plan infos sender j count n info x there (inr (λ same. other (sym same))) was.stands })
         j d at' u at
 
-pub runs-sent : (plan : Plan) (infos : List Info) (sender count n : ℕ) (tables : List TableState) (cpus : List SeatState) (stations : List RunningStation) (info : Info) (t : TableState) (c c' : SeatState) → slice_get infos n ≡ Some info
-    → slice_get tables info.station ≡ Some t → slice_get cpus info.station ≡ Some c → SendsPacket n c c'
-    → LaneStands plan infos sender count n tables cpus → AreRunAlone plan infos cpus stations → AreRunAlone plan infos (slice_set cpus info.station c') (with_packet plan infos n stations)
-runs-sent plan infos sender count n tables cpus stations info t c c' there at-t at-c sends lane runs =
+pub runs-sent : (plan : Plan) (infos : List Info) (sender count n : ℕ) (tables : List TableState) (seats : List SeatState) (stations : List RunningStation) (info : Info) (t : TableState) (c c' : SeatState) → slice_get infos n ≡ Some info
+    → slice_get tables info.station ≡ Some t → slice_get seats info.station ≡ Some c → SendsPacket n c c'
+    → LaneStands plan infos sender count n tables seats → AreRunAlone plan infos seats stations → AreRunAlone plan infos (slice_set seats info.station c') (with_packet plan infos n stations)
+runs-sent plan infos sender count n tables seats stations info t c c' there at-t at-c sends lane runs =
     let own : Does infos (start_of plan info.station) (λ s. served infos (brought_in infos (bypass_of plan info.station) n s)) (solo_of c) (solo_of c') =
     let was = lane.each info.station t c at-t at-c in
     own-step plan infos info.station (λ k s. served k.infos (brought_in k.infos k.bypass n s)) c c' (made-of plan infos info.station t was.table c was.seat) sends.alone in
-    subst (λ (k : ℕ). AreRunAlone plan infos (slice_set cpus info.station c') (changed_where (λ i. i == k) (λ s. served infos (brought_in infos (bypass_of plan k) n s)) stations)) (sym (station-is infos n info there))
-    (runs-set plan infos cpus stations info.station c c' (λ s. served infos (brought_in infos (bypass_of plan info.station) n s)) at-c own runs)
+    subst (λ (k : ℕ). AreRunAlone plan infos (slice_set seats info.station c') (changed_where (λ i. i == k) (λ s. served infos (brought_in infos (bypass_of plan k) n s)) stations)) (sym (station-is infos n info there))
+    (runs-set plan infos seats stations info.station c c' (λ s. served infos (brought_in infos (bypass_of plan info.station) n s)) at-c own runs)

@@ -112,18 +112,18 @@ snoc-cases (z ∷ zs) x y (suc j) there = elim (snoc-cases zs x y j there) [ inl
 
 -- ALL STATIONS
 
-pub splitting-opened : (plan : Plan) (infos : List Info) (devices : _) (tables : List TableState) (cpus : List SeatState) → 0 < plan.senders → length tables ≡ length plan.stations
-    → AreOpened plan infos devices tables cpus → AreSplitting plan infos 1 tables cpus
-splitting-opened plan infos devices tables cpus some all opened = record {
+pub splitting-opened : (plan : Plan) (infos : List Info) (devices : _) (tables : List TableState) (seats : List SeatState) → 0 < plan.senders → length tables ≡ length plan.stations
+    → AreOpened plan infos devices tables seats → AreSplitting plan infos 1 tables seats
+splitting-opened plan infos devices tables seats some all opened = record {
   long = opened.long;
   all = all;
   each = λ j t c at at'. let here = opened.each j t c at at' in
       record { table = here.table; seat = here.seat; splitting = splitting-start plan infos j c some here.view_is };
 }
 
-pub lane-stands : (plan : Plan) (infos : List Info) (tables : List TableState) (cpus : List SeatState) → 0 < plan.senders → AreSplitting plan infos plan.senders tables cpus
-    → LaneStands plan infos 0 0 0 tables cpus
-lane-stands plan infos tables cpus some split = record {
+pub lane-stands : (plan : Plan) (infos : List Info) (tables : List TableState) (seats : List SeatState) → 0 < plan.senders → AreSplitting plan infos plan.senders tables seats
+    → LaneStands plan infos 0 0 0 tables seats
+lane-stands plan infos tables seats some split = record {
   long = split.long;
   all = split.all;
   each = λ j t c at at'. let here = split.each j t c at at' in
@@ -148,9 +148,9 @@ pub record SplitsUp (plan : Plan) (infos : List Info) (place count : ℕ) (table
   pub ahead : (j : ℕ) (t : TableState) (c : SeatState) → count ≤ j → slice_get tables j ≡ Some t → slice_get now j ≡ Some c → SplitsAt plan infos (place + 1) j t c
   pub others : (j : ℕ) (t : TableState) (c : SeatState) → slice_get tables j ≡ Some t → slice_get split_off j ≡ Some c → IsOtherAt plan infos (place + 1) j t c
 
-pub splits-none : (plan : Plan) (infos : List Info) (place : ℕ) (tables : List TableState) (cpus others : List SeatState) → others ≡ [] → AreSplitting plan infos (place + 1) tables cpus
-    → SplitsUp plan infos place 0 tables cpus others
-splits-none plan infos place tables cpus others none split = record {
+pub splits-none : (plan : Plan) (infos : List Info) (place : ℕ) (tables : List TableState) (seats others : List SeatState) → others ≡ [] → AreSplitting plan infos (place + 1) tables seats
+    → SplitsUp plan infos place 0 tables seats others
+splits-none plan infos place tables seats others none split = record {
   long = split.long;
   all = split.all;
   so_many = ap length none;
@@ -219,13 +219,13 @@ lane-split plan infos place owner count tables now others owner_is all was = rec
 }
 
 -- a seat that had another split off has the same devices
-pub devices-split : (cpus : List SeatState) (i owner : ℕ) (c c' : SeatState) → slice_get cpus i ≡ Some c → c' ≡ keeping_seat owner c → SameDevices cpus (slice_set cpus i c')
-devices-split cpus i owner c c' at is = record {
-  long = length-set cpus i c';
+pub devices-split : (seats : List SeatState) (i owner : ℕ) (c c' : SeatState) → slice_get seats i ≡ Some c → c' ≡ keeping_seat owner c → SameDevices seats (slice_set seats i c')
+devices-split seats i owner c c' at is = record {
+  long = length-set seats i c';
   each = λ j x y at_j at_j'. elim (cases_eq j i) [
-    | inl here ↦ at-place (λ k a b. (b.origin ≡ a.origin) × (b.gone ≡ a.gone)) cpus (slice_set cpus i c') i j c x c' y here at (set-here cpus i c' (slice_get_within cpus i c at)) at_j at_j'
+    | inl here ↦ at-place (λ k a b. (b.origin ≡ a.origin) × (b.gone ≡ a.gone)) seats (slice_set seats i c') i j c x c' y here at (set-here seats i c' (slice_get_within seats i c at)) at_j at_j'
         (ap (λ (v : SeatState). v.origin) is, ap (λ (v : SeatState). v.gone) is)
-    | inr apart ↦ (let same : y ≡ x = same_Some y x (sym at_j' ∙ (set-apart cpus i j c' apart ∙ at_j)) in (ap (λ (z : SeatState). z.origin) same, ap (λ (z : SeatState). z.gone) same))
+    | inr apart ↦ (let same : y ≡ x = same_Some y x (sym at_j' ∙ (set-apart seats i j c' apart ∙ at_j)) in (ap (λ (z : SeatState). z.origin) same, ap (λ (z : SeatState). z.gone) same))
   ];
 }
 
@@ -247,8 +247,8 @@ lanes-more {D} plan infos place tables lanes new inside was ready = record {
   empty = λ i l from at. was.empty i l (omega arith) (sym (set-apart lanes place i new (λ same. absurd (omega arith))) ∙ at);
 }
 
-pub are-first : (plan : Plan) (infos : List Info) (others : ℕ) (tables : List TableState) (cpus : List SeatState) → others + 1 ≡ plan.senders → AreSplitting plan infos plan.senders tables cpus → AreFirst others cpus
-are-first plan infos others tables cpus all split j c at' = elim (slice_get_cases tables j).1 [
+pub are-first : (plan : Plan) (infos : List Info) (others : ℕ) (tables : List TableState) (seats : List SeatState) → others + 1 ≡ plan.senders → AreSplitting plan infos plan.senders tables seats → AreFirst others seats
+are-first plan infos others tables seats all split j c at' = elim (slice_get_cases tables j).1 [
   | inl (t, inside, at, same) ↦ (let here = (split.each j t c at at').splitting in (let shares = here.shares in omega arith, here.told))
-  | inr (past, nothing) ↦ absurd (let inside = slice_get_within cpus j c at' in let long = split.long in omega arith)
+  | inr (past, nothing) ↦ absurd (let inside = slice_get_within seats j c at' in let long = split.long in omega arith)
 ]

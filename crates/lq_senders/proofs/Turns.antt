@@ -47,8 +47,8 @@ stands-still plan infos sender station count n v w keeps turns trail raised stan
   way = λ z. let way = stands.way z in (ap (λ (s : SeatState). s.first) keeps ∙ way.0, subst (IsOnWay plan station count) (sym trail) way.1);
 }
 
-pub keep-none : (cpus : List SeatState) → KeepAll cpus cpus
-keep-none cpus = record {
+pub keep-none : (seats : List SeatState) → KeepAll seats seats
+keep-none seats = record {
   long = refl;
   each = λ j c c' at at'. subst (λ (x : SeatState). Keeps c x) (same_Some c c' (sym at ∙ at')) (keeps-itself c);
 }
@@ -60,8 +60,8 @@ keep-on a b c one two = record {
       keeps-on x y.0 z (one.each j x y.0 at y.1) (two.each j y.0 z y.1 at');
 }
 
-pub lane-seats : (plan : Plan) (infos : List Info) (sender count n : ℕ) (tables : List TableState) (cpus : List SeatState) → LaneStands plan infos sender count n tables cpus → AreSeats tables cpus
-lane-seats plan infos sender count n tables cpus lane = record { long = lane.long; each = λ j t c at at'. (lane.each j t c at at').seat }
+pub lane-seats : (plan : Plan) (infos : List Info) (sender count n : ℕ) (tables : List TableState) (seats : List SeatState) → LaneStands plan infos sender count n tables seats → AreSeats tables seats
+lane-seats plan infos sender count n tables seats lane = record { long = lane.long; each = λ j t c at at'. (lane.each j t c at at').seat }
 
 pub seats-still : (tables : List TableState) (old new : List SeatState) → AreSeats tables old → KeepAll old new → AreSeats tables new
 seats-still tables old new seats keeps = record {
@@ -102,9 +102,9 @@ lane-opened plan infos sender count n tables old mid new lane woken did = record
 -- THE RUN OF ONE SENDER
 
 -- what the plan asks the seats' tables to be made of
-pub lane-made : (plan : Plan) (infos : List Info) (sender count n : ℕ) (tables : List TableState) (cpus : List SeatState) → LaneStands plan infos sender count n tables cpus
-    → (j : ℕ) (c : SeatState) → slice_get cpus j ≡ Some c → c.made ≡ setup_of plan infos j
-lane-made plan infos sender count n tables cpus lane j c at = let t = some-there tables cpus j c (sym lane.long) at in let own = lane.each j t.0 c t.1 at in made-of plan infos j t.0 own.table c own.seat
+pub lane-made : (plan : Plan) (infos : List Info) (sender count n : ℕ) (tables : List TableState) (seats : List SeatState) → LaneStands plan infos sender count n tables seats
+    → (j : ℕ) (c : SeatState) → slice_get seats j ≡ Some c → c.made ≡ setup_of plan infos j
+lane-made plan infos sender count n tables seats lane j c at = let t = some-there tables seats j c (sym lane.long) at in let own = lane.each j t.0 c t.1 at in made-of plan infos j t.0 own.table c own.seat
 
 -- where each seat did a step of the run of one sender, the stations did
 pub all-step : (plan : Plan) (infos : List Info) (step : Setup → RunningStation → RunningStation) (own : RunningStation → RunningStation) (R : SeatState → SeatState → Type 0)
@@ -127,10 +127,10 @@ runs-drained plan infos old new stations made did runs =
     all-step plan infos (λ k. served k.infos) (served infos) Drains (λ j. refl) (λ v w drains. drains.alone) old new stations made did runs
 
 -- no seat of a lane is raised, so its stations are as serving would leave them
-pub runs-rested : (plan : Plan) (infos : List Info) (sender count n : ℕ) (tables : List TableState) (cpus : List SeatState) (stations : List RunningStation)
-    → LaneStands plan infos sender count n tables cpus → AreRunAlone plan infos cpus stations → AreRunAlone plan infos cpus (map (served infos) stations)
-runs-rested plan infos sender count n tables cpus stations lane runs j c at =
-    let t = some-there tables cpus j c (sym lane.long) at in
+pub runs-rested : (plan : Plan) (infos : List Info) (sender count n : ℕ) (tables : List TableState) (seats : List SeatState) (stations : List RunningStation)
+    → LaneStands plan infos sender count n tables seats → AreRunAlone plan infos seats stations → AreRunAlone plan infos seats (map (served infos) stations)
+runs-rested plan infos sender count n tables seats stations lane runs j c at =
+    let t = some-there tables seats j c (sym lane.long) at in
     let low = (lane.each j t.0 c t.1 at).stands.raised in let was = runs j c at in
     (was.0, mapped-at (served infos) stations j _ was.1 ∙ ap Some (rests_served infos (start_of plan j) (solo_of c) was.0 low))
 
@@ -185,13 +185,13 @@ pub record FirstEvents (plan : Plan) (infos : List Info) (tables : List TableSta
   pub runs : (units : List DeviceState) → DevicesStand plan infos units next start brought → DoTell plan units
       → (stations : List RunningStation) → AreRunAlone plan infos start stations → AreRunAlone plan infos now (with_events plan infos (numbers_from next (e - next)) stations)
 
-pub no-events-yet : (plan : Plan) (infos : List Info) (tables : List TableState) (next n : ℕ) (cpus : List SeatState) (spares : List DeviceState) → FirstEvents plan infos tables next n next cpus spares cpus spares
-no-events-yet plan infos tables next n cpus spares = record {
+pub no-events-yet : (plan : Plan) (infos : List Info) (tables : List TableState) (next n : ℕ) (seats : List SeatState) (spares : List DeviceState) → FirstEvents plan infos tables next n next seats spares seats spares
+no-events-yet plan infos tables next n seats spares = record {
   done = λ k event above below. absurd (omega arith);
   stands = λ m lane. lane;
-  calls = none-called cpus;
+  calls = none-called seats;
   devices = λ units stand. stand;
-  runs = λ units stand tell stations runs. let none : next - next ≡ 0 = omega arith in subst (λ c. AreRunAlone plan infos cpus (with_events plan infos (numbers_from next c) stations)) (sym none) runs;
+  runs = λ units stand tell stations runs. let none : next - next ≡ 0 = omega arith in subst (λ c. AreRunAlone plan infos seats (with_events plan infos (numbers_from next c) stations)) (sym none) runs;
 }
 
 pub one-event-more : (plan : Plan) (infos : List Info) (tables : List TableState) (next n e : ℕ) (event : EventPlan) (start : List SeatState) (brought : List DeviceState) (now : List SeatState) (spares : List DeviceState) (new : List SeatState) (left : List DeviceState)

@@ -53,10 +53,10 @@ pub record MayCloseAt (plan : Plan) (infos : List Info) (j : ℕ) (t : TableStat
   pub seat : IsHere t c
   pub may : MayClose plan infos j c
 
-pub record AllMayClose (plan : Plan) (infos : List Info) (tables : List TableState) (cpus : List SeatState) : Type 0 where
-  pub long : length cpus ≡ length tables
+pub record AllMayClose (plan : Plan) (infos : List Info) (tables : List TableState) (seats : List SeatState) : Type 0 where
+  pub long : length seats ≡ length tables
   pub all : length tables ≡ length plan.stations
-  pub each : (j : ℕ) (t : TableState) (c : SeatState) → slice_get tables j ≡ Some t → slice_get cpus j ≡ Some c → MayCloseAt plan infos j t c
+  pub each : (j : ℕ) (t : TableState) (c : SeatState) → slice_get tables j ≡ Some t → slice_get seats j ≡ Some c → MayCloseAt plan infos j t c
 
 -- CLOSED TABLES
 
@@ -82,13 +82,13 @@ pub record IsClosedStation (plan : Plan) (infos : List Info) (station : ℕ) (v 
   pub ends : EndsAt plan infos station v
 
 -- the first so many stations are closed
-pub record FirstClosed (plan : Plan) (infos : List Info) (count : ℕ) (cpus : List SeatState) (closed : List ClosedState) : Type 0 where
+pub record FirstClosed (plan : Plan) (infos : List Info) (count : ℕ) (seats : List SeatState) (closed : List ClosedState) : Type 0 where
   pub so_many : length closed ≡ count
-  pub each : (j : ℕ) (c : SeatState) (x : ClosedState) → slice_get cpus j ≡ Some c → slice_get closed j ≡ Some x → IsClosedStation plan infos j c x
+  pub each : (j : ℕ) (c : SeatState) (x : ClosedState) → slice_get seats j ≡ Some c → slice_get closed j ≡ Some x → IsClosedStation plan infos j c x
 
 -- the accounts of these stations have the fates that those of the run of one sender have
 abbrev pub HaveFatesAlone : List SeatState → List RunningStation → Type 0
-HaveFatesAlone cpus stations = (j : ℕ) (c : SeatState) → slice_get cpus j ≡ Some c → (s : RunningStation) × (slice_get stations j ≡ Some s) × ((seat_account c).fates ≡ s.account.fates)
+HaveFatesAlone seats stations = (j : ℕ) (c : SeatState) → slice_get seats j ≡ Some c → (s : RunningStation) × (slice_get stations j ≡ Some s) × ((seat_account c).fates ≡ s.account.fates)
 
 -- All packets were sent, with so many openings of the queues after each, and each station was closed: the first sender began with these
 -- seats and spare devices, and those are the spare devices that it ended with.

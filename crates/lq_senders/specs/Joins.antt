@@ -27,14 +27,14 @@ pub record JoinedAt (plan : Plan) (infos : List Info) (out j : ℕ) (t : TableSt
   pub seat : IsHere t c
   pub joined : Joined plan infos j out c
 
-pub record LaneJoined (plan : Plan) (infos : List Info) (out : ℕ) (tables : List TableState) (cpus : List SeatState) : Type 0 where
-  pub long : length cpus ≡ length tables
+pub record LaneJoined (plan : Plan) (infos : List Info) (out : ℕ) (tables : List TableState) (seats : List SeatState) : Type 0 where
+  pub long : length seats ≡ length tables
   pub all : length tables ≡ length plan.stations
-  pub each : (j : ℕ) (t : TableState) (c : SeatState) → slice_get tables j ≡ Some t → slice_get cpus j ≡ Some c → JoinedAt plan infos out j t c
+  pub each : (j : ℕ) (t : TableState) (c : SeatState) → slice_get tables j ≡ Some t → slice_get seats j ≡ Some c → JoinedAt plan infos out j t c
 
 -- the first sender's seats, with so many others out, still have these shares and know the whole once they are sole
 abbrev pub AreFirst : ℕ → List SeatState → Type 0
-AreFirst out cpus = (j : ℕ) (c : SeatState) → slice_get cpus j ≡ Some c → (c.shares + out ≡ 1024) × (c.told ≡ true)
+AreFirst out seats = (j : ℕ) (c : SeatState) → slice_get seats j ≡ Some c → (c.shares + out ≡ 1024) × (c.told ≡ true)
 
 -- another sender's seat at a station, which was through with all packets
 pub record IsOtherDone (plan : Plan) (infos : List Info) (owner j : ℕ) (t : TableState) (c : SeatState) : Type 0 where

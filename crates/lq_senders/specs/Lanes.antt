@@ -40,10 +40,10 @@ pub record StandsAt (plan : Plan) (infos : List Info) (sender count n j : ℕ) (
 
 -- ALL SEATS OF A SENDER
 
-pub record LaneStands (plan : Plan) (infos : List Info) (sender count n : ℕ) (tables : List TableState) (cpus : List SeatState) : Type 0 where
-  pub long : length cpus ≡ length tables
+pub record LaneStands (plan : Plan) (infos : List Info) (sender count n : ℕ) (tables : List TableState) (seats : List SeatState) : Type 0 where
+  pub long : length seats ≡ length tables
   pub all : length tables ≡ length plan.stations
-  pub each : (j : ℕ) (t : TableState) (c : SeatState) → slice_get tables j ≡ Some t → slice_get cpus j ≡ Some c → StandsAt plan infos sender count n j t c
+  pub each : (j : ℕ) (t : TableState) (c : SeatState) → slice_get tables j ≡ Some t → slice_get seats j ≡ Some c → StandsAt plan infos sender count n j t c
 
 -- the seats are the same, with the same devices
 pub record KeepAll (old new : List SeatState) : Type 0 where
@@ -57,14 +57,14 @@ pub record KeepSeats (old new : List SeatState) : Type 0 where
 
 -- each seat has its table alone and its device tells, and these are the stations of the run of one sender
 abbrev pub AreRunAlone : Plan → List Info → List SeatState → List RunningStation → Type 0
-AreRunAlone plan infos cpus stations = (j : ℕ) (c : SeatState) → slice_get cpus j ≡ Some c → IsAlone infos (start_of plan j) (solo_of c) × (slice_get stations j ≡ Some (running (start_of plan j) (solo_of c)))
+AreRunAlone plan infos seats stations = (j : ℕ) (c : SeatState) → slice_get seats j ≡ Some c → IsAlone infos (start_of plan j) (solo_of c) × (slice_get stations j ≡ Some (running (start_of plan j) (solo_of c)))
 
 -- IN TURN AT ALL STATIONS
 
 -- each seat is one of its table
-pub record AreSeats (tables : List TableState) (cpus : List SeatState) : Type 0 where
-  pub long : length cpus ≡ length tables
-  pub each : (j : ℕ) (t : TableState) (c : SeatState) → slice_get tables j ≡ Some t → slice_get cpus j ≡ Some c → IsHere t c
+pub record AreSeats (tables : List TableState) (seats : List SeatState) : Type 0 where
+  pub long : length seats ≡ length tables
+  pub each : (j : ℕ) (t : TableState) (c : SeatState) → slice_get tables j ≡ Some t → slice_get seats j ≡ Some c → IsHere t c
 
 -- the first so many seats did something, and the others are as they were
 pub record FirstDid (R : SeatState → SeatState → Type 0) (count : ℕ) (old new : List SeatState) : Type 0 where
@@ -143,22 +143,22 @@ pub record IsSending (plan : Plan) (infos : List Info) (opens : ℕ → ℕ) (ta
 
 -- all of the plan's events were done, and all packets sent
 abbrev pub LaneDone : Plan → List Info → ℕ → List TableState → List SeatState → Type 0
-LaneDone plan infos sender tables cpus = LaneStands plan infos sender (length plan.events) (length infos) tables cpus
+LaneDone plan infos sender tables seats = LaneStands plan infos sender (length plan.events) (length infos) tables seats
 
 -- the seats of a sender that isn't the first: each has one share and this owner
 abbrev pub AreOthers : ℕ → List SeatState → Type 0
-AreOthers owner cpus = (j : ℕ) (c : SeatState) → slice_get cpus j ≡ Some c → (c.shares ≡ 1) × (c.owners ≡ owner ∷ []) × (c.first ≡ false)
+AreOthers owner seats = (j : ℕ) (c : SeatState) → slice_get seats j ≡ Some c → (c.shares ≡ 1) × (c.owners ≡ owner ∷ []) × (c.first ≡ false)
 
 -- the lane at this place among those of the other senders, before the run and after it: its owner is one more
-pub record IsReadyLane (plan : Plan) (infos : List Info) (tables : List TableState) (place owner : ℕ) (cpus : List SeatState) : Type 0 where
+pub record IsReadyLane (plan : Plan) (infos : List Info) (tables : List TableState) (place owner : ℕ) (seats : List SeatState) : Type 0 where
   pub owner_is : owner ≡ place + 1
-  pub stands : LaneStands plan infos owner 0 0 tables cpus
-  pub others : AreOthers owner cpus
+  pub stands : LaneStands plan infos owner 0 0 tables seats
+  pub others : AreOthers owner seats
 
-pub record IsDoneLane (plan : Plan) (infos : List Info) (tables : List TableState) (place owner : ℕ) (cpus : List SeatState) : Type 0 where
+pub record IsDoneLane (plan : Plan) (infos : List Info) (tables : List TableState) (place owner : ℕ) (seats : List SeatState) : Type 0 where
   pub owner_is : owner ≡ place + 1
-  pub stands : LaneDone plan infos owner tables cpus
-  pub others : AreOthers owner cpus
+  pub stands : LaneDone plan infos owner tables seats
+  pub others : AreOthers owner seats
 
 abbrev pub AreReadyLanes : {D : Type 0} → Plan → List Info → List TableState → List (Sender D) → Type 0
 AreReadyLanes {D} plan infos tables lanes = (i : ℕ) (l : Sender D) → slice_get lanes i ≡ Some l → IsReadyLane plan infos tables i l.owner l.seats.items

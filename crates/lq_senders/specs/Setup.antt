@@ -65,22 +65,22 @@ pub record IsOpenedAt (plan : Plan) (infos : List Info) (devices : List DeviceSt
   pub device : slice_get devices j ≡ Some c.origin
   pub view_is : c ≡ new_seat c.table (setup_of plan infos j) c.origin
 
-pub record AreOpened (plan : Plan) (infos : List Info) (devices : List DeviceState) (tables : List TableState) (cpus : List SeatState) : Type 0 where
-  pub long : length cpus ≡ length tables
-  pub each : (j : ℕ) (t : TableState) (c : SeatState) → slice_get tables j ≡ Some t → slice_get cpus j ≡ Some c → IsOpenedAt plan infos devices j t c
+pub record AreOpened (plan : Plan) (infos : List Info) (devices : List DeviceState) (tables : List TableState) (seats : List SeatState) : Type 0 where
+  pub long : length seats ≡ length tables
+  pub each : (j : ℕ) (t : TableState) (c : SeatState) → slice_get tables j ≡ Some t → slice_get seats j ≡ Some c → IsOpenedAt plan infos devices j t c
 
 -- each table has one seat alone, which is in no call and may end it
 pub record HasOneSeat (t : TableState) (c : SeatState) : Type 0 where
   pub seat : IsHere t c
   pub may : MayCloseBy c
 
-pub record AreWhole (tables : List TableState) (cpus : List SeatState) : Type 0 where
-  pub long : length cpus ≡ length tables
-  pub each : (j : ℕ) (t : TableState) (c : SeatState) → slice_get tables j ≡ Some t → slice_get cpus j ≡ Some c → HasOneSeat t c
+pub record AreWhole (tables : List TableState) (seats : List SeatState) : Type 0 where
+  pub long : length seats ≡ length tables
+  pub each : (j : ℕ) (t : TableState) (c : SeatState) → slice_get tables j ≡ Some t → slice_get seats j ≡ Some c → HasOneSeat t c
 
 -- which devices came to the seats' stations
 abbrev pub origins_of : List SeatState → List ℕ
-origins_of cpus = map (λ (c : SeatState). c.origin.identity) cpus
+origins_of seats = map (λ (c : SeatState). c.origin.identity) seats
 
 -- SENDERS
 
@@ -101,10 +101,10 @@ pub record SplitsAt (plan : Plan) (infos : List Info) (next j : ℕ) (t : TableS
   pub seat : IsHere t c
   pub splitting : IsSplitting plan next c
 
-pub record AreSplitting (plan : Plan) (infos : List Info) (next : ℕ) (tables : List TableState) (cpus : List SeatState) : Type 0 where
-  pub long : length cpus ≡ length tables
+pub record AreSplitting (plan : Plan) (infos : List Info) (next : ℕ) (tables : List TableState) (seats : List SeatState) : Type 0 where
+  pub long : length seats ≡ length tables
   pub all : length tables ≡ length plan.stations
-  pub each : (j : ℕ) (t : TableState) (c : SeatState) → slice_get tables j ≡ Some t → slice_get cpus j ≡ Some c → SplitsAt plan infos next j t c
+  pub each : (j : ℕ) (t : TableState) (c : SeatState) → slice_get tables j ≡ Some t → slice_get seats j ≡ Some c → SplitsAt plan infos next j t c
 
 -- the lane at this place among those of the other senders has no seat yet, and room for one at each station
 pub record IsEmptyLane {D : Type 0} (plan : Plan) (place : ℕ) (l : Sender D) : Type 0 where
@@ -132,29 +132,29 @@ pub record HasRoomForRun {D : Type 0} {g : Ghosts D} (plan : Plan) (room : Room 
 -- no unit's device, with room for all of them
 pub record HasRoomForUnits {D : Type 0} (plan : Plan) (units : Units D) : Type 0 where
   pub no_table : units.stations.tables.items ≡ []
-  pub no_seat : units.stations.cpus.items ≡ []
+  pub no_seat : units.stations.seats.items ≡ []
   pub no_spare : units.spares.items ≡ []
   pub tables : length plan.stations ≤ vec_capacity units.stations.tables
-  pub seats : length plan.stations ≤ vec_capacity units.stations.cpus
+  pub seats : length plan.stations ≤ vec_capacity units.stations.seats
   pub spares : count_by is_swap plan.events ≤ vec_capacity units.spares
 
 -- A RUN THAT MAY BEGIN
 
 -- The tables are new, over the devices of a bench, which were configured as they stood there; those that swaps bring are
 -- to spare.
-pub record AreTablesReady (plan : Plan) (infos : List Info) (before : List DeviceState) (tables : List TableState) (cpus : List SeatState) (spares : List DeviceState) : Type 0 where
+pub record AreTablesReady (plan : Plan) (infos : List Info) (before : List DeviceState) (tables : List TableState) (seats : List SeatState) (spares : List DeviceState) : Type 0 where
   pub devices : List DeviceState
   pub units : unit_count plan ≤ length before
   pub configured : AreConfigured plan infos (length plan.stations) before devices
   pub brought : AreBroughtAsConfigured plan infos before devices
-  pub opened : AreOpened plan infos devices tables cpus
+  pub opened : AreOpened plan infos devices tables seats
   pub all : length tables ≡ length plan.stations
   pub spares_are : spares ≡ take (count_by is_swap plan.events) (drop (length plan.stations) devices)
 
 -- the same of the devices of all units, each seen by its state
 abbrev pub AreUnitsReady : {D : Type 0} → (D → DeviceState) → Plan → List Info → List DeviceState → Units D → Type 0
 AreUnitsReady state plan infos before units =
-    AreTablesReady plan infos before units.stations.tables.items units.stations.cpus.items (map state units.spares.items)
+    AreTablesReady plan infos before units.stations.tables.items units.stations.seats.items (map state units.spares.items)
 
 -- WHAT COMES BACK
 

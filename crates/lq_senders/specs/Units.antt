@@ -40,23 +40,23 @@ DoTell plan units = (e : ℕ) (event : EventPlan) (params : Params) (device : De
     → slice_get units (unit_of_swap plan e) ≡ Some device → device.told ≡ Some (new_device params)
 
 -- the device that the swap numbered e took away: its unit came to the station as this one, and its seat knows what it sent
-pub record IsTaken (plan : Plan) (infos : List Info) (units taken : List DeviceState) (cpus : List SeatState) (e : ℕ) (event : EventPlan) : Type 0 where
+pub record IsTaken (plan : Plan) (infos : List Info) (units taken : List DeviceState) (seats : List SeatState) (e : ℕ) (event : EventPlan) : Type 0 where
   pub origin : DeviceState
   pub device : DeviceState
   pub came : slice_get units (unit_at plan event.station e) ≡ Some origin
   pub went : slice_get taken (swaps_before plan e) ≡ Some device
   pub has_served : HasServed infos event.station origin device
-  pub gone : (c : SeatState) → slice_get cpus event.station ≡ Some c → Contains c.gone (unit_at plan event.station e, device.accepted)
+  pub gone : (c : SeatState) → slice_get seats event.station ≡ Some c → Contains c.gone (unit_at plan event.station e, device.accepted)
 
 -- After the first so many events each station has its unit's device, and the spare devices are those of the swaps that are
 -- left, in order, and then those that the others took away.
-pub record DevicesStand (plan : Plan) (infos : List Info) (units : List DeviceState) (count : ℕ) (cpus : List SeatState) (spares : List DeviceState) : Type 0 where
+pub record DevicesStand (plan : Plan) (infos : List Info) (units : List DeviceState) (count : ℕ) (seats : List SeatState) (spares : List DeviceState) : Type 0 where
   pub units_are : AreUnits plan infos units
-  pub home : (j : ℕ) (c : SeatState) → slice_get cpus j ≡ Some c → slice_get units (unit_at plan j count) ≡ Some c.origin
+  pub home : (j : ℕ) (c : SeatState) → slice_get seats j ≡ Some c → slice_get units (unit_at plan j count) ≡ Some c.origin
   pub taken : List DeviceState
   pub so_many : length taken ≡ swaps_before plan count
   pub spares_are : spares ≡ drop (unit_of_swap plan count) units ++ taken
-  pub each : (e : ℕ) (event : EventPlan) → e < count → slice_get plan.events e ≡ Some event → is_swap event ≡ true → IsTaken plan infos units taken cpus e event
+  pub each : (e : ℕ) (event : EventPlan) → e < count → slice_get plan.events e ≡ Some event → is_swap event ≡ true → IsTaken plan infos units taken seats e event
 
 -- the devices that came to the seats' stations are the same, and those that went
 pub record SameDevices (old new : List SeatState) : Type 0 where

@@ -17,36 +17,36 @@ use std::sync::Wait;
 /// Joins another sender's seats into the first sender's. Those of the senders after it were taken in before.
 fn join_lane<'r, 'a, D: TxDevice, G: Gate>(
     run: &Run<'r, 'a, D, G>,
-    cpus: &mut Vec<Seat<D>>,
+    seats: &mut Vec<Seat<D>>,
     lane: Sender<D>,
 )
-    requires first { SeatsJoined run.now lane.owner cpus.old.items }
+    requires first { SeatsJoined run.now lane.owner seats.old.items }
     requires other { LaneIsDone run.now (lane.owner - 1) lane }
-    ensures joined { SeatsJoined run.now (lane.owner - 1) cpus.new.items }
-    ensures devices { SameDevices cpus.old.items cpus.new.items }
+    ensures joined { SeatsJoined run.now (lane.owner - 1) seats.new.items }
+    ensures devices { SameDevices seats.old.items seats.new.items }
 {
     run.plan.stays_within_limits();
     let mut others = lane.seats;
     while let Some(other) = others.pop() {
         let j = others.len();
-        cpus[j].join(&run.tables[j], other);
+        seats[j].join(&run.tables[j], other);
     }
 }
 
 /// Joins all other senders' seats into the first sender's.
 fn join_all<'r, 'a, D: TxDevice, G: Gate>(
     run: &Run<'r, 'a, D, G>,
-    cpus: &mut Vec<Seat<D>>,
+    seats: &mut Vec<Seat<D>>,
     mut others: Vec<Sender<D>>,
 )
-    requires first { SeatsJoined run.now (length others.items) cpus.old.items }
+    requires first { SeatsJoined run.now (length others.items) seats.old.items }
     requires others { LanesAreDone run.now others.items }
-    ensures joined { SeatsJoined run.now 0 cpus.new.items }
-    ensures devices { SameDevices cpus.old.items cpus.new.items }
-    ensures alone { length others.items ≡ 0 → cpus.new.items ≡ cpus.old.items }
+    ensures joined { SeatsJoined run.now 0 seats.new.items }
+    ensures devices { SameDevices seats.old.items seats.new.items }
+    ensures alone { length others.items ≡ 0 → seats.new.items ≡ seats.old.items }
 {
     while let Some(lane) = others.pop() {
-        join_lane(run, cpus, lane);
+        join_lane(run, seats, lane);
     }
 }
 
@@ -54,13 +54,13 @@ fn join_all<'r, 'a, D: TxDevice, G: Gate>(
 fn finish_all<'r, 'a, R: Wait, D: TxDevice, G: Gate>(
     rt: &R,
     run: &Run<'r, 'a, D, G>,
-    cpus: &mut Vec<Seat<D>>,
+    seats: &mut Vec<Seat<D>>,
 )
-    requires joined { SeatsJoined run.now 0 cpus.old.items }
-    ensures { AllDid Finishes cpus.old.items cpus.new.items }
+    requires joined { SeatsJoined run.now 0 seats.old.items }
+    ensures { AllDid Finishes seats.old.items seats.new.items }
 {
     for j in 0..run.tables.len() {
-        cpus[j].finish(rt, &run.tables[j]);
+        seats[j].finish(rt, &run.tables[j]);
     }
 }
 
@@ -69,36 +69,36 @@ fn finish_all<'r, 'a, R: Wait, D: TxDevice, G: Gate>(
 pub fn end_run<'r, 'a, R: Wait, D: TxDevice, G: Gate>(
     rt: &R,
     run: &Run<'r, 'a, D, G>,
-    cpus: &mut Vec<Seat<D>>,
+    seats: &mut Vec<Seat<D>>,
     others: Vec<Sender<D>>,
 )
-    requires first { SeatsDone run.now 0 cpus.old.items × AreFirst (length others.items) cpus.old.items }
+    requires first { SeatsDone run.now 0 seats.old.items × AreFirst (length others.items) seats.old.items }
     requires others { LanesAreDone run.now others.items }
     requires senders { length others.items + 1 ≡ run.now.plan.now.senders }
-    ensures may { AllMayClose run.now.plan.now run.now.infos.now run.now.tables.now cpus.new.items }
-    ensures devices { SameDevices cpus.old.items cpus.new.items }
-    ensures alone { length others.items ≡ 0 → SeatsEndAlone run.now cpus.old.items cpus.new.items }
+    ensures may { AllMayClose run.now.plan.now run.now.infos.now run.now.tables.now seats.new.items }
+    ensures devices { SameDevices seats.old.items seats.new.items }
+    ensures alone { length others.items ≡ 0 → SeatsEndAlone run.now seats.old.items seats.new.items }
 {
-    join_all(run, cpus, others);
-    finish_all(rt, run, cpus);
+    join_all(run, seats, others);
+    finish_all(rt, run, seats);
 }
 
 /// Closes each station's table. Takes no memory.
 pub fn close_all<'r, 'a, D: TxDevice, G: Gate>(
     job: &Job<'r, G>,
     mut shared: Vec<Table<'a, D>>,
-    mut cpus: Vec<Seat<D>>,
+    mut seats: Vec<Seat<D>>,
     closed: &mut Vec<Closed<D>>,
 )
-    requires may { AllMayClose job.now.plan.now job.now.infos.now shared.items cpus.items }
+    requires may { AllMayClose job.now.plan.now job.now.infos.now shared.items seats.items }
     requires none_yet { closed.old.items ≡ [] }
     requires room { length job.now.plan.now.stations ≤ vec_capacity closed.old }
-    ensures { FirstClosed job.now.plan.now job.now.infos.now (length job.now.plan.now.stations) cpus.items
+    ensures { FirstClosed job.now.plan.now job.now.infos.now (length job.now.plan.now.stations) seats.items
         (map closed_state closed.new.items) }
 {
     for _station in 0..job.plan.stations() {
         let table = shared.remove(0);
-        let cpu = cpus.remove(0);
+        let cpu = seats.remove(0);
         let ended = table.close(cpu);
         closed.push_reserved(ended);
     }

@@ -80,7 +80,7 @@ fn send_other<'r, 'a, R: Wait, D: TxDevice, G: Gate>(
 }
 
 /// The other senders, side by side.
-fn others_send<'r, 'a, R: Threads + Wait + Sync, D: TxDevice, G: Gate>(
+fn send_side_by_side<'r, 'a, R: Threads + Wait + Sync, D: TxDevice, G: Gate>(
     rt: &R,
     run: &Run<'r, 'a, D, G>,
     senders: &mut [Sender<D>],
@@ -104,7 +104,7 @@ fn others_send<'r, 'a, R: Threads + Wait + Sync, D: TxDevice, G: Gate>(
     }
 }
 
-fn first_sent<'r, 'a, R: Wait, D: TxDevice, G: Gate>(
+fn send_first<'r, 'a, R: Wait, D: TxDevice, G: Gate>(
     rt: &R,
     run: &Run<'r, 'a, D, G>,
     mut sender: Sender<D>,
@@ -123,7 +123,7 @@ fn first_sent<'r, 'a, R: Wait, D: TxDevice, G: Gate>(
     sender
 }
 
-fn others_sent<'r, 'a, R: Threads + Wait + Sync, D: TxDevice, G: Gate>(
+fn send_others<'r, 'a, R: Threads + Wait + Sync, D: TxDevice, G: Gate>(
     rt: &R,
     run: &Run<'r, 'a, D, G>,
     mut senders: Vec<Sender<D>>,
@@ -133,7 +133,7 @@ fn others_sent<'r, 'a, R: Threads + Wait + Sync, D: TxDevice, G: Gate>(
     ensures course { LanesSendAll run.now senders.items result.items }
     ensures long { length result.items ≡ length senders.items }
 {
-    others_send(rt, run, senders.as_mut_slice());
+    send_side_by_side(rt, run, senders.as_mut_slice());
     senders
 }
 
@@ -166,11 +166,11 @@ pub fn all_send<'r, 'a, R: Threads + Wait + Sync, D: TxDevice, G: Gate>(
                 × SeatsSendAll run.entry.now 0 first.seats.items result.seats.items
                 × DevicesGoOn D.state run.entry.now 0 (length run.entry.now.plan.now.events) first result
                 × SendsAllAlone D.state run.entry.now first result }
-        { first_sent(rt, run, first) },
+        { send_first(rt, run, first) },
         move || -> Vec<Sender<D>>
             requires { LanesAreReady run.now others.items }
             ensures { LanesAreDone run.entry.now result.items × (length result.items ≡ length others.items)
                 × LanesSendAll run.entry.now others.items result.items }
-        { others_sent(rt, run, others) },
+        { send_others(rt, run, others) },
     )
 }

@@ -5,7 +5,7 @@ ghost use Rattle.lq_senders.specs.Lanes.{IsSendable};
 ghost use Rattle.lq_senders.specs.Setup.{AreUnitsReady, HasRoomForUnits};
 ghost use Rattle.lq_model.specs.Plan.{unit_count};
 
-use crate::setup::{Stations, configure_units, open_all, room_apart, room_for};
+use crate::setup::{Stations, configure_units, list_apart, list_with_room, open_all};
 use crate::spares::{configure_spares, take_spares};
 use lq_device::TxDevice;
 use lq_model::{Info, NoMemory};
@@ -24,11 +24,11 @@ pub fn room_for_units<'a, D: TxDevice>(alloc: Global, plan: &Plan) -> Result<Uni
     ensures { IfOk result (λ units. HasRoomForUnits plan.now units) }
 {
     let count = plan.stations() as usize;
-    let tables = room_apart(alloc, count)?;
-    let cpus = room_apart(alloc, count)?;
-    let spares = room_for(alloc, plan.units() as usize - count)?;
+    let tables = list_apart(alloc, count)?;
+    let seats = list_apart(alloc, count)?;
+    let spares = list_with_room(alloc, plan.units() as usize - count)?;
     Ok(Units {
-        stations: Stations { tables, cpus },
+        stations: Stations { tables, seats },
         spares,
     })
 }

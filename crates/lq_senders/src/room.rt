@@ -3,7 +3,7 @@ ghost use Rattle.std.specs.Prelude.{IfOk};
 ghost use Rattle.lq_senders.specs.Setup.{HasRoomForRun};
 
 use crate::sender::Sender;
-use crate::setup::{lanes_for, room_for};
+use crate::setup::{lanes_for, list_with_room};
 use lq_device::TxDevice;
 use lq_model::NoMemory;
 use lq_plan::Plan;
@@ -24,14 +24,14 @@ pub struct Room<D: TxDevice> {
 }
 
 /// Takes the memory of a run.
-pub fn take_room<D: TxDevice>(alloc: Global, plan: &Plan) -> Result<Room<D>, NoMemory>
+pub fn room_for_run<D: TxDevice>(alloc: Global, plan: &Plan) -> Result<Room<D>, NoMemory>
     ensures { IfOk result (λ room. HasRoomForRun plan.now room) }
 {
     let count = plan.stations() as usize;
     let others = lanes_for(alloc, plan)?;
-    let closed = room_for(alloc, count)?;
-    let ended = room_for(alloc, count)?;
-    let homes = room_for(alloc, count)?;
+    let closed = list_with_room(alloc, count)?;
+    let ended = list_with_room(alloc, count)?;
+    let homes = list_with_room(alloc, count)?;
     Ok(Room {
         others,
         closed,

@@ -13,7 +13,7 @@ use crate::laws::{
     runs_may_be_sent, same_openings_make_same_fates,
 };
 use crate::ready::{Units, make_ready, room_for_units};
-use crate::room::{Room, take_room};
+use crate::room::{Room, room_for_run};
 use crate::sender::{Job, Run, Sender, Senders};
 use crate::setup::{Stations, split_lanes};
 use crate::undo::{hand_back, take_apart};
@@ -52,7 +52,7 @@ fn send_ready<'r, 'a, R: Threads + Wait + Sync, D: TxDevice, G: Gate>(
 {
     job.plan.stays_within_limits();
     let Units { stations, spares } = units;
-    let Stations { tables, mut cpus } = stations;
+    let Stations { tables, mut seats } = stations;
     let all = Run {
         plan: job.plan,
         infos: job.infos,
@@ -60,10 +60,10 @@ fn send_ready<'r, 'a, R: Threads + Wait + Sync, D: TxDevice, G: Gate>(
         tables: tables.as_slice(),
         gate: job.gate,
     };
-    split_lanes(&all, &mut cpus, &mut room.others);
+    split_lanes(&all, &mut seats, &mut room.others);
     let first = Sender {
         owner: 0,
-        seats: cpus,
+        seats,
         spares,
     };
     let senders = Senders {
@@ -111,7 +111,7 @@ pub fn send_all<R: Threads + Wait + Sync, D: TxDevice, G: Gate>(
     ensures boxes { identities_of (map D.state bench.new.items) ≡ identities_of (map D.state bench.old.items) }
 {
     runs_may_be_sent();
-    let room = take_room(on.alloc, plan)?;
+    let room = room_for_run(on.alloc, plan)?;
     let empty = room_for_units(on.alloc, plan)?;
     let units = make_ready(on.alloc, plan, infos, bench, empty)?;
     let job = Job {

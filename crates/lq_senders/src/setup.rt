@@ -20,7 +20,7 @@ use lq_seat::{Seat, Table};
 use std::alloc::Global;
 
 /// An empty list with room for so many.
-pub fn room_for<T>(alloc: Global, count: usize) -> Result<Vec<T>, NoMemory>
+pub fn list_with_room<T>(alloc: Global, count: usize) -> Result<Vec<T>, NoMemory>
     ensures empty { IfOk result (λ list. list.items ≡ []) }
     ensures room { IfOk result (λ list. count ≤ vec_capacity list) }
 {
@@ -37,11 +37,11 @@ const APART: usize = 6;
 
 /// The same with room behind the list that stays empty, so that no other sender's list shares a line of the processor's cache
 /// with its last item.
-pub fn room_apart<T>(alloc: Global, count: usize) -> Result<Vec<T>, NoMemory>
+pub fn list_apart<T>(alloc: Global, count: usize) -> Result<Vec<T>, NoMemory>
     ensures empty { IfOk result (λ list. list.items ≡ []) }
     ensures room { IfOk result (λ list. count ≤ vec_capacity list) }
 {
-    room_for(alloc, count.saturating_add(APART))
+    list_with_room(alloc, count.saturating_add(APART))
 }
 
 /// How many packets go to a station.
@@ -80,12 +80,12 @@ pub fn lanes_for<D: TxDevice>(alloc: Global, plan: &Plan) -> Result<Vec<Sender<D
     ensures { IfOk result (λ lanes. AreEmptyLanes plan.now lanes.items) }
 {
     let senders = plan.senders();
-    let mut lanes = room_apart(alloc, senders as usize - 1)?;
+    let mut lanes = list_apart(alloc, senders as usize - 1)?;
     for owner in 1..senders {
-        let cpus = room_apart(alloc, plan.stations() as usize)?;
+        let seats = list_apart(alloc, plan.stations() as usize)?;
         lanes.push_reserved(Sender {
             owner,
-            seats: cpus,
+            seats,
             spares: Vec::new(alloc),
         });
     }
@@ -96,7 +96,7 @@ pub fn lanes_for<D: TxDevice>(alloc: Global, plan: &Plan) -> Result<Vec<Sender<D
 #[derive(Drop)]
 pub struct Stations<'a, D: TxDevice> {
     pub tables: Vec<Table<'a, D>>,
-    pub cpus: Vec<Seat<D>>,
+    pub seats: Vec<Seat<D>>,
 }
 
 /// Takes the device of each station out of the bench, into a table of its own, up to the first for which there is no room.
@@ -111,10 +111,10 @@ fn open_stations<'a, D: TxDevice>(
     requires units { length plan.now.stations ≤ vec_len bench.old }
     requires configured { (before : List DeviceState)
         × AreConfigured plan.now infos.now (length plan.now.stations) before (map D.state bench.old.items) }
-    requires none_yet { (stations.old.tables.items ≡ []) × (stations.old.cpus.items ≡ []) }
+    requires none_yet { (stations.old.tables.items ≡ []) × (stations.old.seats.items ≡ []) }
     requires room { (length plan.now.stations ≤ vec_capacity stations.old.tables)
-        × (length plan.now.stations ≤ vec_capacity stations.old.cpus) }
-    ensures opened { AreOpened plan.now infos.now (map D.state bench.old.items) stations.new.tables.items stations.new.cpus.items }
+        × (length plan.now.stations ≤ vec_capacity stations.old.seats) }
+    ensures opened { AreOpened plan.now infos.now (map D.state bench.old.items) stations.new.tables.items stations.new.seats.items }
     ensures few { vec_len stations.new.tables ≤ length plan.now.stations }
     ensures all { OnOk result (vec_len stations.new.tables ≡ length plan.now.stations) }
     ensures states { map D.state bench.new.items ≡ drop (vec_len stations.new.tables) (map D.state bench.old.items) }
@@ -128,7 +128,7 @@ fn open_stations<'a, D: TxDevice>(
         match Table::open(alloc, plan, infos, station, device) {
             Ok((table, cpu)) => {
                 stations.tables.push_reserved(table);
-                stations.cpus.push_reserved(cpu);
+                stations.seats.push_reserved(cpu);
             }
             Err(device) => {
                 let _laid_back = bench.insert(0, device);
@@ -143,17 +143,17 @@ fn open_stations<'a, D: TxDevice>(
 /// memory.
 fn give_all_back<'a, D: TxDevice>(
     mut tables: Vec<Table<'a, D>>,
-    mut cpus: Vec<Seat<D>>,
+    mut seats: Vec<Seat<D>>,
     bench: &mut Vec<D>,
 )
-    requires whole { AreWhole tables.items cpus.items }
+    requires whole { AreWhole tables.items seats.items }
     requires room { vec_len bench.old + vec_len tables ≤ vec_capacity bench.old }
-    ensures boxes { identities_of (map D.state bench.new.items) ≡ origins_of cpus.items ++ identities_of (map D.state bench.old.items) }
+    ensures boxes { identities_of (map D.state bench.new.items) ≡ origins_of seats.items ++ identities_of (map D.state bench.old.items) }
     ensures rest { drop (vec_len tables.entry) bench.new.items ≡ bench.old.items }
     ensures len { vec_len bench.new ≡ vec_len tables.entry + vec_len bench.old }
 {
     while let Some(table) = tables.pop() {
-        match cpus.pop() {
+        match seats.pop() {
             Some(cpu) => {
                 let _laid_back = bench.insert(0, table.give_back(cpu));
             }
@@ -178,10 +178,10 @@ pub fn open_all<'a, D: TxDevice>(
     requires units { length plan.now.stations ≤ vec_len bench.old }
     requires configured { (before : List DeviceState)
         × AreConfigured plan.now infos.now (length plan.now.stations) before (map D.state bench.old.items) }
-    requires none_yet { (stations.tables.items ≡ []) × (stations.cpus.items ≡ []) }
+    requires none_yet { (stations.tables.items ≡ []) × (stations.seats.items ≡ []) }
     requires room { (length plan.now.stations ≤ vec_capacity stations.tables)
-        × (length plan.now.stations ≤ vec_capacity stations.cpus) }
-    ensures opened { IfOk result (λ s. AreOpened plan.now infos.now (map D.state bench.old.items) s.tables.items s.cpus.items) }
+        × (length plan.now.stations ≤ vec_capacity stations.seats) }
+    ensures opened { IfOk result (λ s. AreOpened plan.now infos.now (map D.state bench.old.items) s.tables.items s.seats.items) }
     ensures all { IfOk result (λ s. vec_len s.tables ≡ length plan.now.stations) }
     ensures rest { OnOk result (bench.new.items ≡ drop (length plan.now.stations) bench.old.items) }
     ensures less { OnOk result (length plan.now.stations + vec_len bench.new ≡ vec_len bench.old) }
@@ -193,8 +193,8 @@ pub fn open_all<'a, D: TxDevice>(
     match open_stations(alloc, plan, infos, bench, &mut stations) {
         Ok(()) => Ok(stations),
         Err(NoMemory) => {
-            let Stations { tables, cpus } = stations;
-            give_all_back(tables, cpus, bench);
+            let Stations { tables, seats } = stations;
+            give_all_back(tables, seats, bench);
             Err(NoMemory)
         }
     }
@@ -203,19 +203,19 @@ pub fn open_all<'a, D: TxDevice>(
 /// Splits a seat at each station off for the sender of this lane. Takes no memory.
 fn split_lane<'r, 'a, D: TxDevice, G: Gate>(
     run: &Run<'r, 'a, D, G>,
-    cpus: &mut Vec<Seat<D>>,
+    seats: &mut Vec<Seat<D>>,
     lane: &mut Sender<D>,
 )
     requires empty { IsEmptyLane run.now.plan.now (lane.old.owner - 1) lane.old }
     requires sender { lane.old.owner < run.now.plan.now.senders }
-    requires splitting { SeatsSplit run.now lane.old.owner cpus.old.items }
-    ensures splitting { SeatsSplit run.now (lane.old.owner + 1) cpus.new.items }
+    requires splitting { SeatsSplit run.now lane.old.owner seats.old.items }
+    ensures splitting { SeatsSplit run.now (lane.old.owner + 1) seats.new.items }
     ensures ready { LaneIsReady run.now (lane.old.owner - 1) lane.new }
-    ensures devices { SameDevices cpus.old.items cpus.new.items }
+    ensures devices { SameDevices seats.old.items seats.new.items }
 {
     run.plan.stays_within_limits();
     for j in 0..run.tables.len() {
-        let other = cpus[j].split(&run.tables[j], lane.owner);
+        let other = seats[j].split(&run.tables[j], lane.owner);
         lane.seats.push_reserved(other);
     }
 }
@@ -223,18 +223,18 @@ fn split_lane<'r, 'a, D: TxDevice, G: Gate>(
 /// Splits the seats of all senders but the first off. Takes no memory.
 pub fn split_lanes<'r, 'a, D: TxDevice, G: Gate>(
     run: &Run<'r, 'a, D, G>,
-    cpus: &mut Vec<Seat<D>>,
+    seats: &mut Vec<Seat<D>>,
     lanes: &mut Vec<Sender<D>>,
 )
     requires empty { AreEmptyLanes run.now.plan.now lanes.old.items }
-    requires splitting { SeatsSplit run.now 1 cpus.old.items }
-    ensures splitting { SeatsSplit run.now run.now.plan.now.senders cpus.new.items }
+    requires splitting { SeatsSplit run.now 1 seats.old.items }
+    ensures splitting { SeatsSplit run.now run.now.plan.now.senders seats.new.items }
     ensures ready { LanesAreReady run.now lanes.new.items }
     ensures one_each { length lanes.new.items + 1 ≡ run.now.plan.now.senders }
-    ensures devices { SameDevices cpus.old.items cpus.new.items }
-    ensures alone { run.now.plan.now.senders ≡ 1 → cpus.new.items ≡ cpus.old.items }
+    ensures devices { SameDevices seats.old.items seats.new.items }
+    ensures alone { run.now.plan.now.senders ≡ 1 → seats.new.items ≡ seats.old.items }
 {
     for place in 0..lanes.len() {
-        split_lane(run, cpus, &mut lanes[place]);
+        split_lane(run, seats, &mut lanes[place]);
     }
 }

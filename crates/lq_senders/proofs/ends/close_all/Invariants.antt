@@ -6,8 +6,8 @@ abbrev pub invariant-loop-station : goal.invariant-loop-station
 invariant-loop-station g l = record {
   tables : l.shared.items ≡ drop l._station l.fn.shared.items;
   tables_len : l._station + l.shared.len ≡ l.fn.shared.len;
-  seats : l.cpus.items ≡ drop l._station l.fn.cpus.items;
-  seats_len : l._station + l.cpus.len ≡ l.fn.cpus.len;
-  closed : FirstClosed l.job.plan.now l.job.infos.now l._station l.fn.cpus.items (map closed_state l.closed.items);
+  seats : l.seats.items ≡ drop l._station l.fn.seats.items;
+  seats_len : l._station + l.seats.len ≡ l.fn.seats.len;
+  closed : FirstClosed l.job.plan.now l.job.infos.now l._station l.fn.seats.items (map closed_state l.closed.items);
   room : length l.job.plan.now.stations ≤ l.closed.cap;
 }

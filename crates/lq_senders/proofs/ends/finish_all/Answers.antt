@@ -9,14 +9,14 @@ use Rattle.lq_senders.proofs.ends.finish_all.Goals as goal
 use Rattle.lq_senders.proofs.ends.finish_all.Goals.{After-index-run-j}
 
 pub loop-j-init : goal.loop-j-init
-loop-j-init g c = none-did Finishes c.args.cpus.now.items
+loop-j-init g c = none-did Finishes c.args.seats.now.items
 
 at : (g : _) (c : After-index-run-j g) → JoinedAt c.args.run.now.plan.now c.args.run.now.infos.now 0 c.loop-j.j c.index-run-j.result c.index_mut.result.now
 at g c =
     let first = c.loop-j.invariant in let long = first.long in let same = c.requires.joined.long in let test = c.loop-j-test.true in
     c.requires.joined.each c.loop-j.j c.index-run-j.result c.index_mut.result.now
     (read-at c.args.run.now.tables.now c.loop-j.j c.index-run-j.result test c.index-run-j.is)
-    (sym (first.rest c.loop-j.j (omega arith)) ∙ read-at c.loop-j.cpus.items c.loop-j.j c.index_mut.result.now (omega arith) c.index_mut.ensures.value)
+    (sym (first.rest c.loop-j.j (omega arith)) ∙ read-at c.loop-j.seats.items c.loop-j.j c.index_mut.result.now (omega arith) c.index_mut.ensures.value)
 
 pub finish-requires-clause-here : goal.finish-requires-clause-here
 finish-requires-clause-here g c κs within = subst (λ (t : TableState). IsHere t c.index_mut.result.now) c.index-run-j.is (at g c).seat
@@ -30,10 +30,10 @@ finish-requires-clause-may g c κs within = may-finish c.args.run.now.plan.now c
 pub loop-j-preserved : goal.loop-j-preserved
 loop-j-preserved g c =
     let first = c.loop-j.invariant in let long = first.long in let same = c.requires.joined.long in let test = c.loop-j-test.true in
-    one-more-did Finishes c.loop-j.j c.args.cpus.now.items c.loop-j.cpus.items c.index_mut.result.now c.finish.new.self
-    (read-at c.loop-j.cpus.items c.loop-j.j c.index_mut.result.now (omega arith) c.index_mut.ensures.value) c.finish.ensures first
+    one-more-did Finishes c.loop-j.j c.args.seats.now.items c.loop-j.seats.items c.index_mut.result.now c.finish.new.self
+    (read-at c.loop-j.seats.items c.loop-j.j c.index_mut.result.now (omega arith) c.index_mut.ensures.value) c.finish.ensures first
 
 pub returns : goal.returns
 returns g c =
     let test = c.loop-j-test.false in let same = c.requires.joined.long in
-    all-did Finishes c.loop-j.j c.args.cpus.now.items c.loop-j.cpus.items (omega arith) c.loop-j.invariant
+    all-did Finishes c.loop-j.j c.args.seats.now.items c.loop-j.seats.items (omega arith) c.loop-j.invariant

@@ -3,4 +3,4 @@ use Rattle.lq_senders.specs.Lanes.{FirstDid}
 use Rattle.lq_senders.proofs.ends.finish_all.Given as goal
 
 abbrev pub invariant-loop-j : goal.invariant-loop-j
-invariant-loop-j g l = FirstDid Finishes l.j l.fn.cpus.items l.cpus.items
+invariant-loop-j g l = FirstDid Finishes l.j l.fn.seats.items l.seats.items

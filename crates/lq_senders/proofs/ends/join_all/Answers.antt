@@ -18,7 +18,7 @@ place-is g c = let is = (done g c).owner_is in let ok = c.pop.new.self.ok.0 in o
 pub join_lane-requires-clause-first : goal.join_lane-requires-clause-first
 join_lane-requires-clause-first g c κs within =
     let more = c.in-Some.ensures.len in let is = (done g c).owner_is in let ok = c.pop.new.self.ok.0 in
-    subst (λ (k : ℕ). LaneJoined c.args.run.now.plan.now c.args.run.now.infos.now k c.args.run.now.tables.now c.loop-lane.cpus.items) (omega arith) c.loop-lane.invariant.joined
+    subst (λ (k : ℕ). LaneJoined c.args.run.now.plan.now c.args.run.now.infos.now k c.args.run.now.tables.now c.loop-lane.seats.items) (omega arith) c.loop-lane.invariant.joined
 
 pub join_lane-requires-clause-other : goal.join_lane-requires-clause-other
 join_lane-requires-clause-other g c κs within =
@@ -28,9 +28,9 @@ join_lane-requires-clause-other g c κs within =
 pub loop-lane-preserved : goal.loop-lane-preserved
 loop-lane-preserved g c =
     let inv = c.loop-lane.invariant in let more = c.in-Some.ensures.len in record {
-      joined = subst (λ (k : ℕ). LaneJoined c.args.run.now.plan.now c.args.run.now.infos.now k c.args.run.now.tables.now c.join_lane.new.cpus.items) (place-is g c.before) c.join_lane.ensures.joined;
+      joined = subst (λ (k : ℕ). LaneJoined c.args.run.now.plan.now c.args.run.now.infos.now k c.args.run.now.tables.now c.join_lane.new.seats.items) (place-is g c.before) c.join_lane.ensures.joined;
       others = λ i x there. inv.others i x (ap (λ l. slice_get l i) c.in-Some.ensures.items ∙ get-push-old c.pop.new.self.items (c.in-Some.lane ∷ []) x i there);
-      devices = devices-on c.args.cpus.now.items c.loop-lane.cpus.items c.join_lane.new.cpus.items inv.devices c.join_lane.ensures.devices;
+      devices = devices-on c.args.seats.now.items c.loop-lane.seats.items c.join_lane.new.seats.items inv.devices c.join_lane.ensures.devices;
       fewer = let fewer = inv.fewer in omega arith;
       alone = λ none. absurd (let fewer = inv.fewer in omega arith);
     }

@@ -5,8 +5,8 @@ use Rattle.lq_senders.proofs.ends.join_lane.Given as goal
 
 abbrev pub invariant-loop-other : goal.invariant-loop-other
 invariant-loop-other g l = record {
-  down : JoinsDown l.run.plan.now l.run.infos.now (l.fn.lane.owner - 1) l.others.len l.run.tables.now l.cpus.items l.others.items;
-  devices : SameDevices l.fn.cpus.items l.cpus.items;
+  down : JoinsDown l.run.plan.now l.run.infos.now (l.fn.lane.owner - 1) l.others.len l.run.tables.now l.seats.items l.others.items;
+  devices : SameDevices l.fn.seats.items l.seats.items;
 }
 
 abbrev pub decreases-loop-other : goal.decreases-loop-other

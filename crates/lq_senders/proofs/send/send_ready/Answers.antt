@@ -24,27 +24,27 @@ pub split_lanes-requires-clause-splitting : goal.split_lanes-requires-clause-spl
 split_lanes-requires-clause-splitting g c κs within =
     let ready = c.requires.ready.1 in let plan = c.args.job.now.plan.now in let infos = c.args.job.now.infos.now in
     let stations = c.args.units.stations in let has_sender = c.stays_within_limits.ensures.has_sender in
-    subst (λ (ts : List TableState). AreSplitting plan infos 1 ts stations.cpus.items) (sym c.as_slice.ensures.value)
-    (splitting-opened plan infos ready.devices stations.tables.items stations.cpus.items has_sender ready.all ready.opened)
+    subst (λ (ts : List TableState). AreSplitting plan infos 1 ts stations.seats.items) (sym c.as_slice.ensures.value)
+    (splitting-opened plan infos ready.devices stations.tables.items stations.seats.items has_sender ready.all ready.opened)
 
 -- the seats and devices that the run begins with, over a bench that made them ready
 over : (g : given.Over) (c : After-split_lanes g) (before : List DeviceState)
     → AreUnitsReady g.D.TxDevice.state c.args.job.now.plan.now c.args.job.now.infos.now before c.args.units
-    → AreOver c.args.job.now.plan.now c.args.job.now.infos.now before (length c.split_lanes.new.lanes.items) c.split_lanes.new.cpus.items
+    → AreOver c.args.job.now.plan.now c.args.job.now.infos.now before (length c.split_lanes.new.lanes.items) c.split_lanes.new.seats.items
     (map g.D.TxDevice.state c.args.units.spares.items)
 over g c before ready =
     let stations = c.args.units.stations in let split = c.split_lanes.ensures in
-    are-over c.args.job.now.plan.now c.args.job.now.infos.now before stations.tables.items stations.cpus.items
-    (map g.D.TxDevice.state c.args.units.spares.items) ready c.split_lanes.new.cpus.items split.devices
+    are-over c.args.job.now.plan.now c.args.job.now.infos.now before stations.tables.items stations.seats.items
+    (map g.D.TxDevice.state c.args.units.spares.items) ready c.split_lanes.new.seats.items split.devices
     (length c.split_lanes.new.lanes.items) split.one_each split.alone
 
 pub run-spares-requires-clause-first : goal.run-spares-requires-clause-first
 run-spares-requires-clause-first g c κs within =
     let plan = c.args.job.now.plan.now in let infos = c.args.job.now.infos.now in
-    let tables = c.args.units.stations.tables.items in let cpus = c.split_lanes.new.cpus.items in let split = c.split_lanes.ensures in
-    let now = subst (λ (ts : List TableState). AreSplitting plan infos plan.senders ts cpus) c.as_slice.ensures.value split.splitting in
-    let stands = lane-stands plan infos tables cpus c.stays_within_limits.ensures.has_sender now in
-    (stands, are-first plan infos (length c.split_lanes.new.lanes.items) tables cpus split.one_each now)
+    let tables = c.args.units.stations.tables.items in let seats = c.split_lanes.new.seats.items in let split = c.split_lanes.ensures in
+    let now = subst (λ (ts : List TableState). AreSplitting plan infos plan.senders ts seats) c.as_slice.ensures.value split.splitting in
+    let stands = lane-stands plan infos tables seats c.stays_within_limits.ensures.has_sender now in
+    (stands, are-first plan infos (length c.split_lanes.new.lanes.items) tables seats split.one_each now)
 
 pub run-spares-requires-clause-devices : goal.run-spares-requires-clause-devices
 run-spares-requires-clause-devices g c κs within =
@@ -70,7 +70,7 @@ has_run : (g : given.Over) (c : After-runs_keep_boxes g)
 has_run g c =
     let plan = c.args.job.now.plan.now in let infos = c.args.job.now.infos.now in
     let opens = opens_by c.args.job.now.openings.now infos in
-    let others = length c.split_lanes.new.lanes.items in let start = c.split_lanes.new.cpus.items in
+    let others = length c.split_lanes.new.lanes.items in let start = c.split_lanes.new.seats.items in
     let brought = map g.D.TxDevice.state c.args.units.spares.items in let closed = closed_states g c.run-spares.new.closed.items in
     let spares = map g.D.TxDevice.state c.run-spares.result.items in
     let sent = c.run-spares.ensures in let sendable = c.args.job.now.sendable in

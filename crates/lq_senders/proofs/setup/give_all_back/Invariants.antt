@@ -10,9 +10,9 @@ invariant-loop-table g l =
     record {
       fewer : l.tables.len ≤ l.fn.tables.len;
       left : l.tables.items ≡ take l.tables.len l.fn.tables.items;
-      seats : l.cpus.len ≡ l.tables.len;
-      seats_left : l.cpus.items ≡ take l.tables.len l.fn.cpus.items;
-      boxes : identities_of (states l.bench.items) ≡ origins_of (drop l.tables.len l.fn.cpus.items) ++ identities_of (states l.fn.bench.items);
+      seats : l.seats.len ≡ l.tables.len;
+      seats_left : l.seats.items ≡ take l.tables.len l.fn.seats.items;
+      boxes : identities_of (states l.bench.items) ≡ origins_of (drop l.tables.len l.fn.seats.items) ++ identities_of (states l.fn.bench.items);
       rest : drop (l.fn.tables.len - l.tables.len) l.bench.items ≡ l.fn.bench.items;
       len : l.tables.len + l.bench.len ≡ l.fn.tables.len + l.fn.bench.len;
       capacity : l.bench.cap ≡ l.fn.bench.cap;

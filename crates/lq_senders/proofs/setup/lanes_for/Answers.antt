@@ -23,13 +23,13 @@ pub loop-owner-preserved : goal.loop-owner-preserved
 loop-owner-preserved g c =
     let own = c.loop-owner.invariant in
     let last : (i : ℕ) → i ≡ length c.loop-owner.lanes.items → c.loop-owner.owner ≡ i + 1 = λ i is. let so_many = own.so_many in let ok = c.loop-owner.lanes.ok.0 in omega arith in
-    let room = c.in_ok-cpus.ensures.room in
+    let room = c.in_ok-seats.ensures.room in
     let stations = c.stations.ensures.stations in
     record {
       so_many = let so_many = own.so_many in let len = c.push_reserved.ensures.len in omega arith;
       room = let room = own.room in let same = c.push_reserved.ensures.capacity in omega arith;
       empty = λ i lane at. elim (snoc-cases c.loop-owner.lanes.items _ lane i (subst (λ lanes. slice_get lanes i ≡ Some lane) c.push_reserved.ensures.items at)) [
         | inl old ↦ own.empty i lane old
-        | inr (is_last, same) ↦ subst (λ (x : Sender g.row.D.Denot). IsEmptyLane c.args.plan.now i x) same (record { owner_is = last i is_last; none_yet = c.in_ok-cpus.ensures.empty; room = omega arith })
+        | inr (is_last, same) ↦ subst (λ (x : Sender g.row.D.Denot). IsEmptyLane c.args.plan.now i x) same (record { owner_is = last i is_last; none_yet = c.in_ok-seats.ensures.empty; room = omega arith })
       ];
     }

@@ -19,7 +19,7 @@ open_stations-requires-clause-room g c κs within = c.requires.room
 
 pub give_all_back-requires-clause-whole : goal.give_all_back-requires-clause-whole
 give_all_back-requires-clause-whole g c κs within =
-    whole-opened c.args.plan.now c.args.infos.now (map g.D.TxDevice.state c.args.bench.now.items) c.open_stations.new.stations.tables.items c.open_stations.new.stations.cpus.items c.open_stations.ensures.opened
+    whole-opened c.args.plan.now c.args.infos.now (map g.D.TxDevice.state c.args.bench.now.items) c.open_stations.new.stations.tables.items c.open_stations.new.stations.seats.items c.open_stations.ensures.opened
 
 pub give_all_back-requires-clause-room : goal.give_all_back-requires-clause-room
 give_all_back-requires-clause-room g c κs within =
@@ -44,5 +44,5 @@ returns-in-Err-clause-others g c =
 pub returns-in-Err-clause-boxes : goal.returns-in-Err-clause-boxes
 returns-in-Err-clause-boxes g c =
     boxes-again g.D.TxDevice.state c.args.plan.now c.args.infos.now c.args.bench.now.items c.open_stations.new.bench.items c.give_all_back.new.bench.items
-    c.open_stations.new.stations.tables.items c.open_stations.new.stations.cpus.items c.open_stations.ensures.opened
+    c.open_stations.new.stations.tables.items c.open_stations.new.stations.seats.items c.open_stations.ensures.opened
     (c.open_stations.ensures.states ∙ ap (λ k. drop k (map g.D.TxDevice.state c.args.bench.now.items)) c.open_stations.new.stations.tables.ok.0) c.give_all_back.ensures.boxes

@@ -84,7 +84,7 @@ loop-station-preserved g c =
       opened =
           subst (λ ts. AreOpened plan infos (map state all) ts c.push_reserved-in-Ok.new.self.items) (sym c.push_reserved.ensures.items)
           (subst (λ cs. AreOpened plan infos (map state all) (c.loop-station.stations.tables.items ++ t ∷ []) cs) (sym c.push_reserved-in-Ok.ensures.items)
-          (opened-more plan infos (map state all) c.loop-station.stations.tables.items c.loop-station.stations.cpus.items t cpu own.opened
+          (opened-more plan infos (map state all) c.loop-station.stations.tables.items c.loop-station.stations.seats.items t cpu own.opened
           (subst (λ j. IsOpenedAt plan infos (map state all) j t cpu) (sym so_many) new)));
     }
 
@@ -97,7 +97,7 @@ returns-clause-states g c =
 pub loop-station-init : goal.loop-station-init
 loop-station-init g c =
     let none = ap length c.requires.none_yet.0 in let no_seat = ap length c.requires.none_yet.1 in
-    let tables = c.args.stations.now.tables.ok.0 in let cpus = c.args.stations.now.cpus.ok.0 in
+    let tables = c.args.stations.now.tables.ok.0 in let seats = c.args.stations.now.seats.ok.0 in
     record {
       rest = refl;
       len = omega arith;

@@ -9,8 +9,8 @@ invariant-loop-station g l = record {
   len : l.station + l.bench.len ≡ l.fn.bench.len;
   capacity : l.bench.cap ≡ l.fn.bench.cap;
   so_many : l.stations.tables.len ≡ l.station;
-  seats : l.stations.cpus.len ≡ l.station;
+  seats : l.stations.seats.len ≡ l.station;
   room : length l.plan.stations ≤ l.stations.tables.cap;
-  seats_room : length l.plan.stations ≤ l.stations.cpus.cap;
-  opened : AreOpened l.plan l.infos (map g.D.TxDevice.state l.fn.bench.items) l.stations.tables.items l.stations.cpus.items;
+  seats_room : length l.plan.stations ≤ l.stations.seats.cap;
+  opened : AreOpened l.plan l.infos (map g.D.TxDevice.state l.fn.bench.items) l.stations.tables.items l.stations.seats.items;
 }

@@ -12,9 +12,9 @@ loop-j-init g c = record {
   owner = refl;
   seats = let none = ap length c.requires.empty.none_yet in let ok = c.args.lane.now.seats.ok.0 in omega arith;
   room = c.requires.empty.room;
-  splits = splits-none c.args.run.now.plan.now c.args.run.now.infos.now (c.args.lane.now.owner - 1) c.args.run.now.tables.now c.args.cpus.now.items c.args.lane.now.seats.items c.requires.empty.none_yet
-      (subst (λ (n : ℕ). AreSplitting c.args.run.now.plan.now c.args.run.now.infos.now n c.args.run.now.tables.now c.args.cpus.now.items) c.requires.empty.owner_is c.requires.splitting);
-  devices = same-devices c.args.cpus.now.items;
+  splits = splits-none c.args.run.now.plan.now c.args.run.now.infos.now (c.args.lane.now.owner - 1) c.args.run.now.tables.now c.args.seats.now.items c.args.lane.now.seats.items c.requires.empty.none_yet
+      (subst (λ (n : ℕ). AreSplitting c.args.run.now.plan.now c.args.run.now.infos.now n c.args.run.now.tables.now c.args.seats.now.items) c.requires.empty.owner_is c.requires.splitting);
+  devices = same-devices c.args.seats.now.items;
 }
 
 -- the sender of the lane is one of the plan's
@@ -27,7 +27,7 @@ at g c =
     let splits = c.loop-j.invariant.splits in let test = c.loop-j-test.true in let long = splits.long in
     splits.ahead c.loop-j.j c.index-run-j.result c.index_mut.result.now (omega arith)
     (read-at c.args.run.now.tables.now c.loop-j.j c.index-run-j.result test c.index-run-j.is)
-    (read-at c.loop-j.cpus.items c.loop-j.j c.index_mut.result.now (omega arith) c.index_mut.ensures.value)
+    (read-at c.loop-j.seats.items c.loop-j.j c.index_mut.result.now (omega arith) c.index_mut.ensures.value)
 
 pub split-other-requires-clause-here : goal.split-other-requires-clause-here
 split-other-requires-clause-here g c κs within = subst (λ (t : TableState). IsHere t c.index_mut.result.now) c.index-run-j.is (at g c).seat
@@ -47,7 +47,7 @@ loop-j-preserved g c =
     let plan = c.args.run.now.plan.now in
     let infos = c.args.run.now.infos.now in
     let tables = c.args.run.now.tables.now in
-    let now = c.loop-j.cpus.items in
+    let now = c.loop-j.seats.items in
     let t = c.index-run-j.result in
     let cpu = c.index_mut.result.now in
     let new = c.split-other.new.self in
@@ -64,18 +64,18 @@ loop-j-preserved g c =
           (splits-more plan infos (c.args.lane.now.owner - 1) j tables now c.loop-j.lane.seats.items t cpu new other splits in_plan c.stays_within_limits.ensures.senders at at'
           (subst (λ o. new ≡ keeping_seat o cpu) owner_is c.split-other.ensures.seat)
           (subst (λ o. other ≡ offspring_seat o cpu) owner_is c.split-other.ensures.other));
-      devices = devices-on c.args.cpus.now.items now (slice_set now j new) own.devices (devices-split now j c.loop-j.lane.owner cpu new at' c.split-other.ensures.seat);
+      devices = devices-on c.args.seats.now.items now (slice_set now j new) own.devices (devices-split now j c.loop-j.lane.owner cpu new at' c.split-other.ensures.seat);
     }
 
 pub returns-clause-splitting : goal.returns-clause-splitting
 returns-clause-splitting g c =
     let is = c.requires.empty.owner_is in
-    subst (λ (n : ℕ). AreSplitting c.args.run.now.plan.now c.args.run.now.infos.now n c.args.run.now.tables.now c.loop-j.cpus.items) (omega arith)
-    (splits-all c.args.run.now.plan.now c.args.run.now.infos.now (c.args.lane.now.owner - 1) c.loop-j.j c.args.run.now.tables.now c.loop-j.cpus.items c.loop-j.lane.seats.items c.loop-j-test.false c.loop-j.invariant.splits)
+    subst (λ (n : ℕ). AreSplitting c.args.run.now.plan.now c.args.run.now.infos.now n c.args.run.now.tables.now c.loop-j.seats.items) (omega arith)
+    (splits-all c.args.run.now.plan.now c.args.run.now.infos.now (c.args.lane.now.owner - 1) c.loop-j.j c.args.run.now.tables.now c.loop-j.seats.items c.loop-j.lane.seats.items c.loop-j-test.false c.loop-j.invariant.splits)
 
 pub returns-clause-ready : goal.returns-clause-ready
 returns-clause-ready g c =
     let own = c.loop-j.invariant in
     let past = c.loop-j-test.false in let below = c.loop-j.auto.j-end in
-    lane-split c.args.run.now.plan.now c.args.run.now.infos.now (c.args.lane.now.owner - 1) c.loop-j.lane.owner c.loop-j.j c.args.run.now.tables.now c.loop-j.cpus.items c.loop-j.lane.seats.items
+    lane-split c.args.run.now.plan.now c.args.run.now.infos.now (c.args.lane.now.owner - 1) c.loop-j.lane.owner c.loop-j.j c.args.run.now.tables.now c.loop-j.seats.items c.loop-j.lane.seats.items
     (own.owner ∙ c.requires.empty.owner_is) (omega arith) own.splits

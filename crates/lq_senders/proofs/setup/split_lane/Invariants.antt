@@ -9,6 +9,6 @@ invariant-loop-j g l = record {
   owner : l.lane.owner ≡ l.fn.lane.owner;
   seats : l.lane.seats.len ≡ l.j;
   room : length l.run.plan.now.stations ≤ l.lane.seats.cap;
-  splits : SplitsUp l.run.plan.now l.run.infos.now (l.fn.lane.owner - 1) l.j l.run.tables.now l.cpus.items l.lane.seats.items;
-  devices : SameDevices l.fn.cpus.items l.cpus.items;
+  splits : SplitsUp l.run.plan.now l.run.infos.now (l.fn.lane.owner - 1) l.j l.run.tables.now l.seats.items l.lane.seats.items;
+  devices : SameDevices l.fn.seats.items l.seats.items;
 }

@@ -13,7 +13,7 @@ loop-place-init g c = record {
   len = refl;
   lanes = record { ready = λ i l less. absurd (omega arith); empty = λ i l from. c.requires.empty.each i l };
   splitting = c.requires.splitting;
-  devices = same-devices c.args.cpus.now.items;
+  devices = same-devices c.args.seats.now.items;
   alone = λ none. refl;
 }
 
@@ -39,7 +39,7 @@ split_lane-requires-clause-sender g c κs within =
 pub split_lane-requires-clause-splitting : goal.split_lane-requires-clause-splitting
 split_lane-requires-clause-splitting g c κs within =
     let is = (empty g c).owner_is in
-    subst (λ (n : ℕ). AreSplitting c.args.run.now.plan.now c.args.run.now.infos.now n c.args.run.now.tables.now c.loop-place.cpus.items) (omega arith) c.loop-place.invariant.splitting
+    subst (λ (n : ℕ). AreSplitting c.args.run.now.plan.now c.args.run.now.infos.now n c.args.run.now.tables.now c.loop-place.seats.items) (omega arith) c.loop-place.invariant.splitting
 
 pub loop-place-preserved : goal.loop-place-preserved
 loop-place-preserved g c =
@@ -49,8 +49,8 @@ loop-place-preserved g c =
       len = own.len;
       lanes = lanes-more plan infos c.loop-place.place tables c.loop-place.lanes.items new (omega arith) own.lanes
           (subst (λ (k : ℕ). IsReadyLane plan infos tables k new.owner new.seats.items) place c.split_lane.ensures.ready);
-      splitting = subst (λ n. AreSplitting plan infos n tables c.split_lane.new.cpus.items) (omega arith) c.split_lane.ensures.splitting;
-      devices = devices-on c.args.cpus.now.items c.loop-place.cpus.items c.split_lane.new.cpus.items own.devices c.split_lane.ensures.devices;
+      splitting = subst (λ n. AreSplitting plan infos n tables c.split_lane.new.seats.items) (omega arith) c.split_lane.ensures.splitting;
+      devices = devices-on c.args.seats.now.items c.loop-place.seats.items c.split_lane.new.seats.items own.devices c.split_lane.ensures.devices;
       alone = λ none. absurd (omega arith);
     }
 
@@ -59,7 +59,7 @@ returns g c =
     let own = c.loop-place.invariant in let past = c.loop-place-test.false in let below = c.loop-place.auto.place-end in let one_each = c.requires.empty.one_each in
     let ok = c.args.lanes.now.ok.0 in let len = own.len in let fill = c.loop-place.lanes.ok.0 in
     record {
-      splitting = subst (λ n. AreSplitting c.args.run.now.plan.now c.args.run.now.infos.now n c.args.run.now.tables.now c.loop-place.cpus.items) (omega arith) own.splitting;
+      splitting = subst (λ n. AreSplitting c.args.run.now.plan.now c.args.run.now.infos.now n c.args.run.now.tables.now c.loop-place.seats.items) (omega arith) own.splitting;
       ready = λ i l at. own.lanes.ready i l (let inside = slice_get_within c.loop-place.lanes.items i l at in omega arith) at;
       one_each = omega arith;
       devices = own.devices;

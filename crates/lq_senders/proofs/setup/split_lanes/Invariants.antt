@@ -9,7 +9,7 @@ abbrev pub invariant-loop-place : goal.invariant-loop-place
 invariant-loop-place g l = record {
   len : l.lanes.len ≡ l.fn.lanes.len;
   lanes : LanesSplit l.run.plan.now l.run.infos.now l.place l.run.tables.now l.lanes.items;
-  splitting : AreSplitting l.run.plan.now l.run.infos.now (l.place + 1) l.run.tables.now l.cpus.items;
-  devices : SameDevices l.fn.cpus.items l.cpus.items;
-  alone : l.place ≡ 0 → l.cpus.items ≡ l.fn.cpus.items;
+  splitting : AreSplitting l.run.plan.now l.run.infos.now (l.place + 1) l.run.tables.now l.seats.items;
+  devices : SameDevices l.fn.seats.items l.seats.items;
+  alone : l.place ≡ 0 → l.seats.items ≡ l.fn.seats.items;
 }

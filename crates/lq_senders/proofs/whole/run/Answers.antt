@@ -28,12 +28,12 @@ end_run-requires-clause-senders g c κs within = ap (λ (k : ℕ). k + 1) c.all_
 
 pub close_all-requires-clause-may : goal.close_all-requires-clause-may
 close_all-requires-clause-may g c κs within =
-    subst (λ (l : List TableState). AllMayClose c.args.job.now.plan.now c.args.job.now.infos.now l c.end_run.new.cpus.items) c.as_slice.ensures.value c.end_run.ensures.may
+    subst (λ (l : List TableState). AllMayClose c.args.job.now.plan.now c.args.job.now.infos.now l c.end_run.new.seats.items) c.as_slice.ensures.value c.end_run.ensures.may
 
 pub returns : goal.returns
 returns g c =
     let plan = c.args.job.now.plan.now in let infos = c.args.job.now.infos.now in let D = g.D.TxDevice.state in
-    let sent = c.all_send-first.ensures in let ended = c.end_run.ensures in let seats = c.end_run.new.cpus.items in record {
+    let sent = c.all_send-first.ensures in let ended = c.end_run.ensures in let seats = c.end_run.new.seats.items in record {
       limits = c.stays_within_limits.ensures;
       long = c.requires.first.0.long ∙ c.requires.first.0.all;
       seats = seats;

@@ -3,7 +3,7 @@ use Rattle.std.proofs.lemmas.Option.{get_or_from_slice_get, slice_get-get_or, sl
 use Rattle.lq_senders.specs.Lanes.{IsDoneLane, SendsAll}
 use Rattle.lq_senders.specs.Runs.{opens_in}
 use Rattle.lq_senders.specs.declared.sender.Sender.{Sender}
-use Rattle.lq_senders.proofs.lanes.others_send.Goals as goal
+use Rattle.lq_senders.proofs.lanes.send_side_by_side.Goals as goal
 
 pub for_each_mut-requires-clause-accepts : goal.for_each_mut-requires-clause-accepts
 for_each_mut-requires-clause-accepts g c κs within =

@@ -1,7 +1,7 @@
 use Rattle.std.proofs.Common.{ℕ, subst}
 use Rattle.lq_senders.specs.Lanes.{SendsAll}
 use Rattle.lq_senders.specs.Runs.{opens_in}
-use Rattle.lq_senders.proofs.lanes.first_sent.Goals as goal
+use Rattle.lq_senders.proofs.lanes.send_first.Goals as goal
 
 pub returns-clause-runs : goal.returns-clause-runs
 returns-clause-runs g c units stand tell own from begins = c.send_loop.ensures.runs c.requires.owner units stand tell own from begins

@@ -1,5 +1,5 @@
 use Rattle.std.proofs.Common.{arith}
-use Rattle.lq_senders.proofs.room.take_room.Goals as goal
+use Rattle.lq_senders.proofs.room.room_for_run.Goals as goal
 
 pub returns : goal.returns
 returns g c =
