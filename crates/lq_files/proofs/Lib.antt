@@ -22,3 +22,5 @@ pub mod GroupLemmas
 pub mod GroupPackets
 -- what is written of a run
 pub mod RunFilesLemmas
+-- captures whose times go back
+pub mod InOrder

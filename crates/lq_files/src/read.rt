@@ -4,12 +4,13 @@ ghost use Rattle.std.specs.Prelude.{◌≡◌, ◌≢◌, ◌<◌, ℕ, List, le
 ghost use Rattle.std.specs.Option.{option_map};
 ghost use Rattle.std.specs.Result.{result_map_both};
 ghost use Rattle.lq_host.specs.Host.{IsReader, advanced, left};
-ghost use Rattle.lq_files.specs.Accepted.{IsRunnable, limited_capture_of, limited_trace_of, plan_for};
+ghost use Rattle.lq_files.specs.Accepted.{IsRunnable, capture_for, limited_capture_of, limited_trace_of, plan_for};
 ghost use Rattle.lq_files.specs.Input.{IsInput, IsInputOf, IsInputWithin, MayHaveRead, file_read};
 ghost use Rattle.lq_files.specs.Stop.{StopsFor};
 
 use crate::answer::{Stop, and_finished};
 use crate::decide::{capture_in, place_on, plan_in, trace_in};
+use crate::in_order::in_order_for;
 use crate::refusal::Refusal;
 use lq_host::Host;
 use lq_model::PlanReason;
@@ -149,6 +150,29 @@ pub fn read_capture_file<H: Host>(
             reason: CaptureReason::TooLong,
             place: MAX_CAPTURE as u64,
         })),
+    }
+}
+
+/// The capture that a file is for a plan, or why it isn't one: as [`read_capture_file`], with times if the plan reads them; and where it takes
+/// no capture whose times go back, none such.
+pub fn read_capture_for<H: Host>(
+    alloc: Global,
+    host: &mut H,
+    name: &str,
+    plan: &Plan,
+) -> Result<Result<CaptureFile, Refusal>, Stop>
+    requires { H.may_open name.now }
+    ensures capture { IfOk result (λ read. IfSome (H.state host.old).told (λ c.
+        option_map (capture_for plan.now) (c.files name.now) ≡ Some read)) }
+    ensures not_usage { IfOk result (λ read. IfErr read (λ refusal. refusal ≢ Refusal.Usage)) }
+    ensures some { IfOk result (λ read. (bytes : List ℕ) × (capture_for plan.now bytes ≡ read)
+        × (H.state host.new ≡ file_read (H.state host.old) name.now bytes)) }
+    ensures stopped { OnErr result (MayHaveRead name.now (H.state host.old) (H.state host.new)) }
+    ensures cause { StopsFor (H.fault_count host.old) (H.fault_count host.new) result }
+{
+    match read_capture_file(alloc, host, name, plan.reads_times())? {
+        Ok(capture) => Ok(in_order_for(plan, capture)),
+        Err(refusal) => Ok(Err(refusal)),
     }
 }
 

@@ -2,9 +2,10 @@
 use Rattle.std.proofs.Common.{◌≡◌, ℕ, Bool, true, false, cond, List, [], ◌∷◌, ◌++◌, Option, Some, None, Result, Ok, Err, refl, sym, ap, ◌∙◌, inl, inr}
 use Rattle.std.specs.Prelude.{codes, nat_lt, length}
 use Rattle.std.specs.List.{list_all}
+use Rattle.std.specs.Option.{option_map_or}
 use Rattle.std.specs.Result.{result_flatten, result_map_both}
 use Rattle.std.proofs.lemmas.Bool.{cases_Bool}
-use Rattle.lq_files.specs.Accepted.{limited_capture_of, placed_on, plan_for, with_refusal}
+use Rattle.lq_files.specs.Accepted.{capture_for, in_order_for, limited_capture_of, placed_on, plan_for, wants_order, with_refusal}
 use Rattle.lq_files.specs.Command.{CommandWords, OfRun, RunWords, command_of_words, command_with, is_operand}
 use Rattle.lq_files.specs.Refusal.{status_of}
 use Rattle.lq_files.specs.RunFiles.{run_of}
@@ -12,12 +13,12 @@ use Rattle.lq_files.specs.declared.answer.Status.TheVariants as status
 use Rattle.lq_files.specs.declared.refusal.Refusal.{Refusal}
 use Rattle.lq_files.specs.declared.refusal.Refusal.TheVariants as refusal
 use Rattle.lq_host.specs.Host.{GivenFile, HostState}
-use Rattle.lq_model.specs.Capture.{Refusal as CaptureRefusal}
+use Rattle.lq_model.specs.Capture.{Refusal as CaptureRefusal, first_back}
 use Rattle.lq_model.specs.Device.{DeviceState}
 use Rattle.lq_model.specs.Plan.{Plan, reads_times, unit_count}
 use Rattle.lq_model.specs.declared.plan.PlanReason.{PlanReason}
 use Rattle.lq_model.specs.declared.plan.PlanReason.TheVariants as reason
-use Rattle.lq_pcapng.specs.File.{capture_file_of}
+use Rattle.lq_pcapng.specs.File.{capture_file_of, packets_of_file}
 use Rattle.lq_pcapng.specs.declared.file.CaptureFile.{CaptureFile}
 use Rattle.lq_plan.specs.Reading.{plan_of}
 use Rattle.lq_table.specs.Ended.{EndedState}
@@ -74,6 +75,22 @@ capture_read timed bytes capture e = elim (cases_Bool (nat_lt 67108864 (length b
     accepted (Ok c) e = cc
     accepted (Err r) e = cc
 
+in_order : (p : Plan) (file capture : CaptureFile) → in_order_for p file ≡ Ok capture → file ≡ capture
+in_order p file capture e = by (wants_order p) (first_back (packets_of_file file)) e
+  where
+    by : (b : Bool) (o : Option ℕ)
+        → cond b (option_map_or (λ n. Err (refusal.Capture Rattle.lq_model.specs.declared.capture.CaptureReason.TheVariants.TimeBack n)) o (Ok file)) (Ok file) ≡ Ok capture → file ≡ capture
+    by true (Some n) e = absurd cc
+    by true None e = cc
+    by false o e = cc
+
+capture_taken : (p : Plan) (bytes : List ℕ) (capture : CaptureFile) → capture_for p bytes ≡ Ok capture → limited_capture_of (reads_times p) bytes ≡ Ok capture
+capture_taken p bytes capture e = by (limited_capture_of (reads_times p) bytes) e
+  where
+    by : (r : Result CaptureFile Refusal) → result_flatten (result_map_both (in_order_for p) (λ r. r) r) ≡ Ok capture → r ≡ Ok capture
+    by (Ok file) e = ap Ok (in_order p file capture e)
+    by (Err r) e = cc
+
 module _ (words : RunWords) (have : ℕ) (first second : List ℕ) (old new : HostState) (before after : List DeviceState) (ended : List EndedState)
     (read : HasReadFiles (files_read (Some (OfRun words)) have first second) old new status.Done) where
   abbrev Ends : Verdict → Type 0
@@ -83,7 +100,7 @@ module _ (words : RunWords) (have : ℕ) (first second : List ℕ) (old new : Ho
   Found = HasReplayed words first second old new before after ended
 
   -- the capture, once the plan was read
-  capture_found : (plan : Plan) → plan_for have first ≡ Ok plan → (r : Result CaptureFile Refusal) → limited_capture_of (reads_times plan) second ≡ r
+  capture_found : (plan : Plan) → plan_for have first ≡ Ok plan → (r : Result CaptureFile Refusal) → capture_for plan second ≡ r
       → Ends (if_accepted (Some r) (λ capture. Runs (run_of words.out plan capture))) → Found
   capture_found plan placed (Err r) e ends = absurd (refusal_not_done r ends.0)
   capture_found plan placed (Ok capture) e ends = record {
@@ -91,16 +108,16 @@ module _ (words : RunWords) (have : ℕ) (first second : List ℕ) (old new : Ho
     plan = plan;
     capture = capture;
     plan_is = plan_read have first plan placed;
-    capture_is = capture_read (reads_times plan) second capture e;
+    capture_is = capture_read (reads_times plan) second capture (capture_taken plan second capture e);
     has_run = ends.1;
   }
 
   abbrev next : Plan → Verdict
-  next plan = if_accepted (Some (limited_capture_of (reads_times plan) second)) (λ capture. Runs (run_of words.out plan capture))
+  next plan = if_accepted (Some (capture_for plan second)) (λ capture. Runs (run_of words.out plan capture))
 
   plan_found : (r : Result Plan Refusal) → plan_for have first ≡ r → Ends (if_accepted (Some r) next) → Found
   plan_found (Err r) e ends = absurd (refusal_not_done r ends.0)
-  plan_found (Ok plan) e ends = capture_found plan e (limited_capture_of (reads_times plan) second) refl ends
+  plan_found (Ok plan) e ends = capture_found plan e (capture_for plan second) refl ends
 
   pub run_found : Ends (verdict_of_command (Some (OfRun words)) have (λ _. Some first) (λ _. Some second)) → Found
   run_found ends = plan_found (plan_for have first) refl ends

@@ -4,7 +4,7 @@ use Rattle.std.specs.Option.{option_map}
 use Rattle.std.proofs.lemmas.List.{drop-drop}
 use Rattle.lq_model.specs.Device.{DeviceState}
 use Rattle.lq_model.specs.Openings.{openings}
-use Rattle.lq_model.specs.Plan.{Plan, infos_of, reads_times, unit_count}
+use Rattle.lq_model.specs.Plan.{Plan, infos_of, unit_count}
 use Rattle.lq_model.specs.declared.fate.Fate.{Fate}
 use Rattle.lq_model.specs.declared.fate.Info.{Info}
 use Rattle.lq_host.specs.Host.{HostState, Contents}
@@ -12,7 +12,7 @@ use Rattle.lq_pcapng.specs.File.{packets_of_file}
 use Rattle.lq_pcapng.specs.declared.file.CaptureFile.{CaptureFile}
 use Rattle.lq_files.specs.Command.{OfRun, RunWords}
 use Rattle.lq_top.specs.Decision.{Verdict, Generates, LacksFile, Refuses, Runs, Taps, Traces, if_accepted, verdict_of_command}
-use Rattle.lq_files.specs.Accepted.{IsRunnable, max_units, limited_capture_of, plan_for}
+use Rattle.lq_files.specs.Accepted.{IsRunnable, max_units, capture_for, plan_for}
 use Rattle.lq_senders.specs.Fates.{AreEnded, AreFatesOf}
 use Rattle.lq_table.specs.Ended.{EndedState}
 use Rattle.lq_top.specs.Headline.{AreFatesIn, HasRun}
@@ -69,12 +69,12 @@ run_does run old new before after ended (Err stop) is done stopped = stopped
 pub does_run :
     (told : Option Contents) (words : RunWords) (have : ℕ) (plan : Plan) (capture : CaptureFile) (read : Result Plan Refusal) (seen : Result CaptureFile Refusal) (P : Verdict → Type 0)
     → read ≡ Ok plan → seen ≡ Ok capture → IfSome told (λ c. option_map (plan_for have) (c.files words.plan) ≡ Some read)
-    → IfSome told (λ c. option_map (limited_capture_of (reads_times plan)) (c.files words.capture) ≡ Some seen) → P (Runs (run_of words.out plan capture))
+    → IfSome told (λ c. option_map (capture_for plan) (c.files words.capture) ≡ Some seen) → P (Runs (run_of words.out plan capture))
     → IfSome told (λ c. P (verdict_of_command (Some (OfRun words)) have c.files c.files))
 does_run None words have plan capture read seen P is_read is_seen first second does = _
 does_run (Some c) words have plan capture read seen P is_read is_seen first second does =
     let runs : Plan → Option (Result CaptureFile Refusal) → Verdict = λ p seen. if_accepted seen (λ c. Runs (run_of words.out p c)) in
-    let next : Plan → Verdict = λ p. runs p (option_map (limited_capture_of (reads_times p)) (c.files words.capture)) in
+    let next : Plan → Verdict = λ p. runs p (option_map (capture_for p) (c.files words.capture)) in
     let decided : verdict_of_command (Some (OfRun words)) have c.files c.files ≡ Runs (run_of words.out plan capture) =
     ap (λ (r : Option (Result Plan Refusal)). if_accepted r next) (first ∙ ap Some is_read) ∙ ap (runs plan) (second ∙ ap Some is_seen) in
     subst P (sym decided) does
@@ -86,17 +86,17 @@ pub refuses_plan :
 refuses_plan None words have r read P is_read first does = _
 refuses_plan (Some c) words have r read P is_read first does =
     let runs : Plan → Option (Result CaptureFile Refusal) → Verdict = λ p seen. if_accepted seen (λ c. Runs (run_of words.out p c)) in
-    let next : Plan → Verdict = λ p. runs p (option_map (limited_capture_of (reads_times p)) (c.files words.capture)) in
+    let next : Plan → Verdict = λ p. runs p (option_map (capture_for p) (c.files words.capture)) in
     subst P (sym (ap (λ (q : Option (Result Plan Refusal)). if_accepted q next) (first ∙ ap Some is_read))) does
 
 pub refuses_capture :
     (told : Option Contents) (words : RunWords) (have : ℕ) (plan : Plan) (r : Refusal) (read : Result Plan Refusal) (seen : Result CaptureFile Refusal) (P : Verdict → Type 0)
     → read ≡ Ok plan → seen ≡ Err r → IfSome told (λ c. option_map (plan_for have) (c.files words.plan) ≡ Some read)
-    → IfSome told (λ c. option_map (limited_capture_of (reads_times plan)) (c.files words.capture) ≡ Some seen) → P (Refuses r) → IfSome told (λ c. P (verdict_of_command (Some (OfRun words)) have c.files c.files))
+    → IfSome told (λ c. option_map (capture_for plan) (c.files words.capture) ≡ Some seen) → P (Refuses r) → IfSome told (λ c. P (verdict_of_command (Some (OfRun words)) have c.files c.files))
 refuses_capture None words have plan r read seen P is_read is_seen first second does = _
 refuses_capture (Some c) words have plan r read seen P is_read is_seen first second does =
     let runs : Plan → Option (Result CaptureFile Refusal) → Verdict = λ p seen. if_accepted seen (λ c. Runs (run_of words.out p c)) in
-    let next : Plan → Verdict = λ p. runs p (option_map (limited_capture_of (reads_times p)) (c.files words.capture)) in
+    let next : Plan → Verdict = λ p. runs p (option_map (capture_for p) (c.files words.capture)) in
     let decided : verdict_of_command (Some (OfRun words)) have c.files c.files ≡ Refuses r =
     ap (λ (q : Option (Result Plan Refusal)). if_accepted q next) (first ∙ ap Some is_read) ∙ ap (runs plan) (second ∙ ap Some is_seen) in
     subst P (sym decided) does
@@ -106,10 +106,10 @@ refuses_capture (Some c) words have plan r read seen P is_read is_seen first sec
 -- what was done as the run of some capture was decided so by its bytes and the plan's
 pub does_run_on :
     (words : RunWords) (have : ℕ) (plan : Plan) (capture : CaptureFile) (plan_bytes capture_bytes : List ℕ) (P : Verdict → Type 0) → plan_for have plan_bytes ≡ Ok plan
-    → limited_capture_of (reads_times plan) capture_bytes ≡ Ok capture → P (Runs (run_of words.out plan capture)) → P (verdict_of_command (Some (OfRun words)) have (λ _. Some plan_bytes) (λ _. Some capture_bytes))
+    → capture_for plan capture_bytes ≡ Ok capture → P (Runs (run_of words.out plan capture)) → P (verdict_of_command (Some (OfRun words)) have (λ _. Some plan_bytes) (λ _. Some capture_bytes))
 does_run_on words have plan capture plan_bytes capture_bytes P is_read is_seen does =
     let runs : Plan → Option (Result CaptureFile Refusal) → Verdict = λ p seen. if_accepted seen (λ c. Runs (run_of words.out p c)) in
-    let next : Plan → Verdict = λ p. runs p (Some (limited_capture_of (reads_times p) capture_bytes)) in
+    let next : Plan → Verdict = λ p. runs p (Some (capture_for p capture_bytes)) in
     let decided : verdict_of_command (Some (OfRun words)) have (λ _. Some plan_bytes) (λ _. Some capture_bytes) ≡ Runs (run_of words.out plan capture) =
     ap (λ (r : Result Plan Refusal). if_accepted (Some r) next) is_read ∙ ap (λ (r : Result CaptureFile Refusal). runs plan (Some r)) is_seen in
     subst P (sym decided) does
@@ -119,16 +119,16 @@ pub refuses_plan_on :
     (words : RunWords) (have : ℕ) (r : Refusal) (plan_bytes capture_bytes : List ℕ) (P : Verdict → Type 0) → plan_for have plan_bytes ≡ Err r → P (Refuses r)
     → P (verdict_of_command (Some (OfRun words)) have (λ _. Some plan_bytes) (λ _. Some capture_bytes))
 refuses_plan_on words have r plan_bytes capture_bytes P is_read does =
-    let next : Plan → Verdict = λ p. if_accepted (Some (limited_capture_of (reads_times p) capture_bytes)) (λ c. Runs (run_of words.out p c)) in
+    let next : Plan → Verdict = λ p. if_accepted (Some (capture_for p capture_bytes)) (λ c. Runs (run_of words.out p c)) in
     subst P (sym (ap (λ (read : Result Plan Refusal). if_accepted (Some read) next) is_read)) does
 
 -- and one of a capture by its bytes and the plan's
 pub refuses_capture_on :
     (words : RunWords) (have : ℕ) (plan : Plan) (r : Refusal) (plan_bytes capture_bytes : List ℕ) (P : Verdict → Type 0) → plan_for have plan_bytes ≡ Ok plan
-    → limited_capture_of (reads_times plan) capture_bytes ≡ Err r → P (Refuses r) → P (verdict_of_command (Some (OfRun words)) have (λ _. Some plan_bytes) (λ _. Some capture_bytes))
+    → capture_for plan capture_bytes ≡ Err r → P (Refuses r) → P (verdict_of_command (Some (OfRun words)) have (λ _. Some plan_bytes) (λ _. Some capture_bytes))
 refuses_capture_on words have plan r plan_bytes capture_bytes P is_read is_seen does =
     let runs : Plan → Option (Result CaptureFile Refusal) → Verdict = λ p seen. if_accepted seen (λ c. Runs (run_of words.out p c)) in
-    let next : Plan → Verdict = λ p. runs p (Some (limited_capture_of (reads_times p) capture_bytes)) in
+    let next : Plan → Verdict = λ p. runs p (Some (capture_for p capture_bytes)) in
     let decided : verdict_of_command (Some (OfRun words)) have (λ _. Some plan_bytes) (λ _. Some capture_bytes) ≡ Refuses r =
     ap (λ (read : Result Plan Refusal). if_accepted (Some read) next) is_read ∙ ap (λ (seen : Result CaptureFile Refusal). runs plan (Some seen)) is_seen in
     subst P (sym decided) does

@@ -2,7 +2,7 @@
 use Rattle.std.specs.Prelude.{ℕ, false, List, Option, Some, None, Result, Ok, Err}
 use Rattle.std.specs.Option.{option_map}
 use Rattle.lq_model.specs.Capture.{capture_of}
-use Rattle.lq_model.specs.Plan.{reads_times, unit_count}
+use Rattle.lq_model.specs.Plan.{unit_count}
 use Rattle.lq_model.specs.Generated.{generated_capture}
 use Rattle.lq_plan.specs.Generated.{generated_plan}
 use Rattle.lq_host.specs.Host.{Files}
@@ -12,7 +12,7 @@ use Rattle.lq_files.specs.Command.{CommandWords, OfGen, OfRun, OfTap, OfTrace, T
 use Rattle.lq_files.specs.RunFiles.{Run, run_of}
 use Rattle.lq_files.specs.declared.refusal.Refusal.{Refusal}
 use Rattle.lq_files.specs.declared.refusal.Refusal.TheVariants as refusal
-use Rattle.lq_files.specs.Accepted.{placed_on, plan_for, max_units, with_refusal, limited_capture_of, limited_trace_of}
+use Rattle.lq_files.specs.Accepted.{placed_on, plan_for, max_units, with_refusal, capture_for, limited_capture_of, limited_trace_of}
 
 -- THE DECISION
 
@@ -32,13 +32,13 @@ if_accepted None next = LacksFile
 if_accepted (Some (Err r)) next = Refuses r
 if_accepted (Some (Ok read)) next = next read
 
--- First the words are judged, then the plan and the bench, then the capture, whose times are read if the plan asks for them. `have` is the number of devices on the bench. The first file
+-- First the words are judged, then the plan and the bench, then the capture, by what the plan asks of its times. `have` is the number of devices on the bench. The first file
 -- that the command reads is one of `early`, and the second one of `late`.
 abbrev pub verdict_of_command : Option CommandWords → ℕ → Files → Files → Verdict
 verdict_of_command None have early late = Refuses refusal.Usage
 verdict_of_command (Some (OfRun words)) have early late =
     if_accepted (option_map (plan_for have) (early words.plan)) (λ plan.
-    if_accepted (option_map (limited_capture_of (reads_times plan)) (late words.capture)) (λ capture. Runs (run_of words.out plan capture)))
+    if_accepted (option_map (capture_for plan) (late words.capture)) (λ capture. Runs (run_of words.out plan capture)))
 verdict_of_command (Some (OfGen words)) have early late =
     let text = generated_capture words.number words.count in
     if_accepted (Some (placed_on have generated_plan)) (λ plan.

@@ -21,7 +21,7 @@ use crate::tap::tap_command;
 use crate::trace::trace_command;
 use lq_device::TxDevice;
 use lq_files::{
-    Command, Refusal, RunInputs, RunOperands, Status, Stop, read_capture_file, read_plan_file,
+    Command, Refusal, RunInputs, RunOperands, Status, Stop, read_capture_for, read_plan_file,
     read_words, refuse,
 };
 use lq_host::Host;
@@ -98,7 +98,7 @@ fn run_command<R: Threads + Wait + Sync, H: Host, G: Gate, D: TxDevice>(
         Ok(plan) => plan,
         Err(refusal) => return refuse(on.alloc, host, refusal),
     };
-    match read_capture_file(on.alloc, host, words.capture, plan.reads_times())? {
+    match read_capture_for(on.alloc, host, words.capture, &plan)? {
         Ok(capture) => {
             let run = RunInputs {
                 out: words.out,

@@ -1,12 +1,11 @@
 use Rattle.std.proofs.Common.{◌≡◌, ◌∷◌, ◌++◌, List, [], ◌∙◌, IfSome, Some, Ok, Err, ap, drop, map, refl, subst, sym, vec_len}
 use Rattle.std.specs.Option.{option_map}
-use Rattle.lq_model.specs.Plan.{reads_times}
 use Rattle.lq_host.specs.Host.{GivenFile, HostState}
 use Rattle.lq_files.specs.Input.{file_read}
 use Rattle.lq_table.specs.Ended.{ended_state}
 use Rattle.lq_files.specs.Command.{OfRun, run_words}
 use Rattle.lq_top.specs.Decision.{Refuses, Runs, units_changed_by, verdict_of_command}
-use Rattle.lq_files.specs.Accepted.{limited_capture_of, plan_for}
+use Rattle.lq_files.specs.Accepted.{capture_for, plan_for}
 use Rattle.lq_files.specs.RunFiles.{run_of}
 use Rattle.lq_top.specs.Outcome.{CompletesOrStops}
 use Rattle.lq_top.specs.Reads.{after_reads, files_read}
@@ -29,15 +28,14 @@ returns-in-Ok-2-clause-does g c =
     let seen = c.in_ok-capture.ensures.some in
     let plan_file : GivenFile = record { name = c.args.words.now.plan.now; bytes = read.0 } in
     let capture_file : GivenFile = record { name = c.args.words.now.capture.now; bytes = seen.0 } in
-    let mid : HostState = g.H.Host.state c.read_capture_file.new.host in
+    let mid : HostState = g.H.Host.state c.read_capture_for.new.host in
     let files = capture_file ∷ plan_file ∷ old.given in
     let is : mid ≡ record old { given = files } = seen.2 ∙ ap (λ (s : HostState). file_read s c.args.words.now.capture.now seen.0) read.2 in
     let does : CompletesOrStops (Runs run) mid new before after ended r = run_does run mid new before after ended r c.run_capture.ensures.answer c.run_capture.ensures.ok c.run_capture.ensures.err in
     does_run old.told (run_words c.args.words.now) have c.in-Ok.plan c.in-Ok-2.capture c.in_ok-plan.field-0 c.in_ok-capture.field-0
     (λ v. CompletesOrStops v (after_reads old new) new before after ended r) c.in-Ok.is c.in-Ok-2.is
     (subst (λ n. IfSome old.told (λ d. option_map (plan_for n) (d.files c.args.words.now.plan.now) ≡ Some c.in_ok-plan.field-0)) c.len.ensures c.in_ok-plan.ensures.plan)
-    (subst (λ timed. IfSome old.told (λ d. option_map (limited_capture_of timed) (d.files c.args.words.now.capture.now) ≡ Some c.in_ok-capture.field-0)) c.reads_times.ensures
-    (subst (λ (s : HostState). IfSome s.told (λ d. option_map (limited_capture_of c.reads_times.result) (d.files c.args.words.now.capture.now) ≡ Some c.in_ok-capture.field-0)) read.2 c.in_ok-capture.ensures.capture))
+    (subst (λ (s : HostState). IfSome s.told (λ d. option_map (capture_for c.in-Ok.plan) (d.files c.args.words.now.capture.now) ≡ Some c.in_ok-capture.field-0)) read.2 c.in_ok-capture.ensures.capture)
     (does_after (Runs run) old mid new files before after ended r is does)
 
 pub returns-in-Ok-2-clause-beyond : goal.returns-in-Ok-2-clause-beyond
@@ -58,13 +56,13 @@ returns-in-Ok-2-clause-some g c =
     let seen = c.in_ok-capture.ensures.some in
     let plan_file : GivenFile = record { name = c.args.words.now.plan.now; bytes = read.0 } in
     let capture_file : GivenFile = record { name = c.args.words.now.capture.now; bytes = seen.0 } in
-    let mid : HostState = g.H.Host.state c.read_capture_file.new.host in
+    let mid : HostState = g.H.Host.state c.read_capture_for.new.host in
     let files = capture_file ∷ plan_file ∷ old.given in
     let is : mid ≡ record old { given = files } = seen.2 ∙ ap (λ (s : HostState). file_read s c.args.words.now.capture.now seen.0) read.2 in
     let does : CompletesOrStops (Runs run) mid new before after ended r = run_does run mid new before after ended r c.run_capture.ensures.answer c.run_capture.ensures.ok c.run_capture.ensures.err in
     let plan_is : plan_for have read.0 ≡ Ok c.in-Ok.plan = subst (λ n. plan_for n read.0 ≡ c.in_ok-plan.field-0) c.len.ensures read.1 ∙ c.in-Ok.is in
-    let capture_is : limited_capture_of (reads_times c.in-Ok.plan) seen.0 ≡ Ok c.in-Ok-2.capture =
-    subst (λ timed. limited_capture_of timed seen.0 ≡ c.in_ok-capture.field-0) c.reads_times.ensures seen.1 ∙ c.in-Ok-2.is in (
+    let capture_is : capture_for c.in-Ok.plan seen.0 ≡ Ok c.in-Ok-2.capture =
+    seen.1 ∙ c.in-Ok-2.is in (
       read.0,
       seen.0,
       all_read (files_read (Some (OfRun (run_words c.args.words.now))) have read.0 seen.0) old new r
@@ -86,14 +84,14 @@ returns-clause-some g c =
     let seen = c.in_ok-capture.ensures.some in
     let plan_file : GivenFile = record { name = c.args.words.now.plan.now; bytes = read.0 } in
     let capture_file : GivenFile = record { name = c.args.words.now.capture.now; bytes = seen.0 } in
-    let mid : HostState = g.H.Host.state c.read_capture_file.new.host in
+    let mid : HostState = g.H.Host.state c.read_capture_for.new.host in
     let files = capture_file ∷ plan_file ∷ old.given in
     let is : mid ≡ record old { given = files } = seen.2 ∙ ap (λ (s : HostState). file_read s c.args.words.now.capture.now seen.0) read.2 in
     let does : CompletesOrStops (Refuses c.in-Err-2.refusal) mid new devices devices ended r =
     refuse_does c.in-Err-2.refusal mid new devices devices ended r c.refuse-in-Err-2.ensures.answer c.refuse-in-Err-2.ensures.ok c.refuse-in-Err-2.ensures.err in
     let plan_is : plan_for have read.0 ≡ Ok c.in-Ok.plan = subst (λ n. plan_for n read.0 ≡ c.in_ok-plan.field-0) c.len.ensures read.1 ∙ c.in-Ok.is in
-    let capture_is : limited_capture_of (reads_times c.in-Ok.plan) seen.0 ≡ Err c.in-Err-2.refusal =
-    subst (λ timed. limited_capture_of timed seen.0 ≡ c.in_ok-capture.field-0) c.reads_times.ensures seen.1 ∙ c.in-Err-2.is in (
+    let capture_is : capture_for c.in-Ok.plan seen.0 ≡ Err c.in-Err-2.refusal =
+    seen.1 ∙ c.in-Err-2.is in (
       read.0,
       seen.0,
       all_read (files_read (Some (OfRun (run_words c.args.words.now))) have read.0 seen.0) old new r
@@ -222,7 +220,7 @@ returns-in_err-capture-clause-handles g c =
 pub returns-in_err-capture-clause-does : goal.returns-in_err-capture-clause-does
 returns-in_err-capture-clause-does g c =
     let old : HostState = g.H.Host.state c.args.host.now in
-    let new : HostState = g.H.Host.state c.read_capture_file.new.host in
+    let new : HostState = g.H.Host.state c.read_capture_for.new.host in
     let devices = map g.D.TxDevice.state c.args.bench.now.items in
     let ended = map ended_state c.args.ended.now.items in
     let read = c.in_ok-plan.ensures.some in
@@ -235,7 +233,7 @@ returns-in_err-capture-clause-does g c =
 pub returns-in_err-capture-clause-some : goal.returns-in_err-capture-clause-some
 returns-in_err-capture-clause-some g c =
     let old : HostState = g.H.Host.state c.args.host.now in
-    let new : HostState = g.H.Host.state c.read_capture_file.new.host in
+    let new : HostState = g.H.Host.state c.read_capture_for.new.host in
     let devices = map g.D.TxDevice.state c.args.bench.now.items in
     let ended = map ended_state c.args.ended.now.items in
     let read = c.in_ok-plan.ensures.some in
@@ -290,8 +288,8 @@ returns-in-Ok-2-clause-answer g c = done_answers c.run_capture.result c.run_capt
 pub read_plan_file-requires : goal.read_plan_file-requires
 read_plan_file-requires g c = c.requires.may.0
 
-pub read_capture_file-requires : goal.read_capture_file-requires
-read_capture_file-requires g c = c.requires.may.1
+pub read_capture_for-requires : goal.read_capture_for-requires
+read_capture_for-requires g c = c.requires.may.1
 
 pub returns-in-Err-clause-does : goal.returns-in-Err-clause-does
 returns-in-Err-clause-does g c =
@@ -322,7 +320,7 @@ returns-clause-does g c =
     let seen = c.in_ok-capture.ensures.some in
     let plan_file : GivenFile = record { name = c.args.words.now.plan.now; bytes = read.0 } in
     let capture_file : GivenFile = record { name = c.args.words.now.capture.now; bytes = seen.0 } in
-    let mid : HostState = g.H.Host.state c.read_capture_file.new.host in
+    let mid : HostState = g.H.Host.state c.read_capture_for.new.host in
     let files = capture_file ∷ plan_file ∷ old.given in
     let is : mid ≡ record old { given = files } = seen.2 ∙ ap (λ (s : HostState). file_read s c.args.words.now.capture.now seen.0) read.2 in
     let does : CompletesOrStops (Refuses c.in-Err-2.refusal) mid new devices devices ended r =
@@ -330,8 +328,7 @@ returns-clause-does g c =
     refuses_capture old.told (run_words c.args.words.now) have c.in-Ok.plan c.in-Err-2.refusal c.in_ok-plan.field-0 c.in_ok-capture.field-0
     (λ v. CompletesOrStops v (after_reads old new) new devices devices ended r) c.in-Ok.is c.in-Err-2.is
     (subst (λ n. IfSome old.told (λ d. option_map (plan_for n) (d.files c.args.words.now.plan.now) ≡ Some c.in_ok-plan.field-0)) c.len.ensures c.in_ok-plan.ensures.plan)
-    (subst (λ timed. IfSome old.told (λ d. option_map (limited_capture_of timed) (d.files c.args.words.now.capture.now) ≡ Some c.in_ok-capture.field-0)) c.reads_times.ensures
-    (subst (λ (s : HostState). IfSome s.told (λ d. option_map (limited_capture_of c.reads_times.result) (d.files c.args.words.now.capture.now) ≡ Some c.in_ok-capture.field-0)) read.2 c.in_ok-capture.ensures.capture))
+    (subst (λ (s : HostState). IfSome s.told (λ d. option_map (capture_for c.in-Ok.plan) (d.files c.args.words.now.capture.now) ≡ Some c.in_ok-capture.field-0)) read.2 c.in_ok-capture.ensures.capture)
     (does_after (Refuses c.in-Err-2.refusal) old mid new files devices devices ended r is does)
 
 pub returns-in-Ok-2-clause-others : goal.returns-in-Ok-2-clause-others
@@ -340,6 +337,5 @@ returns-in-Ok-2-clause-others g c =
     does_run old.told (run_words c.args.words.now) (vec_len c.args.bench.now) c.in-Ok.plan c.in-Ok-2.capture c.in_ok-plan.field-0 c.in_ok-capture.field-0
     (λ v. drop (units_changed_by v) c.run_capture.new.bench.items ≡ drop (units_changed_by v) c.args.bench.now.items) c.in-Ok.is c.in-Ok-2.is
     (subst (λ n. IfSome old.told (λ d. option_map (plan_for n) (d.files c.args.words.now.plan.now) ≡ Some c.in_ok-plan.field-0)) c.len.ensures c.in_ok-plan.ensures.plan)
-    (subst (λ timed. IfSome old.told (λ d. option_map (limited_capture_of timed) (d.files c.args.words.now.capture.now) ≡ Some c.in_ok-capture.field-0)) c.reads_times.ensures
-    (subst (λ (s : HostState). IfSome s.told (λ d. option_map (limited_capture_of c.reads_times.result) (d.files c.args.words.now.capture.now) ≡ Some c.in_ok-capture.field-0)) c.in_ok-plan.ensures.some.2 c.in_ok-capture.ensures.capture))
+    (subst (λ (s : HostState). IfSome s.told (λ d. option_map (capture_for c.in-Ok.plan) (d.files c.args.words.now.capture.now) ≡ Some c.in_ok-capture.field-0)) c.in_ok-plan.ensures.some.2 c.in_ok-capture.ensures.capture)
     c.run_capture.ensures.others
