@@ -13,8 +13,8 @@ from typing import Any, Callable, Optional, Union
 from lib import outputs, toml_text
 from lib.words import Failed
 
-NOT_TOML, UNKNOWN_KEY, MISSING, KIND, RANGE, EVENT_ORDER, TOO_LONG = 1, 2, 3, 4, 5, 6, 8
-REASONS = {1: "NotToml", 2: "UnknownKey", 3: "Missing", 4: "Kind", 5: "Range", 6: "EventOrder", 8: "TooLong"}
+NOT_TOML, UNKNOWN_KEY, MISSING, KIND, RANGE, EVENT_ORDER, TOO_LONG, TWO_LIMITS, ONE_LINK = 1, 2, 3, 4, 5, 6, 8, 9, 10
+REASONS = {1: "NotToml", 2: "UnknownKey", 3: "Missing", 4: "Kind", 5: "Range", 6: "EventOrder", 8: "TooLong", 9: "TwoLimits", 10: "OneLink"}
 KINDS = {"down": (), "up": (), "resize": ("len",), "tx_queue_len": ("len",), "swap": ("params",)}
 DEVICES = outputs.UNITS
 
@@ -63,8 +63,8 @@ def tables_at(root, name):
 
 
 # the greatest number of each, by version
-SENDERS = {1: 8, 2: 64, 3: 64, 4: 64}
-LENGTH = {1: 4096, 2: 65536, 3: 65536, 4: 65536}
+SENDERS = {1: 8, 2: 64, 3: 64, 4: 64, 5: 64}
+LENGTH = {1: 4096, 2: 65536, 3: 65536, 4: 65536, 5: 65536}
 CHILDREN = outputs.GROUPS
 VERSIONS = sorted(SENDERS)
 NESTED = 80  # arrays and tables in each other
@@ -79,10 +79,19 @@ ROOT = [
     Key("senders", "number", 1, lambda it: SENDERS[it.version], 1, about="threads that send"),
     Key("split", "round|source|flow:4", default="round", about="how packets are split among the senders"),
     Key("spread", "bytes|flow", default="bytes", since=4, about="by what a packet's station, queue and child are chosen"),
+    Key("classify", "tos|none", default="tos", since=5, about="how a packet gets its priority"),
     Key("irq_every", "number", 1, 1000, 1, about="after so many packets of a sender it wakes the stopped queues"),
     Key("irq_us", "number", 1, 1000000, since=4, about="in place of irq_every: the stopped queues are opened at each multiple of so many microseconds of the capture's time"),
     Key("station", "tables", 1, 8, required=True, about="the stations"),
     Key("event", "tables", 0, 64, (), about="what is done to them on the way"),
+]
+CARD = [
+    Key("rate_kbit", "number", 1, 1000000000, since=5, about="a card on a wire of so many thousand bits a second opens its queue"),
+    Key("ring", "number", 1, 65536, since=5, about="descriptors of its driver; else 256 where no `bql` is above 0"),
+    Key("bql", "number", 0, 1000000000, 0, since=5, about="bytes that may be out as it takes one packet more; 0 is no such limit"),
+    Key("coalesce_us", "number", 0, 1000000, 0, since=5, about="microseconds from the end of a frame to the interrupt"),
+    Key("overhead", "number", 0, 1000, 24, since=5, about="bytes that come with each frame on the wire"),
+    Key("mpu", "number", 0, 1000, 84, since=5, about="bytes of the wire that a frame takes at least, with those"),
 ]
 STATION = [
     Key("len", "number", 1, lambda it: LENGTH[it.version], 1000, about="slots of each of its three rings"),
@@ -90,6 +99,7 @@ STATION = [
     Key("bypass", "flag", default=True, about="whether a packet may go past the rings"),
     Key("queues", "number", 1, 8, 1, since=2, about="transmit queues of its device, which share the rings"),
     Key("mq", "number", 1, CHILDREN, 1, since=3, about="children of its multi-queue root: one for each transmit queue of its device, with rings of its own"),
+    *CARD,
     *PARAMS,
 ]
 EVENT = [
@@ -284,6 +294,42 @@ def faults_of_openings(root, lines):
         yield Fault(RANGE, lines.get(("", 0, "irq_us")), "the top, `irq_us`", "it is used in place of `irq_every`: a plan has one of the two")
 
 
+def faults_of_cards(root, lines):
+    """What a card doesn't go with: it opens the queue itself, and its device stops that at each packet and does nothing else."""
+    for at, table in enumerate(tables_at(root, "station")):
+
+        def fault(name, said, where="station", number=at):
+            return Fault(RANGE, lines.get((where, number, name)), f"{where} {number}, `{name}`" if where else f"the top, `{name}`", said)
+
+        if "rate_kbit" not in table:
+            yield from (fault(it.name, "it is of a card: it needs `rate_kbit` beside it") for it in CARD if it.name in table)
+            continue
+        yield from (fault(it, f"the card of station {at} opens the queue", "", 0) for it in ("irq_every", "irq_us") if it in root)
+        if number_at(table, "burst", 1) != 1:
+            yield fault("burst", "beside `rate_kbit` it is 1: the device stops its queue at each packet, and the card opens it while there is room")
+        for name in ("busy_every", "hang_after"):
+            if number_at(table, name, 0):
+                yield fault(name, "it is 0 beside `rate_kbit`")
+        if number_at(table, "overhead", 24) + number_at(table, "mpu", 84) == 0:
+            yield fault("mpu", "a frame without bytes takes no time: `overhead` or `mpu` is above 0")
+        yield from (fault("kind", f'no "swap" of a card\'s device, which station {at} has', "event", it) for it, event in enumerate(tables_at(root, "event")) if event.get("kind") == "swap")
+
+
+def faults_of_links(root, lines):
+    """A link has one limit, and a plan with a link has one station with one queue."""
+    stations = tables_at(root, "station")
+    for at, table in enumerate(stations):
+        if "ring" in table and number_at(table, "bql", 0):
+            yield Fault(TWO_LIMITS, lines.get(("station", at, "bql")), f"station {at}, `bql`", "beside `ring` it is 0: where both limits bind, Linux takes several packets at once")
+        if "rate_kbit" not in table:
+            continue
+        for name in ("queues", "mq"):
+            if number_at(table, name, 1) > 1:
+                yield Fault(ONE_LINK, lines.get(("station", at, name)), f"station {at}, `{name}`", "it is 1 beside `rate_kbit`: a link has one queue")
+        if len(stations) > 1:
+            yield Fault(ONE_LINK, lines.get(("station", at, "rate_kbit")), f"station {at}, `rate_kbit`", f"a plan with a link has one station, and not {len(stations)}")
+
+
 def excess_of(value, depth=0):
     """What the program's parser doesn't take of TOML, if there is such a thing."""
     if isinstance(value, (dict, list)):
@@ -320,8 +366,12 @@ def judge(data):
         faults += faults_of_groups(root, lines)
     if version > 3:
         faults += faults_of_openings(root, lines)
+    if version > 4:
+        faults += faults_of_cards(root, lines)
     if not faults:
         faults += faults_of_order(root, lines)
+    if version > 4:
+        faults += faults_of_links(root, lines)
     return root, sorted(faults, key=lambda it: (it.reason, it.line or 0))
 
 
@@ -333,7 +383,23 @@ def record(name, keys):
     return namedtuple(name, [it.name for it in keys], defaults=[it.default for it in keys])
 
 
-Station, Event = record("Station", STATION), record("Event", EVENT)
+Event = record("Event", EVENT)
+Card = namedtuple("Card", "rate_kbit ring bql coalesce_us overhead mpu")
+
+
+class Station(record("Station", STATION)):
+    """A station, whose device stops its queue at each packet if a card opens it."""
+
+    def __new__(cls, **given):
+        return super().__new__(cls, **({"burst": 1, **given} if "rate_kbit" in given else given))
+
+    @property
+    def card(self):
+        """The card that opens its queue, or None. Of its two limits the other one is None."""
+        if self.rate_kbit is None:
+            return None
+        limits = (None, self.bql) if self.bql else (self.ring or 256, None)
+        return Card(self.rate_kbit, *limits, self.coalesce_us, self.overhead, self.mpu)
 
 
 class Plan(record("Plan", ROOT)):

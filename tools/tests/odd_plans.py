@@ -1,6 +1,6 @@
 """Plans as the program takes them and TOML 1.0 doesn't, and what is no TOML 1.1 either: the reason by which the program refuses each, or none."""
 
-NO, KIND, RANGE, UNKNOWN = "1 NotToml", "4 Kind", "5 Range", "2 UnknownKey"
+NO, KIND, RANGE, UNKNOWN, ORDER, LIMITS, LINK = "1 NotToml", "4 Kind", "5 Range", "2 UnknownKey", "6 EventOrder", "9 TwoLimits", "10 OneLink"
 ODD_PLANS = {
     # a byte order mark, as Notepad of Windows writes it
     b"\xef\xbb\xbf[[station]]\nlen = 5\n": "",
@@ -50,5 +50,32 @@ ODD_PLANS = {
     b'version = 3\nsplit = "flow"\n[[station]]\n': RANGE,
     b'version = 3\nspread = "flow"\n[[station]]\n': UNKNOWN,
     b"version = 3\nirq_us = 1\n[[station]]\n": UNKNOWN,
-    b"version = 5\n[[station]]\n": RANGE,
+    # keys and texts of version 5
+    b"version = 6\n[[station]]\n": RANGE,
+    b'version = 5\nclassify = "none"\nirq_us = 9\n[[station]]\n': "",
+    b"version = 5\n[[station]]\nrate_kbit = 1000000000\nring = 65536\nbql = 0\ncoalesce_us = 1000000\noverhead = 1000\nmpu = 0\nburst = 1\nbusy_limit = 9\n": "",
+    b"version = 5\nsenders = 64\n[[station]]\nrate_kbit = 1\nbql = 1000000000\noverhead = 0\nmpu = 1000\nqueues = 1\nmq = 1\n": "",
+    b'version = 4\nclassify = "tos"\n[[station]]\n': UNKNOWN,
+    b"version = 4\n[[station]]\nmpu = 84\n": UNKNOWN,
+    b"version = 5\nclassify = 0\n[[station]]\n": KIND,
+    b'version = 5\n[[station]]\nrate_kbit = "1gbit"\n': KIND,
+    b"version = 5\n[[station]]\nrate_kbit = 0\n": RANGE,
+    b"version = 5\n[[station]]\nrate_kbit = 1000000001\n": RANGE,
+    b"version = 5\n[[station]]\nrate_kbit = 1\nring = 0\n": RANGE,
+    b"version = 5\n[[station]]\nrate_kbit = 1\nring = 65537\n": RANGE,
+    b"version = 5\n[[station]]\nrate_kbit = 1\nbql = 1000000001\n": RANGE,
+    b"version = 5\n[[station]]\nrate_kbit = 1\ncoalesce_us = 1000001\n": RANGE,
+    b"version = 5\n[[station]]\nrate_kbit = 1\noverhead = 1001\n": RANGE,
+    b"version = 5\n[[station]]\nrate_kbit = 1\nmpu = -1\n": RANGE,
+    b"version = 5\n[[station]]\nrate_kbit = 1\nburst = 0\n": RANGE,
+    b"version = 5\n[[station]]\nrate_kbit = 1\nbusy_every = 1\n": RANGE,
+    b"version = 5\nirq_every = 1\n[[station]]\nrate_kbit = 1\n": RANGE,
+    b"version = 5\n[[station]]\n[[station]]\nbql = 0\n": RANGE,
+    # the least reason counts: EventOrder comes before the two of a link
+    b'version = 5\n[[station]]\nrate_kbit = 1\nring = 1\nbql = 1\nqueues = 2\n': LIMITS,
+    b'version = 5\n[[station]]\nrate_kbit = 1\nring = 1\nbql = 1\n[[event]]\nbefore = 1\nkind = "up"\nstation = 0\n': ORDER,
+    b"version = 5\n[[station]]\nrate_kbit = 1\nqueues = 2\n": LINK,
+    b"version = 5\n[[station]]\nrate_kbit = 1\nmq = 8\n": LINK,
+    b"version = 5\n[[station]]\nrate_kbit = 1\n[[station]]\nrate_kbit = 1\n": LINK,
+    b"version = 5\n[[station]]\nrate_kbit = 1\nmq = 8\n[[station]]\n": RANGE,
 }

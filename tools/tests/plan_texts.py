@@ -20,7 +20,20 @@ PLANS = {
     "[[station]]\nburst = \"8\"\n": ("4 Kind", ":2: station 0, `burst`: \"8\" isn't a whole number from 0 to 1000000"),
     "[[station]]\nbypass = 1\n": ("4 Kind", "1 isn't true or false"),
     "[[station]]\nlen = 0\n": ("5 Range", "0 isn't a whole number from 1 to 4096"),
-    "version = 5\n[[station]]\n": ("5 Range", "there are the versions 1, 2, 3, 4"),
+    "version = 6\n[[station]]\n": ("5 Range", "there are the versions 1, 2, 3, 4, 5"),
+    "version = 4\n[[station]]\nrate_kbit = 8000\n": ("2 UnknownKey", ":3: station 0, `rate_kbit`: no such key; it needs `version = 5` at the top"),
+    "version = 4\nclassify = \"none\"\n[[station]]\n": ("2 UnknownKey", ":2: the top, `classify`: no such key; it needs `version = 5` at the top"),
+    "version = 5\nclassify = \"never\"\n[[station]]\n": ("5 Range", ":2: the top, `classify`: \"never\" isn't one of \"tos\", \"none\""),
+    "version = 5\nrate_kbit = 8000\n[[station]]\n": ("2 UnknownKey", ":2: the top, `rate_kbit`: no such key; it is a key of a station"),
+    "version = 5\nirq_us = 9\n[[station]]\nrate_kbit = 8000\n": ("5 Range", ":2: the top, `irq_us`: the card of station 0 opens the queue"),
+    "version = 5\n[[station]]\nring = 8\n": ("5 Range", ":3: station 0, `ring`: it is of a card: it needs `rate_kbit` beside it"),
+    "version = 5\n[[station]]\nrate_kbit = 8000\nburst = 2\n": ("5 Range", ":4: station 0, `burst`: beside `rate_kbit` it is 1"),
+    "version = 5\n[[station]]\nrate_kbit = 8000\nhang_after = 2\n": ("5 Range", ":4: station 0, `hang_after`: it is 0 beside `rate_kbit`"),
+    "version = 5\n[[station]]\nrate_kbit = 8000\noverhead = 0\nmpu = 0\n": ("5 Range", ":5: station 0, `mpu`: a frame without bytes takes no time"),
+    "version = 5\n[[station]]\nrate_kbit = 8000\n[[event]]\nbefore = 1\nkind = \"swap\"\nstation = 0\n": ("5 Range", ":6: event 0, `kind`: no \"swap\" of a card's device, which station 0 has"),
+    "version = 5\n[[station]]\nrate_kbit = 8000\nring = 8\nbql = 3000\n": ("9 TwoLimits", ":5: station 0, `bql`: beside `ring` it is 0"),
+    "version = 5\n[[station]]\n[[station]]\nrate_kbit = 8000\n": ("10 OneLink", ":4: station 1, `rate_kbit`: a plan with a link has one station, and not 2"),
+    "version = 5\n[[station]]\nrate_kbit = 8000\nmq = 2\n": ("10 OneLink", ":4: station 0, `mq`: it is 1 beside `rate_kbit`: a link has one queue"),
     "[[station]]\nmq = 2\n": ("2 UnknownKey", ":2: station 0, `mq`: no such key; it needs `version = 3` at the top"),
     "version = 2\n[[station]]\nmq = 1\n": ("2 UnknownKey", ":3: station 0, `mq`: no such key; it needs `version = 3` at the top"),
     "version = 3\n[[station]]\nmq = 9\n": ("5 Range", ":3: station 0, `mq`: 9 isn't a whole number from 1 to 8"),
@@ -56,6 +69,9 @@ def check_plan():
         expect(f"check-plan {text!r}", said, 3, part)
         if not said[1].splitlines()[0].endswith(f"({reason})"):
             fault(f"check-plan {text!r}: the first line isn't of {reason}: {said[1]!r}")
+    told = plans.plan_of({"station": [{"rate_kbit": 8000}]}).station[0]
+    if (told.burst, told.card) != (1, plans.Card(8000, 256, None, 0, 24, 84)):
+        fault(f"a station with a rate alone is {told}")
     for file in sorted((TOP / "examples").glob("*.toml")):
         expect(f"check-plan {file.name}", run(HERE / "check-plan", file), 0, "accepted: ")
     (ROOM / "plan.toml").write_text("[[station]]\n" * 8 + "[[event]]\nbefore = 1\nkind = \"swap\"\nstation = 0\n" * 9, encoding="utf-8")
