@@ -28,7 +28,7 @@ PLANS = {
     "version = 5\nirq_us = 9\n[[station]]\nrate_kbit = 8000\n": ("5 Range", ":2: the top, `irq_us`: the card of station 0 opens the queue"),
     "version = 5\n[[station]]\nring = 8\n": ("5 Range", ":3: station 0, `ring`: it is of a card: it needs `rate_kbit` beside it"),
     "version = 5\n[[station]]\nrate_kbit = 8000\nburst = 2\n": ("5 Range", ":4: station 0, `burst`: beside `rate_kbit` it is 1"),
-    "version = 5\n[[station]]\nrate_kbit = 8000\nhang_after = 2\n": ("5 Range", ":4: station 0, `hang_after`: it is 0 beside `rate_kbit`"),
+    "version = 5\n[[station]]\nrate_kbit = 8000\nbusy_every = 2\n": ("5 Range", ":4: station 0, `busy_every`: it is 0 beside `rate_kbit`"),
     "version = 5\n[[station]]\nrate_kbit = 8000\noverhead = 0\nmpu = 0\n": ("5 Range", ":5: station 0, `mpu`: a frame without bytes takes no time"),
     "version = 5\n[[station]]\nrate_kbit = 8000\n[[event]]\nbefore = 1\nkind = \"swap\"\nstation = 0\n": ("5 Range", ":6: event 0, `kind`: no \"swap\" of a card's device, which station 0 has"),
     "version = 5\n[[station]]\nrate_kbit = 8000\nring = 8\nbql = 3000\n": ("9 TwoLimits", ":5: station 0, `bql`: beside `ring` it is 0"),

@@ -25,7 +25,7 @@ owners_by plan split.Flow is of = absurd (false≢true of)
 
 opened_by : (plan : Plan) → IsPlanOf version_3 plan → (irq : Irq) → plan.irq ≡ irq → IsIrqOf version_3 irq
     → (every : ℕ) × (0 < every) × (every ≤ 1000) × ((packets : Packets) (n : ℕ) → openings plan packets n ≡ (if number_among_own plan packets n % every == 0 then 1 else 0))
-opened_by plan within (Every every) is of = (every, of.0, of.1, λ packets n. opens-by version_3 plan packets n within ∙ ap (λ by. openings_by by plan packets n) is)
+opened_by plan within (Every every) is of = (every, of.0, of.1, λ packets n. opens-by version_3 plan packets n refl within ∙ ap (λ by. openings_by by plan packets n) is)
 opened_by plan within (Period microseconds) is of = absurd (omega (arith, of.0, of.1))
 
 pub by_bytes : (plan : Plan) → IsPlanOf version_3 plan → IsByBytes plan

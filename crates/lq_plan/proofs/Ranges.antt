@@ -44,6 +44,19 @@ number_within low high default (Some (datetime time)) h p q = (p, q)
 number_within low high default (Some (array items)) h p q = (p, q)
 number_within low high default (Some (table inside)) h p q = (p, q)
 
+-- of a value that is there, whatever the default
+pub number_there : (low high default : ℕ) (o : Option Data) → is_some o ≡ true → option_map_or (λ value. not (has_kind (Number low high) value)) o false ≡ false
+    → option_map_or (λ value. not (is_within (Number low high) value)) o false ≡ false → (low ≤ number_or default o) × (number_or default o ≤ high)
+number_there low high default None there kind h = absurd (false≢true there)
+number_there low high default (Some (integer (pos n))) there kind h = between low high n h
+number_there low high default (Some (integer (negsuc n))) there kind h = absurd (false≢true (sym h))
+number_there low high default (Some (string text)) there kind h = absurd (false≢true (sym kind))
+number_there low high default (Some (float x)) there kind h = absurd (false≢true (sym kind))
+number_there low high default (Some (boolean b)) there kind h = absurd (false≢true (sym kind))
+number_there low high default (Some (datetime time)) there kind h = absurd (false≢true (sym kind))
+number_there low high default (Some (array items)) there kind h = absurd (false≢true (sym kind))
+number_there low high default (Some (table inside)) there kind h = absurd (false≢true (sym kind))
+
 -- the i-th of the keys
 pub in_range : (t : Members) (keys : List Key) (i : ℕ) (name : List ℕ) (presence : Presence) (low high default : ℕ) → has_fault OutOfRange keys t ≡ false
     → slice_get keys i ≡ Some (key name presence (Number low high)) → low ≤ default → default ≤ high

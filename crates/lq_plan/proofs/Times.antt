@@ -15,17 +15,21 @@ use Rattle.lq_plan.specs.Limits.{IsPlanOf}
 use Rattle.lq_plan.specs.Openings.{AreTimes}
 use Rattle.lq_plan.specs.declared.keys.Version.{Version}
 
--- a plan has no card, and opens the queues as it says
-no-card : (version : Version) (plan : Plan) → IsPlanOf version plan → card_of plan ≡ None
-no-card version plan within = by (slice_get plan.stations 0) refl
+-- a plan of a version that knows no card has none, and opens the queues as it says
+no-card : (version : Version) (plan : Plan) → version.max_rate ≡ 0 → IsPlanOf version plan → card_of plan ≡ None
+no-card version plan unknown within = by (slice_get plan.stations 0) refl
   where
+    none : (s : StationPlan) → slice_get plan.stations 0 ≡ Some s → (o : Option Card) → s.card ≡ o → o ≡ None
+    none s at None is = refl
+    none s at (Some card) is = let of = ((within.each_station 0 s at).card card is).0 in absurd (omega (arith, of.some, of.rate, unknown))
+
     by : (o : Option StationPlan) → slice_get plan.stations 0 ≡ o → card_of plan ≡ None
     by None is = ap (option_and_then (λ s. s.card)) is
-    by (Some s) is = ap (option_and_then (λ s. s.card)) is ∙ (within.each_station 0 s is).card
+    by (Some s) is = ap (option_and_then (λ s. s.card)) is ∙ none s is s.card refl
 
-pub opens-by : (version : Version) (plan : Plan) (packets : Packets) (n : ℕ) → IsPlanOf version plan → openings plan packets n ≡ openings_by plan.irq plan packets n
-opens-by version plan packets n within =
-    ap (λ (o : Option Card). option_map_or (λ card. openings_of_card card plan packets (infos_of plan packets) n) o (openings_by plan.irq plan packets n)) (no-card version plan within)
+pub opens-by : (version : Version) (plan : Plan) (packets : Packets) (n : ℕ) → version.max_rate ≡ 0 → IsPlanOf version plan → openings plan packets n ≡ openings_by plan.irq plan packets n
+opens-by version plan packets n unknown within =
+    ap (λ (o : Option Card). option_map_or (λ card. openings_of_card card plan packets (infos_of plan packets) n) o (openings_by plan.irq plan packets n)) (no-card version plan unknown within)
 
 module _ (microseconds : ℕ) (packets : Packets) where
   -- how often between packet n and the next one

@@ -1,19 +1,20 @@
--- How packets are split and spread, and when the stopped queues are opened, where the keys are within their ranges.
-use Rattle.std.proofs.Common.{◌≡◌, ℕ, pos, negsuc, ◌≤◌, Bool, true, false, not, ◌&&◌, if◌then◌else◌, codes, Option, Some, None, is_some, option_and_then, refl, sym}
+-- How packets are split, spread and classified, and when the stopped queues are opened, where the keys are within their ranges.
+use Rattle.std.proofs.Common.{◌≡◌, ℕ, ◌≤◌, Bool, true, false, not, ◌&&◌, if◌then◌else◌, codes, Option, Some, None, is_some, option_and_then, refl, sym}
 use Rattle.std.specs.Prelude.{unwrap_or}
 use Rattle.std.specs.Option.{option_map_or}
 use Rattle.std.specs.Str.{bytes_eq}
 use Rattle.std.proofs.lemmas.Bool.{false≢true}
 use Rattle.toml.specs.Data.{Data, string, integer, float, boolean, datetime, array, table, as_str}
+use Rattle.lq_model.specs.declared.plan.Classify.TheVariants.{Never, Tos}
 use Rattle.lq_model.specs.declared.plan.Irq.TheVariants.{Every, Period}
 use Rattle.lq_model.specs.declared.plan.Split.TheVariants as split
 use Rattle.lq_model.specs.declared.plan.Spread.TheVariants as spread
 use Rattle.lq_plan.specs.Faults.{has_kind, is_within}
-use Rattle.lq_plan.specs.Limits.{IsIrqOf, IsSplitOf, IsSpreadOf}
-use Rattle.lq_plan.specs.Values.{number_or, split_of, spread_of}
-use Rattle.lq_plan.specs.declared.keys.Rule.TheVariants.{Number, SplitText, SpreadText}
+use Rattle.lq_plan.specs.Limits.{IsClassifyOf, IsIrqOf, IsSplitOf, IsSpreadOf}
+use Rattle.lq_plan.specs.Values.{classify_of, number_or, split_of, spread_of}
+use Rattle.lq_plan.specs.declared.keys.Rule.TheVariants.{Number, SplitText, SpreadText, ClassifyText}
 use Rattle.lq_plan.specs.declared.keys.Version.{Version}
-use Rattle.lq_plan.proofs.Ranges.{between, true_from_not}
+use Rattle.lq_plan.proofs.Ranges.{number_there, true_from_not}
 
 -- THE SPLIT
 
@@ -61,6 +62,27 @@ spread_within version (Some (datetime time)) h = tt
 spread_within version (Some (array items)) h = tt
 spread_within version (Some (table inside)) h = tt
 
+-- THE PRIORITY
+
+classify_by : (version : Version) (tos word never : Bool) → never ≡ version.never → is_some (if tos then Some Tos else if never && word then Some Never else None) ≡ true
+    → IsClassifyOf version (unwrap_or (if tos then Some Tos else if true && word then Some Never else None) Tos)
+classify_by version true word never is known = tt
+classify_by version false true true is known = sym is
+classify_by version false true false is known = absurd (false≢true known)
+classify_by version false false never is known = tt
+
+pub classify_within : (version : Version) (o : Option Data) → option_map_or (λ value. not (is_within (ClassifyText version.never) value)) o false ≡ false
+    → IsClassifyOf version (unwrap_or (option_and_then (classify_of true) (option_and_then as_str o)) Tos)
+classify_within version None h = tt
+classify_within version (Some (string text)) h =
+    classify_by version (bytes_eq text (codes "tos")) (bytes_eq text (codes "none")) version.never refl (true_from_not (is_some (classify_of version.never text)) h)
+classify_within version (Some (integer z)) h = tt
+classify_within version (Some (float x)) h = tt
+classify_within version (Some (boolean b)) h = tt
+classify_within version (Some (datetime time)) h = tt
+classify_within version (Some (array items)) h = tt
+classify_within version (Some (table inside)) h = tt
+
 -- THE OPENINGS
 
 -- so many packets, unless a period is there
@@ -69,11 +91,4 @@ pub irq_within : (version : Version) (every : ℕ) (o : Option Data) → (1 ≤ 
     → option_map_or (λ value. not (is_within (Number 1 version.max_irq_us) value)) o false ≡ false
     → IsIrqOf version (if is_some o then Period (number_or 1 o) else Every every)
 irq_within version every None within kind h = within
-irq_within version every (Some (integer (pos n))) within kind h = between 1 version.max_irq_us n h
-irq_within version every (Some (integer (negsuc n))) within kind h = absurd (false≢true (sym h))
-irq_within version every (Some (string text)) within kind h = absurd (false≢true (sym kind))
-irq_within version every (Some (float x)) within kind h = absurd (false≢true (sym kind))
-irq_within version every (Some (boolean b)) within kind h = absurd (false≢true (sym kind))
-irq_within version every (Some (datetime time)) within kind h = absurd (false≢true (sym kind))
-irq_within version every (Some (array items)) within kind h = absurd (false≢true (sym kind))
-irq_within version every (Some (table inside)) within kind h = absurd (false≢true (sym kind))
+irq_within version every (Some value) within kind h = number_there 1 version.max_irq_us 1 (Some value) refl kind h

@@ -5,13 +5,13 @@ use Rattle.std.specs.Option.{option_map_or}
 use Rattle.std.specs.Str.{bytes_eq}
 use Rattle.toml.specs.Data.{Data, string, integer, boolean, array, Members, no_members, member, get_member, as_table}
 use Rattle.lq_plan.specs.Keys.{Key}
-use Rattle.lq_plan.specs.Values.{elements_of, event_word_of, split_of, spread_of}
+use Rattle.lq_plan.specs.Values.{classify_of, elements_of, event_word_of, split_of, spread_of}
 use Rattle.lq_plan.specs.declared.faults.Fault.{Fault}
 use Rattle.lq_plan.specs.declared.faults.Fault.TheVariants.{UnknownKey, MissingKey, WrongKind, OutOfRange}
 use Rattle.lq_plan.specs.declared.keys.Presence.{Presence}
 use Rattle.lq_plan.specs.declared.keys.Presence.TheVariants.{Required, Unknown}
 use Rattle.lq_plan.specs.declared.keys.Rule.{Rule}
-use Rattle.lq_plan.specs.declared.keys.Rule.TheVariants.{Number, Flag, SplitText, SpreadText, EventText, Tables}
+use Rattle.lq_plan.specs.declared.keys.Rule.TheVariants.{Number, Flag, SplitText, SpreadText, ClassifyText, EventText, Tables}
 
 -- UNKNOWN AND MISSING KEYS
 
@@ -35,6 +35,7 @@ has_kind (Number low high) (integer number) = true
 has_kind Flag (boolean flag) = true
 has_kind (SplitText flow) (string text) = true
 has_kind (SpreadText flow) (string text) = true
+has_kind (ClassifyText never) (string text) = true
 has_kind EventText (string text) = true
 has_kind (Tables low high) (array items) = list_all (λ element. is_some (as_table element)) (elements_of items)
 has_kind _ _ = false
@@ -45,6 +46,7 @@ is_within (Number low high) (integer (pos n)) = nat_le low n && nat_le n high
 is_within (Number low high) (integer (negsuc n)) = false
 is_within (SplitText flow) (string text) = is_some (split_of flow text)
 is_within (SpreadText flow) (string text) = is_some (spread_of flow text)
+is_within (ClassifyText never) (string text) = is_some (classify_of never text)
 is_within EventText (string text) = is_some (event_word_of text)
 is_within (Tables low high) (array items) = nat_le low (length (elements_of items)) && nat_le (length (elements_of items)) high
 is_within _ _ = true

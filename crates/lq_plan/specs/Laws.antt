@@ -4,12 +4,13 @@ use Rattle.std.specs.Option.{option_map_or}
 use Rattle.toml.specs.Data.{Members, get_member, integer}
 use Rattle.lq_model.specs.Capture.{Packets}
 use Rattle.lq_model.specs.Class.{route_byte_of, source_byte_of}
-use Rattle.lq_model.specs.Openings.{number_among_own, openings}
+use Rattle.lq_model.specs.Openings.{number_among_own, openings, openings_by}
 use Rattle.lq_model.specs.Plan.{Plan, first_at, is_at, mq_at, owner_of, queue_of, queues_at, reads_times, station_of}
+use Rattle.lq_model.specs.declared.plan.Classify.TheVariants.{Tos}
 use Rattle.lq_model.specs.declared.plan.EventPlan.{EventPlan}
 use Rattle.lq_model.specs.declared.plan.PlanReason.TheVariants.{NotToml}
 use Rattle.lq_plan.specs.Keys.{version_in}
-use Rattle.lq_plan.specs.Limits.{IsPlanOf, IsWithinLimits, version_1, version_2, version_3}
+use Rattle.lq_plan.specs.Limits.{IsPlanOf, IsWithinLimits, version_1, version_2, version_3, version_4}
 use Rattle.lq_plan.specs.Reading.{plan_by, plan_of, root_of}
 
 -- each text that is a plan keeps the limits, and its events come in an order that its stations allow
@@ -20,18 +21,18 @@ AcceptsWithinLimits = (text : List ℕ) (plan : Plan) → plan_of text ≡ Ok pl
 abbrev pub HasNoVersion : ℕ → List ℕ → Type 0
 HasNoVersion number text = (root : Members) → root_of text ≡ Some root → get_member (codes "version") root ≢ Some (integer (pos number))
 
--- a text that says none of `version = 2`, `version = 3` and `version = 4` is read by the keys and the limits of version 1 alone
+-- a text that says none of the versions 2 to 5 is read by the keys and the limits of version 1 alone
 abbrev pub ReadsVersion1 : Type 0
-ReadsVersion1 = (text : List ℕ) → HasNoVersion 2 text → HasNoVersion 3 text → HasNoVersion 4 text
+ReadsVersion1 = (text : List ℕ) → HasNoVersion 2 text → HasNoVersion 3 text → HasNoVersion 4 text → HasNoVersion 5 text
     → plan_of text ≡ option_map_or (plan_by version_1) (root_of text) (Err NotToml)
 
 -- so a plan that it is keeps the limits of version 1, in which each station has one queue
 abbrev pub KeepsVersion1 : Type 0
-KeepsVersion1 = (text : List ℕ) (plan : Plan) → HasNoVersion 2 text → HasNoVersion 3 text → HasNoVersion 4 text → plan_of text ≡ Ok plan → IsPlanOf version_1 plan
+KeepsVersion1 = (text : List ℕ) (plan : Plan) → HasNoVersion 2 text → HasNoVersion 3 text → HasNoVersion 4 text → HasNoVersion 5 text → plan_of text ≡ Ok plan → IsPlanOf version_1 plan
 
--- a text that says neither `version = 3` nor `version = 4` is read by the keys and the limits of version 2 or 1 alone
+-- a text that says none of the versions 3 to 5 is read by the keys and the limits of version 2 or 1 alone
 abbrev pub ReadsVersion2 : Type 0
-ReadsVersion2 = (text : List ℕ) → HasNoVersion 3 text → HasNoVersion 4 text
+ReadsVersion2 = (text : List ℕ) → HasNoVersion 3 text → HasNoVersion 4 text → HasNoVersion 5 text
     → plan_of text ≡ option_map_or (λ root. plan_by (if version_in root == 2 then version_2 else version_1) root) (root_of text) (Err NotToml)
 
 -- Where each group is one station, a packet's station is its route byte modulo their number, and an event is one of its own
@@ -43,11 +44,11 @@ pub record IsUngrouped (plan : Plan) : Type 0 where
 
 -- so a plan that it is keeps the limits of version 2, in which no station is a group of several
 abbrev pub KeepsVersion2 : Type 0
-KeepsVersion2 = (text : List ℕ) (plan : Plan) → HasNoVersion 3 text → HasNoVersion 4 text → plan_of text ≡ Ok plan → IsPlanOf version_2 plan × IsUngrouped plan
+KeepsVersion2 = (text : List ℕ) (plan : Plan) → HasNoVersion 3 text → HasNoVersion 4 text → HasNoVersion 5 text → plan_of text ≡ Ok plan → IsPlanOf version_2 plan × IsUngrouped plan
 
--- a text that doesn't say `version = 4` is read by the keys and the limits of version 3, 2 or 1 alone
+-- a text that says neither `version = 4` nor `version = 5` is read by the keys and the limits of version 3, 2 or 1 alone
 abbrev pub ReadsVersion3 : Type 0
-ReadsVersion3 = (text : List ℕ) → HasNoVersion 4 text
+ReadsVersion3 = (text : List ℕ) → HasNoVersion 4 text → HasNoVersion 5 text
     → plan_of text ≡ option_map_or (λ root. plan_by (if version_in root == 3 then version_3 else if version_in root == 2 then version_2 else version_1) root) (root_of text) (Err NotToml)
 
 -- the child that a source number chooses, of the group that a route number leads to
@@ -72,4 +73,20 @@ pub record IsByBytes (plan : Plan) : Type 0 where
 
 -- so a plan that it is keeps the limits of version 3, in which neither counts
 abbrev pub KeepsVersion3 : Type 0
-KeepsVersion3 = (text : List ℕ) (plan : Plan) → HasNoVersion 4 text → plan_of text ≡ Ok plan → IsPlanOf version_3 plan × IsByBytes plan
+KeepsVersion3 = (text : List ℕ) (plan : Plan) → HasNoVersion 4 text → HasNoVersion 5 text → plan_of text ≡ Ok plan → IsPlanOf version_3 plan × IsByBytes plan
+
+-- a text that doesn't say `version = 5` is read by the keys and the limits of version 4, 3, 2 or 1 alone
+abbrev pub ReadsVersion4 : Type 0
+ReadsVersion4 = (text : List ℕ) → HasNoVersion 5 text
+    → plan_of text ≡ option_map_or
+    (λ root. plan_by (if version_in root == 4 then version_4 else if version_in root == 3 then version_3 else if version_in root == 2 then version_2 else version_1) root)
+    (root_of text) (Err NotToml)
+
+-- Where no card opens a queue, the queues are opened as the plan says; and each packet has the priority of its type of service.
+pub record IsUnlinked (plan : Plan) : Type 0 where
+  pub classify : plan.classify ≡ Tos
+  pub openings : (packets : Packets) (n : ℕ) → openings plan packets n ≡ openings_by plan.irq plan packets n
+
+-- so a plan that it is keeps the limits of version 4, in which there is none
+abbrev pub KeepsVersion4 : Type 0
+KeepsVersion4 = (text : List ℕ) (plan : Plan) → HasNoVersion 5 text → plan_of text ≡ Ok plan → IsPlanOf version_4 plan × IsUnlinked plan

@@ -3,13 +3,18 @@ use Rattle.std.specs.Prelude.{◌≡◌, ℕ, ◌+◌, ◌<◌, ◌≤◌, Bool,
 use Rattle.std.specs.List.{list_any}
 use Rattle.std.specs.Option.{option_map_or}
 use Rattle.lq_model.specs.Numbers.{first_numbers}
-use Rattle.lq_model.specs.Plan.{Plan, first_at, is_at, mq_at}
+use Rattle.lq_model.specs.Plan.{Plan, first_at, is_at, is_swap, mq_at}
 use Rattle.lq_model.specs.declared.device.Params.{Params}
+use Rattle.lq_model.specs.declared.plan.Card.{Card}
+use Rattle.lq_model.specs.declared.plan.Classify.{Classify}
+use Rattle.lq_model.specs.declared.plan.Classify.TheVariants.{Never, Tos}
 use Rattle.lq_model.specs.declared.plan.EventKind.{EventKind}
 use Rattle.lq_model.specs.declared.plan.EventKind.TheVariants.{Down, Up, Resize, TxQueueLen, Swap}
 use Rattle.lq_model.specs.declared.plan.EventPlan.{EventPlan}
 use Rattle.lq_model.specs.declared.plan.Irq.{Irq}
 use Rattle.lq_model.specs.declared.plan.Irq.TheVariants.{Every, Period}
+use Rattle.lq_model.specs.declared.plan.Limit.{Limit}
+use Rattle.lq_model.specs.declared.plan.Limit.TheVariants.{Bql, Ring}
 use Rattle.lq_model.specs.declared.plan.Split.{Split}
 use Rattle.lq_model.specs.declared.plan.Split.TheVariants as split
 use Rattle.lq_model.specs.declared.plan.Spread.{Spread}
@@ -21,16 +26,19 @@ use Rattle.lq_plan.specs.declared.keys.Version.{Version}
 -- WHAT DIFFERS BETWEEN THE VERSIONS
 
 abbrev pub version_1 : Version
-version_1 = record { number = 1; max_senders = 8; max_len = 4096; queues = Unknown; max_queues = 1; mq = Unknown; max_mq = 1; irq_us = Unknown; max_irq_us = 0; spread = Unknown; flow = false }
+version_1 = record { number = 1; max_senders = 8; max_len = 4096; queues = Unknown; max_queues = 1; mq = Unknown; max_mq = 1; irq_us = Unknown; max_irq_us = 0; spread = Unknown; flow = false; link = Unknown; max_rate = 0; never = false }
 
 abbrev pub version_2 : Version
-version_2 = record { number = 2; max_senders = 64; max_len = 65536; queues = Optional; max_queues = 8; mq = Unknown; max_mq = 1; irq_us = Unknown; max_irq_us = 0; spread = Unknown; flow = false }
+version_2 = record { number = 2; max_senders = 64; max_len = 65536; queues = Optional; max_queues = 8; mq = Unknown; max_mq = 1; irq_us = Unknown; max_irq_us = 0; spread = Unknown; flow = false; link = Unknown; max_rate = 0; never = false }
 
 abbrev pub version_3 : Version
-version_3 = record { number = 3; max_senders = 64; max_len = 65536; queues = Optional; max_queues = 8; mq = Optional; max_mq = 8; irq_us = Unknown; max_irq_us = 0; spread = Unknown; flow = false }
+version_3 = record { number = 3; max_senders = 64; max_len = 65536; queues = Optional; max_queues = 8; mq = Optional; max_mq = 8; irq_us = Unknown; max_irq_us = 0; spread = Unknown; flow = false; link = Unknown; max_rate = 0; never = false }
 
 abbrev pub version_4 : Version
-version_4 = record { number = 4; max_senders = 64; max_len = 65536; queues = Optional; max_queues = 8; mq = Optional; max_mq = 8; irq_us = Optional; max_irq_us = 1000000; spread = Optional; flow = true }
+version_4 = record { number = 4; max_senders = 64; max_len = 65536; queues = Optional; max_queues = 8; mq = Optional; max_mq = 8; irq_us = Optional; max_irq_us = 1000000; spread = Optional; flow = true; link = Unknown; max_rate = 0; never = false }
+
+abbrev pub version_5 : Version
+version_5 = record version_4 { number = 5; link = Optional; max_rate = 1000000000; never = true }
 
 -- THE ORDER OF EVENTS
 
@@ -72,6 +80,26 @@ pub record AreParamsWithin (params : Params) : Type 0 where
   pub busy_limit : params.busy_limit ≤ 1000000
   pub hang_after : params.hang_after ≤ 1000000
 
+abbrev pub IsLimitWithin : Limit → Type 0
+IsLimitWithin (Ring descriptors) = (0 < descriptors) × (descriptors ≤ 65536)
+IsLimitWithin (Bql bytes) = (0 < bytes) × (bytes ≤ 1000000000)
+
+-- a card, where the version knows it; each frame takes a time on its wire
+pub record IsCardOf (version : Version) (card : Card) : Type 0 where
+  pub some : 0 < card.rate_kbit
+  pub rate : card.rate_kbit ≤ version.max_rate
+  pub limit : IsLimitWithin card.limit
+  pub coalesce : card.coalesce_us ≤ 1000000
+  pub overhead : card.overhead ≤ 1000
+  pub mpu : card.mpu ≤ 1000
+  pub some_bytes : 0 < card.overhead + card.mpu
+
+-- the device of a card stops its queue at each packet, and is never busy and never hangs
+pub record StopsAtEach (params : Params) : Type 0 where
+  pub burst : params.burst ≡ 1
+  pub never_busy : params.busy_every ≡ 0
+  pub never_hangs : params.hang_after ≡ 0
+
 pub record IsStationOf (version : Version) (station : StationPlan) : Type 0 where
   pub some : 0 < station.len
   pub len : station.len ≤ station.max_len
@@ -79,7 +107,7 @@ pub record IsStationOf (version : Version) (station : StationPlan) : Type 0 wher
   pub params : AreParamsWithin station.params
   pub has_queue : 0 < station.queues
   pub queues : station.queues ≤ version.max_queues
-  pub card : station.card ≡ None
+  pub card : (card : Card) → station.card ≡ Some card → IsCardOf version card × StopsAtEach station.params
 
 -- the length to which a station may be resized; 0 of no station
 abbrev pub max_len_at : List StationPlan → ℕ → ℕ
@@ -116,6 +144,17 @@ abbrev pub IsSpreadOf : Version → Spread → Type 0
 IsSpreadOf version spread.Flow = version.flow ≡ true
 IsSpreadOf version _ = Unit {0}
 
+-- packets keep priority 0 only where the version knows it
+abbrev pub IsClassifyOf : Version → Classify → Type 0
+IsClassifyOf version Never = version.never ≡ true
+IsClassifyOf version Tos = Unit {0}
+
+-- the station of a link is alone, with one queue, and keeps its device
+pub record IsLink (plan : Plan) (station : StationPlan) : Type 0 where
+  pub alone : plan.stations ≡ station ∷ []
+  pub queues : station.queues ≡ 1
+  pub no_swap : (e : ℕ) (event : EventPlan) → slice_get plan.events e ≡ Some event → is_swap event ≡ false
+
 -- how many packets or microseconds there may be from one opening of the stopped queues to the next
 abbrev pub IsIrqOf : Version → Irq → Type 0
 IsIrqOf version (Every packets) = (0 < packets) × (packets ≤ 1000)
@@ -128,6 +167,7 @@ pub record IsPlanOf (version : Version) (plan : Plan) : Type 0 where
   pub senders : plan.senders ≤ version.max_senders
   pub split : IsSplitOf version plan.split
   pub spread : IsSpreadOf version plan.spread
+  pub classify : IsClassifyOf version plan.classify
   pub irq : IsIrqOf version plan.irq
   pub has_station : 0 < length plan.stations
   pub stations : length plan.stations ≤ max_stations
@@ -140,13 +180,17 @@ pub record IsPlanOf (version : Version) (plan : Plan) : Type 0 where
   pub each_event : (e : ℕ) (event : EventPlan) → slice_get plan.events e ≡ Some event → IsEventWithin plan.stations event
   pub each_reach : (e : ℕ) (event : EventPlan) → slice_get plan.events e ≡ Some event → IsEventOfGroup plan.groups event
   pub order : is_out_of_order plan.events ≡ false
+  pub link : (j : ℕ) (station : StationPlan) (card : Card) → slice_get plan.stations j ≡ Some station → station.card ≡ Some card → IsLink plan station
 
 -- The limits of every plan are those of the latest version, which are the widest.
 abbrev pub IsStationWithin : StationPlan → Type 0
-IsStationWithin station = IsStationOf version_4 station
+IsStationWithin station = IsStationOf version_5 station
 
 abbrev pub IsIrqWithin : Irq → Type 0
-IsIrqWithin irq = IsIrqOf version_4 irq
+IsIrqWithin irq = IsIrqOf version_5 irq
+
+abbrev pub IsCardWithin : Card → Type 0
+IsCardWithin card = IsCardOf version_5 card
 
 abbrev pub IsWithinLimits : Plan → Type 0
-IsWithinLimits plan = IsPlanOf version_4 plan
+IsWithinLimits plan = IsPlanOf version_5 plan

@@ -4,6 +4,8 @@ use Rattle.std.specs.List.{filter_map}
 use Rattle.std.specs.Option.{option_map_or}
 use Rattle.std.specs.Str.{bytes_eq}
 use Rattle.toml.specs.Data.{Data, integer, Items, no_items, item, Members, get_member, as_array, as_bool, as_str, as_table}
+use Rattle.lq_model.specs.declared.plan.Classify.{Classify}
+use Rattle.lq_model.specs.declared.plan.Classify.TheVariants.{Never, Tos}
 use Rattle.lq_model.specs.declared.plan.Split.{Split}
 use Rattle.lq_model.specs.declared.plan.Split.TheVariants as split
 use Rattle.lq_model.specs.declared.plan.Spread.{Spread}
@@ -34,6 +36,10 @@ split_of flow text =
 
 abbrev pub spread_of : Bool → List ℕ → Option Spread
 spread_of flow text = if bytes_eq text (codes "bytes") then Some spread.Bytes else if flow && bytes_eq text (codes "flow") then Some spread.Flow else None
+
+-- "none" is one of them where packets may keep priority 0
+abbrev pub classify_of : Bool → List ℕ → Option Classify
+classify_of never text = if bytes_eq text (codes "tos") then Some Tos else if never && bytes_eq text (codes "none") then Some Never else None
 
 abbrev pub event_word_of : List ℕ → Option EventWord
 event_word_of text =

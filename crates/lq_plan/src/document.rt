@@ -1,21 +1,22 @@
 // A document and its faults.
-ghost use Rattle.std.specs.Prelude.{◌≡◌, ◌&&◌, nat_lt, map, sum, IfOk};
+ghost use Rattle.std.specs.Prelude.{◌≡◌, ◌&&◌, ◌||◌, codes, is_some, nat_lt, map, sum, IfOk};
 ghost use Rattle.std.specs.List.{list_any};
+ghost use Rattle.toml.specs.Data.{get_member};
 ghost use Rattle.toml.specs.View.{table_view};
 ghost use Rattle.lq_model.specs.Plan.{is_swap_kind, mq_at};
 ghost use Rattle.lq_plan.specs.Document.{document_of, document_view, has_fault_in};
 ghost use Rattle.lq_plan.specs.Faults.{has_fault};
-ghost use Rattle.lq_plan.specs.Keys.{event_keys, event_word_in, group_in, mq_in, station_keys, version_of};
-ghost use Rattle.lq_plan.specs.Reading.{first_fault, has_group_fault, has_two_irqs, kind_as, plan_in};
+ghost use Rattle.lq_plan.specs.Keys.{event_keys, event_word_in, group_in, has_card, mq_in, station_keys, version_of};
+ghost use Rattle.lq_plan.specs.Reading.{first_fault, has_card_fault, has_group_fault, has_two_irqs, has_two_limits, kind_as, plan_in};
 ghost use Rattle.lq_plan.specs.Tables.{tables_view};
 ghost use Rattle.lq_plan.specs.Values.{tables_at};
 
 use crate::faults::{Fault, has_fault};
 use crate::keys::{
-    Version, event_keys, event_word, group_of, mq_of, root_keys, station_keys, version_of,
+    Version, event_keys, event_word, group_of, has_card, mq_of, root_keys, station_keys, version_of,
 };
 use crate::plan::MAX_STATIONS;
-use crate::values::{EventWord, elements_at, value_at};
+use crate::values::{EventWord, elements_at, number_value, value_at};
 use lq_model::PlanReason;
 use std::alloc::{AllocError, Global};
 use toml::{Table, Value};
@@ -65,6 +66,7 @@ impl<'a> Document<'a> {
         } else if self.has_fault(version, Fault::OutOfRange)
             || self.has_group_fault()
             || has_two_irqs(self.root)
+            || self.has_card_fault()
         {
             Some(PlanReason::Range)
         } else {
@@ -78,6 +80,22 @@ impl<'a> Document<'a> {
     {
         are_too_many(&self.stations) || swaps_a_group(&self.stations, &self.events)
     }
+
+    /// Whether a card opens the queue and something else does, too, or its device is swapped.
+    fn has_card_fault(&self) -> bool
+        ensures { result ≡ has_card_fault (document_view self.now) }
+    {
+        let card = has_a_card(&self.stations);
+        let swap = swaps_a_device(&self.events);
+        card && (has_irq(self.root) || swap)
+    }
+
+    /// Whether a station has both a limit of descriptors and one of bytes.
+    pub fn has_two_limits(&self) -> bool
+        ensures { result ≡ list_any has_two_limits (document_view self.now).stations }
+    {
+        a_station_has_two_limits(&self.stations)
+    }
 }
 
 // Whether it says both how many packets and how many microseconds there are from one opening of the stopped queues to the next.
@@ -85,6 +103,42 @@ fn has_two_irqs(root: &Table) -> bool
     ensures { result ≡ has_two_irqs (table_view root.now) }
 {
     value_at(root, "irq_every").is_some() && value_at(root, "irq_us").is_some()
+}
+
+fn has_a_card(stations: &[&Table]) -> bool
+    ensures { result ≡ list_any (λ station. has_card (table_view station.now)) stations.now }
+{
+    stations.iter().any(|station| has_card(station))
+}
+
+fn has_irq(root: &Table) -> bool
+    ensures { result ≡ (is_some (get_member (codes "irq_every") (table_view root.now)) || is_some (get_member (codes "irq_us") (table_view root.now))) }
+{
+    value_at(root, "irq_every").is_some() || value_at(root, "irq_us").is_some()
+}
+
+fn swaps_a_device(events: &[&Table]) -> bool
+    ensures { result ≡ list_any (λ event. is_swap_kind (kind_as (event_word_in (table_view event.now)) (table_view event.now))) events.now }
+{
+    events.iter().any(|event| swaps_device(event))
+}
+
+fn swaps_device(event: &Table) -> bool
+    ensures { result ≡ is_swap_kind (kind_as (event_word_in (table_view event.now)) (table_view event.now)) }
+{
+    event_word(event) == Some(EventWord::Swap)
+}
+
+fn a_station_has_two_limits(stations: &[&Table]) -> bool
+    ensures { result ≡ list_any (λ station. has_two_limits (table_view station.now)) stations.now }
+{
+    stations.iter().any(|station| has_two_limits(station))
+}
+
+fn has_two_limits(station: &Table) -> bool
+    ensures { result ≡ has_two_limits (table_view station.now) }
+{
+    value_at(station, "ring").is_some() && number_value(station, "bql", 0) > 0
 }
 
 // Whether the groups are more stations than a plan may have.

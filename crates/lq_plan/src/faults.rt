@@ -9,7 +9,7 @@ ghost use Rattle.lq_plan.specs.Faults.{has_fault, has_kind, is_allowed, is_requi
 ghost use Rattle.lq_plan.specs.Keys.{keys_view, key_view};
 
 use crate::keys::{Key, Presence, Rule};
-use crate::values::{elements_in, event_word_of, split_of, spread_of, value_at};
+use crate::values::{classify_of, elements_in, event_word_of, split_of, spread_of, value_at};
 use toml::{Table, Value};
 
 /// What may be wrong with a table, each fault with its own test of all keys.
@@ -79,7 +79,10 @@ fn has_kind(rule: Rule, value: &Value) -> bool
     match rule {
         Rule::Number { .. } => value.is_integer(),
         Rule::Flag => value.is_bool(),
-        Rule::SplitText { .. } | Rule::SpreadText { .. } | Rule::EventText => value.is_str(),
+        Rule::SplitText { .. }
+        | Rule::SpreadText { .. }
+        | Rule::ClassifyText { .. }
+        | Rule::EventText => value.is_str(),
         Rule::Tables { .. } => match elements_in(value) {
             Some(elements) => are_tables(elements),
             None => false,
@@ -124,6 +127,10 @@ fn is_within(rule: Rule, value: &Value) -> bool
         },
         Rule::SpreadText { flow } => match value {
             Value::String(text) => spread_of(flow, text.as_str()).is_some(),
+            _ => true,
+        },
+        Rule::ClassifyText { never } => match value {
+            Value::String(text) => classify_of(never, text.as_str()).is_some(),
             _ => true,
         },
         Rule::EventText => match value {

@@ -2,10 +2,10 @@
 ghost use Rattle.std.specs.Prelude.{◌≡◌, codes, if◌then◌else◌, nat_lt, ◌<◌};
 ghost use Rattle.toml.specs.View.{table_view};
 ghost use Rattle.lq_plan.specs.Tables.{tables_view};
-ghost use Rattle.lq_plan.specs.Keys.{event_keys, key, key_view, event_word_in, keys_view, len_in, len_presence, max_len_in, max_len_for, mq_in, group_in, params_presence, root_keys, station_keys, version_in, version_of};
+ghost use Rattle.lq_plan.specs.Keys.{card_number, event_keys, key, key_view, event_word_in, has_card, keys_view, least_burst, len_in, len_presence, max_len_in, max_len_for, most_with, mq_in, group_in, overhead_in, params_presence, root_keys, station_keys, version_in, version_of};
 ghost use Rattle.lq_plan.specs.Values.{number_value};
 
-use crate::values::{EventWord, event_word_of, number_value, text_at};
+use crate::values::{EventWord, event_word_of, number_value, text_at, value_at};
 use toml::Table;
 
 /// Whether a key may be in its table.
@@ -28,6 +28,8 @@ pub enum Rule {
     SplitText { flow: bool },
     /// By what they are spread, as a text; by flow where that is known.
     SpreadText { flow: bool },
+    /// How packets get their priority, as a text; not at all where that is known.
+    ClassifyText { never: bool },
     /// What an event does, as a text.
     EventText,
     /// An array of so many tables.
@@ -61,6 +63,12 @@ pub struct Version {
     pub spread: Presence,
     /// Whether they may be split and spread by flow.
     pub flow: bool,
+    /// Whether a station may have a card on a wire, and the plan say how packets get their priority.
+    pub link: Presence,
+    /// How many thousand bits a second the wire may carry.
+    pub max_rate: u64,
+    /// Whether packets may keep priority 0.
+    pub never: bool,
 }
 
 const VERSION_1: Version = Version {
@@ -75,6 +83,9 @@ const VERSION_1: Version = Version {
     max_irq_us: 0,
     spread: Presence::Unknown,
     flow: false,
+    link: Presence::Unknown,
+    max_rate: 0,
+    never: false,
 };
 
 const VERSION_2: Version = Version {
@@ -102,6 +113,14 @@ const VERSION_4: Version = Version {
     ..VERSION_3
 };
 
+const VERSION_5: Version = Version {
+    number: 5,
+    link: Presence::Optional,
+    max_rate: 1_000_000_000,
+    never: true,
+    ..VERSION_4
+};
+
 /// The number of the version that the document at this root says.
 pub fn version_number(root: &Table) -> u64
     ensures { result ≡ version_in (table_view root.now) }
@@ -109,11 +128,12 @@ pub fn version_number(root: &Table) -> u64
     number_value(root, "version", 1)
 }
 
-/// Its version: 4, 3 or 2 where it says so, else 1.
+/// Its version: 5, 4, 3 or 2 where it says so, else 1.
 pub fn version_of(root: &Table) -> Version
     ensures { result ≡ version_of (table_view root.now) }
 {
     match version_number(root) {
+        5 => VERSION_5,
         4 => VERSION_4,
         3 => VERSION_3,
         2 => VERSION_2,
@@ -123,7 +143,7 @@ pub fn version_of(root: &Table) -> Version
 
 /// The keys of a document's root.
 #[tactic(auto, unfolding(crate::specs::Keys::root_keys))]
-pub fn root_keys(version: Version) -> [Key; 8]
+pub fn root_keys(version: Version) -> [Key; 9]
     ensures { keys_view result ≡ root_keys version }
 {
     [
@@ -134,6 +154,13 @@ pub fn root_keys(version: Version) -> [Key; 8]
             "spread",
             version.spread,
             Rule::SpreadText { flow: version.flow },
+        ),
+        key_of(
+            "classify",
+            version.link,
+            Rule::ClassifyText {
+                never: version.never,
+            },
         ),
         optional("irq_every", number(1, 1000)),
         key_of("irq_us", version.irq_us, number(1, version.max_irq_us)),
@@ -187,12 +214,54 @@ pub fn group_of(event: &Table) -> u64
     number_value(event, "station", 0)
 }
 
+/// Whether a card on a wire opens a station's queue.
+pub fn has_card(station: &Table) -> bool
+    ensures { result ≡ has_card (table_view station.now) }
+{
+    value_at(station, "rate_kbit").is_some()
+}
+
+// A number of a card, without which it may not be there.
+fn card_number(station: &Table, low: u64, high: u64) -> Rule
+    ensures { result ≡ card_number (table_view station.now) low high }
+{
+    if has_card(station) {
+        number(low, high)
+    } else {
+        number(1, 0)
+    }
+}
+
+/// How many bytes come with each frame on the wire: where it isn't said, those of Ethernet, which are 8 of preamble, 4 of FCS and 12 of the gap.
+pub fn overhead_of(station: &Table) -> u64
+    ensures { result ≡ overhead_in (table_view station.now) }
+{
+    number_value(station, "overhead", 24)
+}
+
+/// The least `burst`, which is its default: the device of a card stops its queue at each packet.
+pub fn least_burst(station: &Table) -> u64
+    ensures { result ≡ least_burst (table_view station.now) }
+{
+    u64::from(has_card(station))
+}
+
+// The greatest number of a rule by which a device answers; with a card it is this.
+fn most_with(number: u64, station: &Table) -> u64
+    ensures { result ≡ most_with number (table_view station.now) }
+{
+    if has_card(station) { number } else { 1_000_000 }
+}
+
 /// The keys of a station.
 #[tactic(auto, unfolding(crate::specs::Keys::station_keys))]
-pub fn station_keys(version: Version, station: &Table) -> [Key; 9]
+pub fn station_keys(version: Version, station: &Table) -> [Key; 15]
     ensures { keys_view result ≡ station_keys version (table_view station.now) }
 {
-    let presence = Presence::Optional;
+    let link = version.link;
+    let least_bytes = 1_u64.saturating_sub(overhead_of(station));
+    let burst = number(least_burst(station), most_with(1, station));
+    let turned_off = number(0, most_with(0, station));
     [
         optional("len", number(1, version.max_len)),
         optional("max_len", number(len_of(station), version.max_len)),
@@ -203,10 +272,16 @@ pub fn station_keys(version: Version, station: &Table) -> [Key; 9]
             number(1, max_queues_of(version, station)),
         ),
         key_of("mq", version.mq, number(1, version.max_mq)),
-        param("burst", presence),
-        param("busy_every", presence),
-        param("busy_limit", presence),
-        param("hang_after", presence),
+        key_of("rate_kbit", link, number(1, version.max_rate)),
+        key_of("ring", link, card_number(station, 1, 65_536)),
+        key_of("bql", link, card_number(station, 0, 1_000_000_000)),
+        key_of("coalesce_us", link, card_number(station, 0, 1_000_000)),
+        key_of("overhead", link, card_number(station, 0, 1000)),
+        key_of("mpu", link, card_number(station, least_bytes, 1000)),
+        optional("burst", burst),
+        optional("busy_every", turned_off),
+        optional("busy_limit", number(0, 1_000_000)),
+        optional("hang_after", turned_off),
     ]
 }
 

@@ -24,7 +24,9 @@ mod refusal;
 mod values;
 
 pub use generated::generated_plan;
-pub use laws::{accepts_within_limits, version_1_stays, version_2_stays, version_3_stays};
+pub use laws::{
+    accepts_within_limits, version_1_stays, version_2_stays, version_3_stays, version_4_stays,
+};
 pub use lq_model::{EventKind, EventPlan, Irq, Params, PlanReason, Split, Spread, StationPlan};
 pub use openings::Openings;
 pub use order::is_at;

@@ -12,7 +12,7 @@ pub const MAX_STATIONS: u32 = 8;
 /// A plan that was read. Contracts see the record `Plan` of `lq_model`.
 #[derive(Drop)]
 pub struct Plan {
-    /// The version of its text, 1 to 4.
+    /// The version of its text, 1 to 5.
     pub(crate) version: u32,
     /// How many threads send, 1 to 64.
     pub(crate) senders: u32,
@@ -48,7 +48,7 @@ impl Plan {
     pub fn version(&self) -> u32
         ensures version { result ≡ self.now.version }
         ensures some { 0 < result }
-        ensures few { result ≤ 4 }
+        ensures few { result ≤ 5 }
     {
         self.version
     }

@@ -1,20 +1,26 @@
 // Reading a text as a plan.
-ghost use Rattle.std.specs.Prelude.{◌≡◌, ◌≤◌, ◌++◌, map, length, replicate, sum, IfOk, IfErr, OnOk, Ok};
+ghost use Rattle.std.specs.Prelude.{◌≡◌, ◌≤◌, ◌++◌, map, length, replicate, sum, IfOk, IfErr, OnOk, Ok, Some};
 ghost use Rattle.std.specs.List.{flat_map};
 ghost use Rattle.toml.specs.View.{table_view};
-ghost use Rattle.lq_plan.specs.Limits.{AreParamsWithin, IsIrqWithin, IsKindWithin, IsStationWithin};
+ghost use Rattle.lq_plan.specs.Limits.{AreParamsWithin, IsCardWithin, IsIrqWithin, IsKindWithin, IsLimitWithin, IsStationWithin};
 ghost use Rattle.lq_plan.specs.Keys.{event_word_in, mq_in, version_of};
-ghost use Rattle.lq_plan.specs.Reading.{IsEventSmall, IsPlanRefusal, children_in, event_in, irq_in, kind_as, params_in, plan_by, plan_of, split_in, spread_in, station_plan_in};
+ghost use Rattle.lq_plan.specs.Reading.{IsEventSmall, IsPlanRefusal, card_as, children_in, classify_in, event_in, has_many_links, irq_in, kind_as, limit_in, params_in, plan_by, plan_of, split_in, spread_in, station_plan_in};
 ghost use Rattle.lq_plan.specs.Tables.{EachTable, tables_view};
 
 use crate::document::Document;
-use crate::keys::{event_word, group_of, len_of, max_len_of, mq_of, queues_of, version_number};
+use crate::keys::{
+    event_word, group_of, has_card, least_burst, len_of, max_len_of, mq_of, overhead_of, queues_of,
+    version_number,
+};
 use crate::order::is_out_of_order;
 use crate::plan::{Plan, first_child};
 use crate::refusal::PlanRefusal;
-use crate::values::{EventWord, flag_at, number_value, split_of, spread_of, text_at, value_at};
+use crate::values::{
+    EventWord, classify_of, flag_at, number_value, split_of, spread_of, text_at, value_at,
+};
 use lq_model::{
-    Classify, EventKind, EventPlan, Irq, Params, PlanReason, Split, Spread, StationPlan,
+    Card, Classify, EventKind, EventPlan, Irq, Limit, Params, PlanReason, Split, Spread,
+    StationPlan,
 };
 use std::alloc::{AllocError, Global};
 use toml::Table;
@@ -64,12 +70,18 @@ fn read_root(alloc: Global, root: &Table) -> Result<Plan, PlanRefusal>
     if is_out_of_order(&events) {
         return Err(refused(PlanReason::EventOrder));
     }
+    if document.has_two_limits() {
+        return Err(refused(PlanReason::TwoLimits));
+    }
+    if has_many_links(&stations) {
+        return Err(refused(PlanReason::OneLink));
+    }
     Ok(Plan {
         version: version_number(root) as u32,
         senders: number_value(root, "senders", 1) as u32,
         split: read_split(root),
         spread: read_spread(root),
-        classify: Classify::Tos,
+        classify: read_classify(root),
         irq: read_irq(root),
         stations,
         groups,
@@ -92,6 +104,15 @@ fn read_spread(root: &Table) -> Spread
     match text_at(root, "spread") {
         Some(text) => spread_of(true, text).unwrap_or(Spread::Bytes),
         None => Spread::Bytes,
+    }
+}
+
+fn read_classify(root: &Table) -> Classify
+    ensures { result ≡ classify_in (table_view root.now) }
+{
+    match text_at(root, "classify") {
+        Some(text) => classify_of(true, text).unwrap_or(Classify::Tos),
+        None => Classify::Tos,
     }
 }
 
@@ -157,18 +178,67 @@ fn read_station(station: &Table) -> StationPlan
         len: len_of(station) as u32,
         max_len: max_len_of(station) as u32,
         bypass: flag_at(station, "bypass", true),
-        params: read_params(station),
+        params: read_params(station, least_burst(station)),
         queues: queues_of(station) as u32,
-        card: None,
+        card: read_card(station),
     }
 }
 
-fn read_params(table: &Table) -> Params
-    requires { AreParamsWithin (params_in (table_view table.now)) }
-    ensures { result ≡ params_in (table_view table.now) }
+fn read_card(station: &Table) -> Option<Card>
+    requires { (card : Card) → (station_plan_in (table_view station.now)).card ≡ Some card → IsCardWithin card }
+    ensures { result ≡ (station_plan_in (table_view station.now)).card }
+{
+    if has_card(station) {
+        Some(card_of(station))
+    } else {
+        None
+    }
+}
+
+fn card_of(station: &Table) -> Card
+    requires { IsCardWithin (card_as (table_view station.now)) }
+    ensures { result ≡ card_as (table_view station.now) }
+{
+    Card {
+        rate_kbit: number_value(station, "rate_kbit", 1) as u32,
+        limit: read_limit(station),
+        coalesce_us: number_value(station, "coalesce_us", 0) as u32,
+        overhead: overhead_of(station) as u32,
+        mpu: number_value(station, "mpu", 84) as u32,
+    }
+}
+
+fn read_limit(station: &Table) -> Limit
+    requires { IsLimitWithin (limit_in (table_view station.now)) }
+    ensures { result ≡ limit_in (table_view station.now) }
+{
+    let bytes = number_value(station, "bql", 0);
+    if bytes > 0 {
+        Limit::Bql {
+            bytes: bytes as u32,
+        }
+    } else {
+        Limit::Ring {
+            descriptors: number_value(station, "ring", 256) as u32,
+        }
+    }
+}
+
+// Whether there is a card, and its station has several queues or isn't the only one.
+fn has_many_links(stations: &[StationPlan]) -> bool
+    ensures { result ≡ has_many_links stations.now }
+{
+    let several = stations.len() > 1;
+    stations.iter().any(|station| station.card.is_some() && (station.queues > 1 || several))
+}
+
+// Where `burst` has this default.
+fn read_params(table: &Table, burst: u64) -> Params
+    requires { AreParamsWithin (params_in burst (table_view table.now)) }
+    ensures { result ≡ params_in burst (table_view table.now) }
 {
     Params {
-        burst: number_value(table, "burst", 0) as u32,
+        burst: number_value(table, "burst", burst) as u32,
         busy_every: number_value(table, "busy_every", 0) as u32,
         busy_limit: number_value(table, "busy_limit", 0) as u32,
         hang_after: number_value(table, "hang_after", 0) as u32,
@@ -218,7 +288,7 @@ fn read_kind(event: &Table) -> EventKind
             len: number_value(event, "len", 1) as u32,
         },
         Some(EventWord::Swap) => EventKind::Swap {
-            params: read_params(event),
+            params: read_params(event, 0),
         },
         Some(EventWord::Down) | None => EventKind::Down,
     }

@@ -3,9 +3,9 @@ ghost use Rattle.std.specs.Prelude.{◌≡◌, map, option_map, option_and_then,
 ghost use Rattle.std.specs.Option.{option_map_or};
 ghost use Rattle.toml.specs.Data.{as_array, get_member};
 ghost use Rattle.toml.specs.View.{table_view, view};
-ghost use Rattle.lq_plan.specs.Values.{elements_of, event_word_of, flag_at, number_value, split_of, spread_of, text_at};
+ghost use Rattle.lq_plan.specs.Values.{classify_of, elements_of, event_word_of, flag_at, number_value, split_of, spread_of, text_at};
 
-use lq_model::{Split, Spread};
+use lq_model::{Classify, Split, Spread};
 use toml::{Table, Value};
 
 /// What an event does to its station, as its `kind` says.
@@ -94,6 +94,17 @@ pub fn spread_of(flow: bool, text: &str) -> Option<Spread>
     match text {
         "bytes" => Some(Spread::Bytes),
         "flow" if flow => Some(Spread::Flow),
+        _ => None,
+    }
+}
+
+/// How packets get their priority, by its text; not at all where that is known.
+pub fn classify_of(never: bool, text: &str) -> Option<Classify>
+    ensures { result ≡ classify_of never text.now }
+{
+    match text {
+        "tos" => Some(Classify::Tos),
+        "none" if never => Some(Classify::Never),
         _ => None,
     }
 }

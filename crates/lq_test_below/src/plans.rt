@@ -7,7 +7,7 @@ use lq_plan::{
 };
 use std::process::Abort;
 
-const REFUSED: [(&[u8], PlanReason); 36] = [
+const REFUSED: [(&[u8], PlanReason); 38] = [
     (b"len = = 3", PlanReason::NotToml),
     (b"\xff", PlanReason::NotToml),
     (b"[[station]]\nlenght = 5\n", PlanReason::UnknownKey),
@@ -26,7 +26,15 @@ const REFUSED: [(&[u8], PlanReason); 36] = [
     (b"station = 5\n", PlanReason::Kind),
     (b"[[station]]\nlen = 4097\n", PlanReason::Range),
     (b"station = []\n", PlanReason::Range),
-    (b"version = 5\n[[station]]\n", PlanReason::Range),
+    (b"version = 6\n[[station]]\n", PlanReason::Range),
+    (
+        b"version = 5\n[[station]]\nrate_kbit = 1\nring = 1\nbql = 1\nqueues = 2\n",
+        PlanReason::TwoLimits,
+    ),
+    (
+        b"version = 5\n[[station]]\nrate_kbit = 1\n[[station]]\n",
+        PlanReason::OneLink,
+    ),
     (
         b"version = 3\nirq_us = 5\n[[station]]\n",
         PlanReason::UnknownKey,

@@ -204,7 +204,7 @@ const PLANS: [(&[u8], &str); 32] = [
     (b"[[event]]\nbefore = 0\n", "plan refused: 3 Missing\n"),
     (b"station = 5\n", "plan refused: 4 Kind\n"),
     (b"station = []\n", "plan refused: 5 Range\n"),
-    (b"version = 5\n[[station]]\n", "plan refused: 5 Range\n"),
+    (b"version = 6\n[[station]]\n", "plan refused: 5 Range\n"),
     (b"[[station]]\nmax_len = 10\n", "plan refused: 5 Range\n"),
     (
         b"[[station]]\n[[event]]\nbefore = 0\nkind = \"sway\"\nstation = 0\nlen = 1\n",

@@ -5,8 +5,8 @@ use Rattle.std.proofs.lemmas.List.{length-map}
 use Rattle.toml.specs.View.{table_view}
 use Rattle.lq_plan.specs.Document.{document_view}
 use Rattle.lq_plan.specs.Keys.{mq_in, version_of}
-use Rattle.lq_plan.specs.Limits.{is_out_of_order, version_4}
-use Rattle.lq_plan.specs.Reading.{IsEventSmall, children_in, event_in, irq_in}
+use Rattle.lq_plan.specs.Limits.{is_out_of_order, version_5}
+use Rattle.lq_plan.specs.Reading.{IsEventSmall, children_in, event_in, has_many_links, irq_in}
 use Rattle.lq_plan.specs.Tables.{tables_view}
 use Rattle.lq_plan.proofs.Within.{event_small, facts, few-mq, irq-widened, of_version, stations-within, widened}
 use Rattle.lq_plan.proofs.reader.read_root.Goals as goal
@@ -54,7 +54,7 @@ overflow_cast-result-2 c =
 pub read_irq-requires : goal.read_irq-requires
 read_irq-requires c =
     let all = facts (table_view c.args.root.now) (document_view c.in_ok-document.document) c.in_ok-document.ensures c.in_default.ensures in
-    irq-widened (version_of (table_view c.args.root.now)) version_4 all.is.narrower (irq_in (table_view c.args.root.now)) all.irq
+    irq-widened (version_of (table_view c.args.root.now)) version_5 all.is.narrower (irq_in (table_view c.args.root.now)) all.irq
 
 pub invariant_of-result : goal.invariant_of-result
 invariant_of-result c =
@@ -69,5 +69,6 @@ invariant_of-result c =
     ∙ ap (λ gs. map (event_in gs) d.events) (c.deref-3.ensures.value ∙ groups))
     in
     let in_order = sym (c.if-is_out_of_order.ensures ∙ ap is_out_of_order (c.deref-5.ensures.value ∙ events)) in
+    let few_links = sym (c.if-has_many_links.ensures ∙ ap has_many_links (c.deref-6.ensures.value ∙ stations)) in
     let version = version_of (table_view c.args.root.now) in
-    widened version version_4 all.is.narrower _ (of_version version (table_view c.args.root.now) d _ all in_order c.version_number.ensures c.number_value.ensures c.read_split.ensures c.read_spread.ensures c.read_irq.ensures stations groups events)
+    widened version version_5 all.is.narrower _ (of_version version (table_view c.args.root.now) d _ all in_order few_links c.version_number.ensures c.number_value.ensures c.read_split.ensures c.read_spread.ensures c.read_classify.ensures c.read_irq.ensures stations groups events)
