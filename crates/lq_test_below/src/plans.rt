@@ -1,6 +1,7 @@
 //! Texts of plans: the least reason of each, and what keys that are left out or written come to.
 ghost use Rattle.std.specs.Prelude.{◌<◌, length};
 
+use lq_model::{Card, Classify, Limit};
 use lq_plan::{
     EventKind, EventPlan, Irq, Params, Plan, PlanReason, PlanRefusal, Split, Spread, StationPlan,
     generated_plan, read_plan,
@@ -143,6 +144,7 @@ struct Said {
     version: u32,
     split: Split,
     spread: Spread,
+    classify: Classify,
     senders: u32,
     irq: Irq,
     units: u32,
@@ -156,6 +158,7 @@ const NO_KEYS: Said = Said {
     version: 1,
     split: Split::Round,
     spread: Spread::Bytes,
+    classify: Classify::Tos,
     senders: 1,
     irq: Irq::Every { packets: 1 },
     units: 1,
@@ -213,6 +216,7 @@ const ALL: Said = Said {
     version: 1,
     split: Split::Source,
     spread: Spread::Bytes,
+    classify: Classify::Tos,
     senders: 8,
     irq: Irq::Every { packets: 1000 },
     units: 3,
@@ -358,6 +362,49 @@ const AS_BEFORE: Said = Said {
     ..NO_KEYS
 };
 
+/// The device of a card stops at each packet, without a key that says so.
+const STOPS_AT_EACH: Params = Params {
+    burst: 1,
+    ..NO_RULES
+};
+
+/// A link of which no key but its rate is written, of packets that keep priority 0.
+const LINK: Said = Said {
+    version: 5,
+    classify: Classify::Never,
+    stations: &[StationPlan {
+        params: STOPS_AT_EACH,
+        card: Some(Card {
+            rate_kbit: 1_000_000_000,
+            limit: Limit::Ring { descriptors: 256 },
+            coalesce_us: 0,
+            overhead: 24,
+            mpu: 84,
+        }),
+        ..PLAIN
+    }],
+    ..NO_KEYS
+};
+
+/// The greatest numbers of a link.
+const BYTES: Said = Said {
+    version: 5,
+    stations: &[StationPlan {
+        params: STOPS_AT_EACH,
+        card: Some(Card {
+            rate_kbit: 1,
+            limit: Limit::Bql {
+                bytes: 1_000_000_000,
+            },
+            coalesce_us: 1_000_000,
+            overhead: 0,
+            mpu: 1000,
+        }),
+        ..PLAIN
+    }],
+    ..NO_KEYS
+};
+
 // The first child of a group, and how many it has.
 fn group_of(plan: &Plan, j: u32) -> (u32, u32)
     requires { j < length plan.now.groups }
@@ -388,12 +435,12 @@ fn check_events(rt: &impl Abort, plan: &Plan, events: &[EventPlan]) {
 
 fn check_plan(rt: &impl Abort, plan: &Plan, said: &Said) {
     assert_eq!(rt;
-        (plan.split(), plan.spread(), plan.irq()),
-        (said.split, said.spread, said.irq)
+        (plan.split(), plan.spread(), plan.classify(), plan.irq()),
+        (said.split, said.spread, said.classify, said.irq)
     );
     assert_eq!(rt;
         (plan.version(), plan.reads_times()),
-        (said.version, said.version == 4)
+        (said.version, said.version >= 4)
     );
     assert_eq!(rt;
         (plan.senders(), plan.units(), plan.children()),
@@ -431,6 +478,11 @@ fn later_versions(rt: HostRuntime) {
     check_text(&rt, text, &VERSION_4);
     let text = b"version = 4\nspread = \"bytes\"\nirq_every = 7\n[[station]]\n";
     check_text(&rt, text, &AS_BEFORE);
+    let text = b"version = 5\nclassify = \"none\"\n[[station]]\nrate_kbit = 1000000000\nbql = 0\n";
+    check_text(&rt, text, &LINK);
+    let text =
+        b"version = 5\n[[station]]\nrate_kbit = 1\nbql = 1000000000\ncoalesce_us = 1000000\noverhead = 0\nmpu = 1000\n";
+    check_text(&rt, text, &BYTES);
 }
 
 #[test]
