@@ -17,6 +17,8 @@ mod generated;
 #[cfg(test)]
 mod holds;
 #[cfg(test)]
+mod links;
+#[cfg(test)]
 mod machine;
 #[cfg(test)]
 mod overlap;
