@@ -15,7 +15,7 @@ use Rattle.lq_plan.specs.Limits.{IsKindWithin}
 use Rattle.lq_qdisc.specs.Alone.{Does}
 use Rattle.lq_seat.specs.State.{HasServed, SeatState, first_account, latest_unit, no_device, solo_of, station_count, times, units_of}
 use Rattle.lq_seat.specs.Steps.{ControlsBy, DoesInterrupts, LooksAtStops, Makes, MakesAndServes, SwapsBy, Transmits}
-use Rattle.lq_table.specs.Made.{◌⊳◌, cut, joined, load_base_log}
+use Rattle.lq_table.specs.Made.{◌⊳◌, cut, with_join, load_base_log}
 pub use Rattle.lq_table.specs.Seats.{with_turns, without}
 
 -- for a seat that has the table alone and whose device tells, the station is just as after this step of the run of one sender
@@ -148,4 +148,4 @@ Joins old other new = new ≡ record old {
 
 -- with that seat's steps, and one load more, of the table's base word
 abbrev pub LoadsBase : SeatState → SeatState → SeatState → Type 0
-LoadsBase old other new = (found : ℕ) × (new.steps ≡ joined other.steps old.steps ⊳ load_base_log found)
+LoadsBase old other new = (found : ℕ) × (new.steps ≡ with_join other.steps old.steps ⊳ load_base_log found)

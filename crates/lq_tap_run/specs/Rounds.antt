@@ -1,6 +1,6 @@
 -- How the reader reads: round by round, by the steps of its seat.
 use Rattle.std.specs.Prelude.{◌≡◌, ◌≢◌, ◌⊎◌, ℕ, ◌-◌, ◌/◌, List, [], length, drop, replicate}
-use Rattle.lq_tap.specs.Made.{Made, ◌⊳◌, cut, joined, did_load_base}
+use Rattle.lq_tap.specs.Made.{Made, ◌⊳◌, cut, with_join, did_load_base}
 use Rattle.lq_tap.specs.Sees.{SeesEnded, steps, view}
 use Rattle.lq_tap.specs.Steps.{GetsBatch, GivesBack}
 use Rattle.lq_tap.specs.Told.{having_given_back, having_taken}
@@ -46,7 +46,7 @@ ReadsToEnd len senders asked old new = (now : TapSeat) × ReadsRounds len sender
 -- seats with some steps were joined, each with a load of the base word behind it, and nothing else was done
 pub data JoinsSeats (old : List Made) : List Made → Type 0 where
   none_joined : JoinsSeats old old
-  one_joined : (found : ℕ) (other made : List Made) → JoinsSeats old made → JoinsSeats old (joined other made ⊳ did_load_base found)
+  one_joined : (found : ℕ) (other made : List Made) → JoinsSeats old made → JoinsSeats old (with_join other made ⊳ did_load_base found)
 
 -- What the reader of a run did, once the senders' seats were cut off its own: such rounds to the end, and then those seats were joined. Its seat made
 -- the steps of these and no other, and what it took in them and didn't give back is what it read.
