@@ -8,6 +8,7 @@ from typing import NamedTuple
 
 from lib.places import steps_of
 from lib.trail import FULL, HANGS, PURGED, REFUSED, SENT, SHRUNK, Trail
+from lib.wire import Wire
 
 SCHED, DEACTIVATED, MISSED, DRAINING = 1, 2, 4, 8
 NON_EMPTY = MISSED | DRAINING
@@ -398,7 +399,7 @@ class Device:
 
 
 class Run:
-    """The run of a plan. What became of each packet is in `trail`."""
+    """The run of a plan. What became of each packet is in `trail`; `wire` is that of the plan's card, or None."""
 
     def __init__(self, places, linux=Linux(), station=Station, endless=ENDLESS):
         self.places, self.plan, self.trail = places, places.plan, Trail(len(places))
@@ -408,17 +409,27 @@ class Run:
             self.devices.append(Device(stations, endless))
             self.at += [(self.devices[-1], it) for it in stations]
             self.next_unit += of.mq
+        card = self.plan.station[0].card
+        self.wire = Wire(card, self.at[0][1], places) if card else None
 
     def go(self):
         """Does all that the plan has; the run itself."""
-        for what, number in steps_of(self.places, is_open=self.is_open):
+        for what, number in steps_of(self.places, is_open=self.is_open, openings=self.openings):
             self.step(what, number)
+            if self.wire and what == "send":
+                self.wire.go_on(number)
         self.trail.is_at(self.trail.end)
+        if self.wire:
+            self.wire.finish()
         self.open_until_done()
         for _, station in self.at:
             if station.hung:
                 station.purge(HANGS)
         return self
+
+    def openings(self, n):
+        """How often queues are opened behind packet n, but for what a card does itself."""
+        return 0 if self.wire else self.places.openings(n)
 
     def is_open(self):
         """Whether no queue is stopped; a queue of a device that hangs is never opened."""

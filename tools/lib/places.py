@@ -6,6 +6,7 @@ from array import array
 from collections import Counter
 from functools import cached_property
 
+from lib.captures import BAND
 from lib.flow_hash import flow_of
 from lib.packets import Packets
 from lib.times import moments_of
@@ -18,7 +19,8 @@ class Places:
     """Of each packet its station, which is a child of the plan's, the transmit queue of its device, and its band."""
 
     def __init__(self, plan, capture):
-        self.plan, self.capture, self.bands = plan, capture, capture.bands
+        self.plan, self.capture = plan, capture
+        self.bands = capture.bands if plan.classify == "tos" else bytes(BAND[:1]) * len(capture)
         self.routes, self.sources = self.numbers()
         self.stations = self.stations_of()
         self.queues = self.queues_of()
@@ -92,14 +94,23 @@ class Places:
         """When one of the openings after packet n is, by time; they are counted from 1."""
         return (self.period_of(n) + which) * 1000 * self.plan.irq_us
 
+    @cached_property
+    def opened(self):
+        """How often a card opens the queue after each packet: as in the run of one sender."""
+        from lib.alone import Run
+
+        return Run(Places(self.plan._replace(senders=1), self.capture)).go().wire.opened
+
     def openings(self, n):
-        """How often the sender of packet n opens stopped queues once it has sent it: after each so many packets, or once for each period that ends until the next packet."""
+        """How often the sender of packet n opens stopped queues once it has sent it: after each so many packets, once for each period that ends until the next packet, or as a card does."""
+        if self.plan.station[0].card:
+            return self.opened[n]
         if self.plan.irq_us is None:
             return int((self.turns[n] + 1) % self.plan.irq_every == 0)
         return min(MOST_OPENINGS, max(0, self.period_of(n + 1) - self.period_of(n))) if n + 1 < len(self) else 0
 
 
-def steps_of(places, sender=0, is_open=lambda: False):
+def steps_of(places, sender=0, is_open=lambda: False, openings=None):
     """What a sender does, in order: an event, by its number, a packet that it sends, or an opening, by how many came before it. Events are the first sender's.
 
     Where no queue is stopped, as `is_open` may say, an opening does nothing, and those that are left before the next packet are passed over.
@@ -111,7 +122,7 @@ def steps_of(places, sender=0, is_open=lambda: False):
         while events and events[-1][1].before <= n:
             yield "event", events.pop()[0]
         yield "send", n
-        for _ in range(places.openings(n)):
+        for _ in range((openings or places.openings)(n)):
             if is_open():
                 break
             yield "wake", opened

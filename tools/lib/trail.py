@@ -26,7 +26,7 @@ class Trail:
     def __init__(self, count):
         self.kinds = bytearray([NONE_YET]) * count
         self.names, self.serials = array("I", bytes(4 * count)), array("I", bytes(4 * count))
-        self.left, self.openings = array("I", bytes(4 * count)), array("H", bytes(2 * count))
+        self.left, self.openings = array("I", bytes(4 * count)), array("I", bytes(4 * count))
         self.now, self.opening, self.end = 0, 0, 2 * count
 
     def put(self, n, kind, name, serial=0):
