@@ -7,6 +7,7 @@ from collections import deque
 from typing import NamedTuple
 
 from lib.packets import ETHERNET_HEADER, Packets
+from lib.times import moments_of
 from lib.words import Failed
 
 BYTE = 8_000_000
@@ -37,8 +38,14 @@ def bytes_of_wire(card, length):
 
 
 def first_back(times):
-    """The first packet whose time is before that of the one before it."""
+    """The first packet whose time is before that of the one before it; None where there is none."""
     return next((n for n, (one, other) in enumerate(zip(times, times[1:]), 1) if other < one), None)
+
+
+def place_back(capture):
+    """Where its record or block begins in the file."""
+    back = first_back(list(moments_of(capture)))
+    return None if back is None else capture.starts[back]
 
 
 class Wire:

@@ -14,6 +14,7 @@ from lib import captures, machine, plans  # noqa: E402
 from lib.alone import Run  # noqa: E402
 from lib.places import Places  # noqa: E402
 from lib.trail import KINDS, SENT, joint_lists, sent_by_units  # noqa: E402
+from lib.wire import place_back, times_text  # noqa: E402
 
 GENERATED_PLAN = plans.plan_of({"irq_every": 64, "station": [{"len": 32, "burst": 48}]})
 
@@ -32,10 +33,11 @@ def counts_of(plan, stations, trail):
 
 
 def run_of(plan, capture):
-    """A run of one sender: its trail, and what is printed of it."""
+    """A run of one sender: its trail, what is printed of it, and the text of its times, which only a plan with a link has."""
     places = Places(plan, capture)
-    trail = Run(places).go().trail
-    return trail, counts_of(plan, places.stations, trail)
+    run = Run(places).go()
+    times = times_text(run.wire.flights, run.wire.card.rate_kbit) if run.wire else ""
+    return run.trail, counts_of(plan, places.stations, run.trail), times
 
 
 def run_files(plan_file, capture_file, out):
@@ -44,12 +46,18 @@ def run_files(plan_file, capture_file, out):
         print(f"plan refused: {faults[0].reason} {plans.REASONS[faults[0].reason]}")
         return 3
     plan, capture = plans.plan_of(root), captures.read(capture_file)
-    trail, counts = run_of(plan, capture)
+    back = place_back(capture) if plan.station[0].card else None
+    if back is not None:
+        print(f"capture refused: 16 TimeBack at {back}")
+        return 4
+    trail, counts, times = run_of(plan, capture)
     for unit, numbers in enumerate(sent_by_units(trail, plan.units)):
         pathlib.Path(f"{out}.{unit}.pcap").write_bytes(capture.written(numbers))
     for at, numbers in joint_lists(plan, trail).items():
         pathlib.Path(f"{out}.mq{at}.pcap").write_bytes(capture.written(numbers))
     pathlib.Path(f"{out}.fates").write_text(trail.text(), encoding="utf-8")
+    if plan.station[0].card:
+        pathlib.Path(f"{out}.times").write_text(times, encoding="utf-8")
     print(counts, end="")
     return 0
 

@@ -11,11 +11,11 @@ EQUAL = framed(packet("10.0.0.1", 9, "10.0.1.1", 80, UDP))
 RESOLUTIONS = [0, 3, 6, 6, 9, 9, 12, 128 | 10, 128 | 20, 128 | 30, 127]
 
 
-def classic(times, frames, order="<", is_nano=False, link=ETHERNET):
-    """A classic capture of these frames at these nanoseconds."""
+def classic(times, frames, order="<", is_nano=False, link=ETHERNET, cut=2**18):
+    """A classic capture of these frames at these nanoseconds, each cut to so many bytes."""
     magic, scale = (0xA1B23C4D, 1) if is_nano else (0xA1B2C3D4, 1000)
     head = struct.pack(order + "IHHIIII", magic, 2, 4, 0, 0, 262144, link)
-    return head + b"".join(struct.pack(order + "IIII", time // SECOND, time % SECOND // scale, len(it), len(it)) + it for time, it in zip(times, frames))
+    return head + b"".join(struct.pack(order + "IIII", time // SECOND, time % SECOND // scale, len(it[:cut]), len(it)) + it[:cut] for time, it in zip(times, frames))
 
 
 def padded(data):
@@ -47,9 +47,9 @@ class Interface:
         return max(0, (time - self.offset * SECOND) * self.ticks // SECOND) % 2**64
 
 
-def pcapng(of, times, frames, order="<"):
-    """The same as pcapng, of one to three interfaces; now and then a frame is a simple packet, which has no time."""
-    interfaces = [Interface(of, ETHERNET) for _ in range(of.randint(1, 3))]
+def pcapng(of, times, frames, order="<", most=3, link=ETHERNET, cut=2**18):
+    """The same as pcapng, of one to so many interfaces; now and then a frame is a simple packet, which has no time and is whole."""
+    interfaces = [Interface(of, link) for _ in range(of.randint(1, most))]
     yield block(order, 0x0A0D0D0A, struct.pack(order + "IHHq", 0x1A2B3C4D, 1, 0, -1))
     yield from (it.block(order) for it in interfaces)
     for time, frame in zip(times, frames):
@@ -58,7 +58,7 @@ def pcapng(of, times, frames, order="<"):
         if of.random() < 0.05:
             yield block(order, 3, struct.pack(order + "I", len(frame)) + padded(frame))
         else:
-            yield block(order, 6, struct.pack(order + "IIIII", at, units >> 32, units & 0xFFFFFFFF, len(frame), len(frame)) + padded(frame))
+            yield block(order, 6, struct.pack(order + "IIIII", at, units >> 32, units & 0xFFFFFFFF, len(frame[:cut]), len(frame)) + padded(frame[:cut]))
 
 
 def random_frame(of):
@@ -89,6 +89,20 @@ def random_capture(of):
     if of.random() < 0.5:
         return b"".join(pcapng(of, times, frames, order))
     return classic(times, frames, order, of.random() < 0.5)
+
+
+def random_passage(of):
+    """A capture for a link: frames of all lengths, some cut to their headers, whose times seldom go back."""
+    count, order, link = of.choice([0, 1, of.randint(2, 60), of.randint(60, 200)]), of.choice("<>"), of.choice([ETHERNET, ETHERNET, RAW_IP])
+    times = random_times(of, count)
+    times = times if of.random() < 0.03 else sorted(times)
+    frames = [random_frame(of) + bytes(of.choice([0, 0, 20, 500, 1400])) for _ in range(count)]
+    frames = [it[14:] for it in frames] if link == RAW_IP else frames
+    cut = of.choice([2**18, 60])
+    if of.random() < 0.4:
+        # by the clocks of several interfaces a time goes back more often
+        return b"".join(pcapng(of, times, frames, order, of.choice([1] * 9 + [3]), link, cut))
+    return classic(times, frames, order, of.random() < 0.5, link, cut)
 
 
 def random_bursts(of, slots, period):
