@@ -1,8 +1,11 @@
 """The counts of a run as text, as `tc -s qdisc` has them."""
 import pathlib
+from collections import Counter
 
 from lib.fates import joint_file
-from lib.packets import seconds
+from lib.packets import SECOND, seconds
+from lib.waits import microseconds, percentile
+from lib.wire import bytes_of_wire
 
 
 def busy_answers(params, sent):
@@ -65,9 +68,22 @@ def wait_words(packets, time, digits):
     return f"{packets} pkt" + (f" ({seconds(time, digits)} s)" if time is not None else "")
 
 
+def times_words(times):
+    """The middle, the one that 99 of 100 don't exceed, and the greatest."""
+    return ", ".join(f"{microseconds(it)} {name}" for it, name in zip(times, ("in the middle", "for 99 of 100", "at most")))
+
+
+def passage_words(of):
+    """How long packets waited for a card."""
+    return f"wait {times_words((of.middle_time, of.most_time, of.greatest_time))}"
+
+
 def tell_waits(waits, station, band):
     """The greatest backlog of a band, and how long the packets waited that were sent."""
     greatest, of = waits.greatest(station, [band]), waits.of_sent(station, band)
+    if waits.wire:
+        print(f"  backlog at most {greatest} pkt, {waits.greatest(station, [band], True)} bytes" + (f"; {passage_words(of)}" if of else ""))
+        return
     middle, most = ((wait_words(*it, waits.digits) for it in ((of.middle, of.middle_time), (of.greatest, of.greatest_time)))) if of else ("", "")
     waited = f"; wait {middle} in the middle, {most} at most" if of else ""
     late = waits.late_of(lambda at, its, queue: (at, its) == (station, band))
@@ -99,8 +115,21 @@ def tell(run, waits, out):
         tell_station(run, waits, station)
     if run.capture.without_header:
         print(f"{run.capture.without_header} of {len(run.capture)} packets have no IPv4 header that is looked at: band 1 of station 0")
+    if waits and waits.wire:
+        tell_link(waits.wire, min(waits.times, default=0))
     if not waits:
         print("backlog, waits, and what was sent after the last packet aren't known: with several senders, fates don't say when a packet left")
+
+
+def tell_link(wire, start):
+    """How busy the wire was from the first packet on, and how long after it came a packet had left."""
+    flights, rate = wire.flights, wire.card.rate_kbit
+    if not flights:
+        return
+    after, busy = sorted(it.ends // rate - wire.times[it.number] for it in flights), sum(it.ends - it.begins for it in flights)
+    span, octets = wire.free - start * rate, sum(bytes_of_wire(wire.card, it.length) for it in flights)
+    print(f"link of {rate} kbit/s: {octets} bytes of the wire, busy for {busy / span:.1%} of {span / rate / SECOND:.6f} s")
+    print(f" from a packet's coming to the end of its frame {times_words([percentile(after, it) for it in (50, 99, 100)])}")
 
 
 def tell_tap(run, batch):
@@ -118,8 +147,17 @@ def words_of_flow(flow):
     return f"{flow.protocol} {with_port(flow.source, flow.source_port)} > {with_port(flow.destination, flow.destination_port)}"
 
 
-def tell_flows(run, flows):
+def waits_of_flows(flows, waits):
+    """How long the packets of each flow waited for a card that were sent, in words; nothing where none was."""
+    held, many = [[] for _ in flows.flows], Counter(flows.of[n] for n in waits.accepted)
+    for n in (n for of in waits.held.values() for n in of if n in waits.accepted):
+        held[flows.of[n]].append(n)
+    return [f"; {passage_words(waits.waited(of, many[flow]))}" if many[flow] else "" for flow, of in enumerate(held)]
+
+
+def tell_flows(run, flows, waits):
     """A line for each flow, those first that have the most packets dropped, and then those with the most packets."""
+    waited = waits_of_flows(flows, waits) if waits and waits.wire else [""] * len(flows.flows)
     counts = [[0] * (2 * len(run.KINDS)) for _ in flows.flows]
     for flow, kind, length in zip(flows.of, run.kinds, run.capture.lengths):
         of = counts[flow]
@@ -129,4 +167,4 @@ def tell_flows(run, flows):
     dropped = [sum(of[2::2]) for of in counts]
     for at in sorted(range(len(counts)), key=lambda it: (-dropped[it], -counts[it][0], it)):
         packets, octets = ({kind: counts[at][2 * code + part] for code, kind in enumerate(run.KINDS)} for part in (0, 1))
-        print(f" {words_of_flow(flows.flows[at])}: {line_of(run, packets, octets)}")
+        print(f" {words_of_flow(flows.flows[at])}: {line_of(run, packets, octets)}{waited[at]}")

@@ -8,6 +8,7 @@ from itertools import cycle
 from lib.alone import Run as RunOfOne, Station
 from lib.places import Places
 from lib.trail import FULL, HANGS, KINDS, SENT, by_serial, joint
+from lib.wire import times_text
 from lib.words import Failed
 
 # of a tap, whose first two kinds are those of a run
@@ -65,7 +66,7 @@ class Fates:
 
 
 class Run(Fates):
-    """The fates of a plan's run. `trail` is the run as it was worked out, of one sender alone: it has when each packet left."""
+    """The fates of a plan's run. `trail` and `wire` are those of the run as it was worked out, of one sender alone: they have when each packet left."""
 
     KINDS, has_units = KINDS, True
 
@@ -74,15 +75,16 @@ class Run(Fates):
         self.plan = plan
         self.tables, self.children, self.groups = plan.tables, plan.children, plan.groups
         self.placed = places = Places(plan, capture)
-        self.stations, self.queues, self.senders = places.stations, places.queues, places.senders
+        self.stations, self.queues, self.senders, self.bands = places.stations, places.queues, places.senders, places.bands
         self.units = [self.units_of(it) for it in range(len(self.tables))]
-        self.trail = RunOfOne(places).go().trail if plan.senders == 1 else None
+        one = RunOfOne(places).go() if plan.senders == 1 else None
+        self.trail, self.wire = (one.trail, one.wire) if one else (None, None)
         if self.trail and self.trail.text() == text:
             self.kinds, self.names, self.serials = self.trail.kinds, self.trail.names, self.trail.serials
         else:
             self.read()
         self.numbers = self.sent_by_units()
-        self.counts = self.counted(self.stations, self.capture.bands, self.queues)
+        self.counts = self.counted(self.stations, self.bands, self.queues)
         if not self.trail or self.kinds is not self.trail.kinds:
             self.judge()
 
@@ -90,7 +92,7 @@ class Run(Fates):
         """Columns with each packet's sender, its station, the transmit queue of its device, and its band."""
         first = {child: children[0] for children in self.children for child in children}
         queues = self.queues if not self.groups else bytes(queue + station - first[station] for queue, station in zip(self.queues, self.stations))
-        return self.senders, self.stations, queues, self.capture.bands
+        return self.senders, self.stations, queues, self.bands
 
     def sent_by_units(self):
         """The packets that each unit sent."""
@@ -117,7 +119,7 @@ class Run(Fates):
         """The fates; ends where one can't be this plan's: another station's unit, an event that it doesn't have, a slot's packet of another band."""
         own = [{str(unit) for unit, _ in units} for units in self.units]
         of_event = [self.children[it.station] for it in self.plan.event]
-        stations, bands, codes = self.stations, self.capture.bands, {kind: code for code, kind in enumerate(self.KINDS)}
+        stations, bands, codes = self.stations, self.bands, {kind: code for code, kind in enumerate(self.KINDS)}
         add, name, serial = self.kinds.append, self.names.append, self.serials.append
         number, line = 0, ""
         try:
@@ -167,6 +169,12 @@ class Run(Fates):
     def joint(self, children):
         """The packets that the children of a group sent, as its file has them. A child has one unit, of its own number."""
         return joint([by_serial(self.numbers[it], self.serials_of(it)) for it in children])
+
+    def judge_times(self, out):
+        """The file of times, if it is there, has those that were worked out."""
+        file = pathlib.Path(f"{out}.times")
+        if self.wire and file.exists() and file.read_text(encoding="utf-8") != times_text(self.wire.flights, self.wire.card.rate_kbit):
+            raise Failed(f"{file} hasn't the times of this plan over this capture: it is of another run")
 
     def judge_joint(self, out):
         """Each joint file that is there has just these packets."""

@@ -5,6 +5,7 @@ from itertools import repeat
 from lib import outputs
 from lib.times import NANOSECONDS
 from lib.trail import FULL, HANGS, SENT
+from lib.waits import microseconds
 
 SECTION, INTERFACE, SIMPLE, ENHANCED = 0x0A0D0D0A, 1, 3, 6
 COMMENT, RESOLUTION, FRAME_CHECK = 1, 9, 13
@@ -25,10 +26,11 @@ def place_words(run):
 
 
 def comments(run, waits, first):
-    """A comment for each packet: its fate as OUT.fates has it, its station, queue and band, and whether it left only after the last packet."""
+    """A comment for each packet: its fate as OUT.fates has it, its station, queue and band, how long it waited for a card, and whether it left only after the last packet."""
     ends, has_units, kinds = [b"", b", after the last packet"], run.has_units, [it.encode() for it in run.KINDS]
     late = map(waits.end.__eq__, waits.left) if waits else repeat(False)
-    for kind, name, serial, place, is_late in zip(run.kinds, run.names, run.serials, place_words(run), late):
+    accepted = waits.accepted if waits else {}
+    for n, (kind, name, serial, place, is_late) in enumerate(zip(run.kinds, run.names, run.serials, place_words(run), late)):
         if kind == SENT:
             words = b"sent %d %d" % (name, serial) if has_units else b"read %d" % serial
         elif kind == FULL:
@@ -37,7 +39,8 @@ def comments(run, waits, first):
             words = kinds[kind]
         else:
             words = kinds[kind] + (b" hung" if name == HANGS else b" %d" % name)
-        yield b"lqtx: " + words + place + ends[is_late]
+        waited = f", waited {microseconds(waits.time(n))}".encode() if n in accepted else b""
+        yield b"lqtx: " + words + place + waited + ends[is_late]
 
 
 def option(order, number, value):

@@ -206,8 +206,9 @@ function sentWay(n, lines) {
 }
 function waitWay(n) {
   const time = seconds(waitedTime(n)), came = `${packets(c.waited[n])} came meanwhile${time ? `, in ${time} s` : ""}`;
-  if (c.late[n]) return `It waited until the capture ended: ${came}. It left after the last packet, when queues are opened until nothing is held.`;
+  if (c.late[n] && !c.ends) return `It waited until the capture ended: ${came}. It left after the last packet, when queues are opened until nothing is held.`;
   if (!didWait(n)) return "It didn't wait.";
+  if (c.late[n]) return `It waited: ${came}. It left after the last packet had come, when its queue was opened.`;
   const last = n + c.waited[n];
   if (c.wait && c.gone[n] % 2) return `It waited: ${came}. It left once packet ${link(last)} had come, when its queue was opened.`;
   return `It waited: ${came}. It left ${c.gone[n] % 2 ? `when packet ${link(last)} had come` : `before packet ${link(last + 1)} came`}.`;
@@ -229,11 +230,12 @@ function way(n) {
   if (kind === "shrunk") lines.push(`It was dropped, as the shorter ring had no room for it, ${event(n)}.`);
   if (kind === "purged") lines.push(`It was dropped while it was held, ${event(n)}.`);
   if (c.fate[n] === SENT) sentWay(n, lines);
+  if (c.ends && c.fate[n] === SENT) lines.push(`Its frame had left the wire ${seconds(c.ends[n] - c.time[n])} s after it came.`);
   $("way").innerHTML = `<h3>Packet ${n + FIRST}: ${kind} ${named(n)}</h3><ol>${lines.map((it) => `<li>${it}</li>`).join("")}</ol>`;
 }
 
 // where a packet is in the pictures, from 0 to 1, and the packet that is there: by number, or by the time of the capture
-const span = c.moment ? Math.max(c.moment.reduce((a, b) => Math.max(a, b), 0), 1) : COUNT;
+const span = c.moment ? about.span : COUNT;
 const across = (n) => (c.moment ? c.moment[n] : n + 0.5) / span;
 function packetAt(at) {
   if (!c.moment) return Math.min(Math.max(Math.floor(at * COUNT), 0), COUNT - 1);

@@ -40,7 +40,7 @@ def columns_of(shown):
     }  # fmt: skip
     for name, values in zip(("station", "queue", "band"), places):
         found[name] = packed(bytes([UNKNOWN]) * count if values is None else values)
-    if run.has_units and run.plan.irq_us is not None:
+    if run.has_units and run.placed.by_time:
         first = min(run.placed.times, default=0)
         found["moment"] = packed([it - first for it in run.placed.times], "f64")
     if waits:
@@ -48,6 +48,9 @@ def columns_of(shown):
         found["waited"] = packed([(left + 1) // 2 - 1 - n for n, left in enumerate(waits.left)])
         if waits.by_time:
             found["wait"] = packed([nan if it is None else it for it in map(waits.time, range(count))], "f64")
+        if waits.wire:
+            ends = {it.number: it.ends // waits.wire.card.rate_kbit - start for it in waits.wire.flights}
+            found["ends"] = packed([ends.get(n, nan) for n in range(count)], "f64")
         found["late"] = packed([left == waits.end for left in waits.left])
     return found, start
 
@@ -59,8 +62,9 @@ def data_of(shown, first):
     events = [pictures.event_words(number, it, first) for number, it in enumerate(run.plan.event)] if run.has_units else []
     about = {
         "count": len(run.capture), "first": first, "kinds": run.KINDS, "colours": pictures.DROP_COLOURS, "units": run.has_units,
-        "many_units": run.has_units and len(run.numbers) > 1, "waits": bool(shown.waits), "digits": shown.packets.digits, "start": str(start),
+        "many_units": run.has_units and len(run.numbers) > 1, "waits": bool(shown.waits), "digits": shown.waits.digits if shown.waits else shown.packets.digits, "start": str(start),
         "flows": [list(it) for it in shown.flows.flows], "events": events, "left": pictures.LEFT, "width": pictures.WIDTH, "columns": columns,
+        "span": getattr(pictures.axis_of(run, first), "span", 0),
     }  # fmt: skip
     return json.dumps(about, separators=(",", ":")).replace("<", "\\u003c")
 
@@ -92,17 +96,17 @@ def counts_table(shown):
     total, _ = run.of_kinds()
     kinds = [kind for kind in run.KINDS[1:] if total[kind]]
     heads = ["", run.KINDS[0], "bytes", *(["after the last packet"] if waits else []), *kinds]
-    heads += ["greatest backlog", "middle wait", "greatest wait", "middle wait, s", "greatest wait, s"] if waits else []
+    heads += ["greatest backlog", "middle wait", "greatest wait", "middle wait, s", "wait of 99 of 100, s", "greatest wait, s"] if waits else []
     yield "<table><thead><tr>" + "".join(f'<th scope="col">{it}</th>' for it in heads) + "</tr></thead><tbody>"
     for name, is_whole, wanted, band in classes_of(run):
         packets, octets = run.of_kinds(wanted)
         cells = [html.escape(name), packets[run.KINDS[0]], octets[run.KINDS[0]], *([waits.late_of(wanted)] if waits else []), *(packets[kind] for kind in kinds)]
         if waits and band:
             of = waits.of_sent(*band)
-            times = [seconds(it, waits.digits) if it is not None else "" for it in (of.middle_time, of.greatest_time)] if of else ["", ""]
+            times = [seconds(it, waits.digits) if it is not None else "" for it in (of.middle_time, of.most_time, of.greatest_time)] if of else [""] * 3
             cells += [waits.greatest(band[0], [band[1]]), *([of.middle, of.greatest] if of else ["", ""]), *times]
         elif waits:
-            cells += [""] * 5
+            cells += [""] * 6
         yield f'<tr{" class=whole" if is_whole else ""}>' + "".join(f"<td>{it}</td>" for it in cells) + "</tr>"
     yield "</tbody></table>"
 
@@ -117,6 +121,8 @@ def about_of(shown):
     late = len(shown.waits.late)
     sent = run.of_kinds()[0]["sent"]
     after = f"{sent - late} packets were sent while packets came, and {late} after the last packet, when queues are opened until nothing is held. " if late else ""
+    if shown.waits.wire:
+        return after + "A wait is how many packets came while one waited, and how long it was until the card accepted it."
     if shown.waits.by_time:
         return after + "A wait is how many packets came while one waited, and how long it was until the opening of its queue at which it left."
     return after + "A wait is how many packets came while one waited, and how much later in the capture the last of them came."

@@ -77,13 +77,13 @@ class ByNumber:
 
 
 class ByTime:
-    """Packets by their times, in a plan that opens queues by time."""
+    """Packets by their times, in a plan that opens queues by time; with a card until all frames have left."""
 
     words = "seconds after the first packet to the right"
 
-    def __init__(self, times, first):
-        self.first, self.start = first, min(times, default=0)
-        self.span = max(max(times, default=0) - self.start, 1)
+    def __init__(self, times, first, end=0):
+        self.first, self.start, self.last = first, min(times, default=0), max(times, default=0)
+        self.span = max(max(self.last, end) - self.start, 1)
         self.times, self.whole = times, 2 * WIDTH
 
     def cells(self, numbers, across):
@@ -102,8 +102,9 @@ class ByTime:
 
 
 def axis_of(run, first):
-    by_time = run.has_units and run.plan.irq_us is not None
-    return ByTime(run.placed.times, first) if by_time else ByNumber(len(run.capture), first)
+    if not run.has_units or not run.placed.by_time:
+        return ByNumber(len(run.capture), first)
+    return ByTime(run.placed.times, first, run.wire.free // run.wire.card.rate_kbit if run.wire else 0)
 
 
 # PARTS
@@ -229,7 +230,7 @@ def unit_panels(run, waits, station, dropped, first):
         numbers, late = run.numbers[unit], waits.late_by(unit) if waits else 0
         title = f"{name_of(run, station)}, unit {unit}: sent {len(numbers)}" + (f", from packet {since + first} on" if since else "")
         events = list(events_of(run, station, since, until, first))
-        yield Panel(title, "serial", numbers, run.serials_of(unit), run.capture.bands, BANDS, len(numbers), dropped, since, until, late, events)
+        yield Panel(title, "serial", numbers, run.serials_of(unit), run.bands, BANDS, len(numbers), dropped, since, until, late, events)
 
 
 def group_panel(run, at, children, dropped):
@@ -243,7 +244,7 @@ def group_panel(run, at, children, dropped):
 def panels_of(run, waits, first):
     """The panels of a run, each group before its stations."""
     by_station = {station: {} for station in range(len(run.tables))}
-    for (key, kind), numbers in run.dropped_by([station << 2 | band for station, band in zip(run.stations, run.capture.bands)]).items():
+    for (key, kind), numbers in run.dropped_by([station << 2 | band for station, band in zip(run.stations, run.bands)]).items():
         by_station[key >> 2][key & 3, kind] = numbers
     for station in range(len(run.tables)):
         for at, children in run.groups:
@@ -358,15 +359,42 @@ def after_the_last(top, late):
         yield text(x + AFTER / 2, top + 14 + 13 * row, words, "middle", ' class="latewords" fill="#a06000"')
 
 
+def last_packet(axis, top):
+    """A line where the last packet comes, behind which frames leave."""
+    x = LEFT + WIDTH * axis.at(axis.last)
+    yield line(x, top, x, top + HEIGHT, 'stroke="#a06000" stroke-dasharray="6 3"').replace("/>", "><title>the last packet</title></line>")
+
+
 def backlog_panel(waits, axis, top, title, curves, late):
     """A line for each of these stations and bands, each with its colour."""
     most, top = max([1, *(waits.greatest(*of) for of, _ in curves)]), top + TITLE
     yield text(LEFT, top - 6, title)
     if late:
-        yield from after_the_last(top, late)
+        yield from last_packet(axis, top) if waits.wire else after_the_last(top, late)
     yield from axes(top, most, "waiting")
     for of, colour in curves:
         yield from curve_by_time(waits.changes(*of), axis, most, top, colour) if waits.by_time else curve(waits.waiting(*of), most, top, colour)
+    yield from marks_below(top + HEIGHT, axis)
+
+
+def use_of(wire, axis):
+    """In which share of its time the wire carries a frame, in each column of four half pixels."""
+    scale, columns = wire.card.rate_kbit, WIDTH // 2
+    wide, busy = axis.span * scale / columns, [0.0] * columns
+    for it in wire.flights:
+        begins, ends = (it.begins - axis.start * scale) / wide, (it.ends - axis.start * scale) / wide
+        for column in range(int(begins), min(int(ends) + 1, columns)):
+            busy[column] += min(ends, column + 1) - max(begins, column)
+    return busy
+
+
+def use_panel(wire, axis, top):
+    """The use of the link over time, in hundredths."""
+    top += TITLE
+    yield text(LEFT, top - 6, f"use of the link: per cent of each {axis.span / SECOND / (WIDTH // 2):.3g} s")
+    yield from axes(top, 100, "per cent")
+    path = "".join(f"M{LEFT + 2 * column + 1},{top + HEIGHT}v-{(HEIGHT - 8) * it:.1f}" for column, it in enumerate(use_of(wire, axis)) if it > 0)
+    yield f'<path d="{path}" stroke="#4e79a7" stroke-width="2" fill="none"/>'
     yield from marks_below(top + HEIGHT, axis)
 
 
@@ -384,7 +412,12 @@ def backlog(run, waits, of, first):
                 lines += backlog_panel(waits, axis, top, f"mq {at}: packets that wait in each queue", curves, late)
                 top += TITLE + HEIGHT + FOOT
         late = waits.late_of(lambda it, band, queue: it == station)
-        curves = [((station, [band]), colour) for band, colour in enumerate(BAND_COLOURS)]
-        lines += backlog_panel(waits, axis, top, f"{name_of(run, station)}: packets that wait in each band", curves, late)
+        for of_bytes in (False, True) if waits.wire else (False,):
+            curves = [((station, [band], of_bytes), colour) for band, colour in enumerate(BAND_COLOURS)]
+            curves = curves if waits.by_time else [(of[:2], colour) for of, colour in curves]
+            lines += backlog_panel(waits, axis, top, f"{name_of(run, station)}: {'bytes' if of_bytes else 'packets'} that wait in each band", curves, late)
+            top += TITLE + HEIGHT + FOOT
+    if waits.wire:
+        lines += use_panel(waits.wire, axis, top)
         top += TITLE + HEIGHT + FOOT
     return whole(LEFT + WIDTH + AFTER + 24, top, lines)

@@ -86,6 +86,11 @@ class Places:
         except OverflowError:
             return list(moments_of(self.capture))
 
+    @property
+    def by_time(self):
+        """Whether queues are opened by the capture's time."""
+        return self.plan.irq_us is not None or self.plan.station[0].card is not None
+
     def period_of(self, n):
         """In which period of the plan a packet came."""
         return self.times[n] // (1000 * self.plan.irq_us)

@@ -107,7 +107,7 @@ def rows(run, waits, packets, flows, form, first):
     service = Made(lambda key: part_of(form, SERVICE, [None if key == NO_DSCP else key]))
     flow = Made(lambda key: part_of(form, FLOW, flows.flows[key]))
     row = form.row % ",".join([form.template(FIRST), "%s,%s,%s", form.template(FATE), "%s"])
-    columns = zip(packets.times, run.capture.lengths, places_of(run), flows.services, flows.of, fates_of(run, form, first), waits_of(run, waits, form, packets.digits))
+    columns = zip(packets.times, run.capture.lengths, places_of(run), flows.services, flows.of, fates_of(run, form, first), waits_of(run, waits, form, waits.digits if waits else packets.digits))
     for n, (time, length, where, dscp, of, fate, wait) in enumerate(columns, first):
         yield row % (n, form.none if time == NO_TIME else seconds(time, packets.digits), length, place[where], service[dscp], flow[of], *fate, wait)
 
