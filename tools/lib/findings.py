@@ -10,12 +10,14 @@ import shutil
 import stat
 from array import array
 from collections import Counter
+from itertools import accumulate
 from operator import gt, lt, sub
 from typing import NamedTuple
 
 from lib import captures, flow_hash, plans, ways_out
 from lib.packets import Packets
 from lib.times import moments_of
+from lib.wire import bytes_of_wire, frame_lengths
 from lib.words import Failed, say
 
 # reasons for which a capture is refused that is read here (docs/FORMATS.md), and the most that the program reads
@@ -34,6 +36,10 @@ READ, WITHOUT_PACKET = {0x0A0D0D0A, 1, 3, 6}, {4, 5, 10, 0xBAD, 0x40000BAD}
 BLOCKS = {2: "packet blocks of the old kind (type 2)"}
 # the least share of packets that go back for both directions to be said
 BOTH = 0.01
+# a capture seems to be of the link itself if among stretches of so many packets none is quicker than this share of its rate, and so many are as quick as that
+STRETCH, QUICK, NEARLY, OFTEN = 100, 1.1, 0.9, 0.02
+# a frame of Ethernet with two tags and 1,500 bytes
+LONG_FRAME = 1522
 # an EtherType of IPv4, and a header of 20 bytes behind it
 USUAL = IPV4 + b"\x45"
 
@@ -86,8 +92,12 @@ class Seen:
         rows = zip(self.frames, self.captured, self.links)
         return (data[at : at + size] for at, captured, it in rows if it == link and captured >= size)
 
+    @property
+    def card(self):
+        return self.plan and self.plan.station[0].card
+
     def looks_at_times(self):
-        return self.plan is None or self.plan.irq_us is not None
+        return self.plan is None or self.plan.irq_us is not None or self.card is not None
 
     def looks_at_flows(self):
         return self.plan is None or "flow" in (self.plan.spread, self.plan.split)
@@ -100,8 +110,35 @@ def times_that_go_back(seen):
     back = sum(map(gt, times, times[1:]))
     if back:
         most = max(a - b for a, b in zip(times, times[1:]))
-        said = f"{share(back, seen.count)} have an earlier time than the one before, by up to {most / 10**6:.6g} ms: a link is then too fast"
-        yield Finding(f"{said}. To sort them", f"reordercap {seen.word} {seen.new_name('.sorted' + seen.ending)}")
+        said = f"{share(back, seen.count)} have an earlier time than the one before, by up to {most / 10**6:.6g} ms: a link {'takes no such capture' if seen.card else 'is then too fast'}"
+        yield Finding(f"{said}. To sort them", f"reordercap {seen.word} {seen.new_name('.sorted' + seen.ending)}", seen.card is not None)
+
+
+def rates_of(times, octets):
+    """How many bits a millisecond come in each stretch of packets, where its time isn't 0."""
+    sums = list(accumulate(octets, initial=0))
+    return [(sums[n + STRETCH] - sums[n]) * 8 * 10**6 / (times[n + STRETCH] - times[n]) for n in range(len(times) - STRETCH) if times[n + STRETCH] > times[n]]
+
+
+def behind_the_queue(seen):
+    """A capture of the link itself is as quick as the link where that is busy, and hardly quicker."""
+    if not seen.card:
+        return
+    rate, times = seen.card.rate_kbit, list(moments_of(seen.capture))
+    # a shaper counts the bytes of a frame alone
+    quick, full = rates_of(times, seen.capture.lengths), rates_of(times, [bytes_of_wire(seen.card, it) for it in frame_lengths(seen.capture)])
+    busy = sum(it >= NEARLY * rate for it in full)
+    if quick and len(quick) == seen.count - STRETCH and max(quick) <= QUICK * rate and busy >= OFTEN * len(full):
+        said = f"no {STRETCH} packets in a row are quicker than the link, and {busy / len(full):.0%} of such nearly as quick: it seems to be taken on the link itself, behind its queue"
+        yield Finding(f"{said}. What was dropped isn't in it, and 0 dropped is then no answer. To capture what comes to the queue", f"tcpdump -i INTERFACE -Q in -w {seen.new_name('.in.pcap')}")
+
+
+def long_frames(seen):
+    """Frames that offloads put together, which a link sends as several."""
+    long = sum(it > LONG_FRAME for it in seen.capture.lengths) if seen.card else 0
+    if long:
+        said = f"{share(long, seen.count)} have more than {LONG_FRAME:,} bytes, up to {max(seen.capture.lengths):,}: each counts as one frame. If offloads put them together, capture without these"
+        yield Finding(said, "ethtool -K INTERFACE tso off gso off gro off")
 
 
 # DIRECTIONS AND INTERFACES
@@ -284,7 +321,7 @@ def cut_frames(seen):
         yield Finding(f"{share(flow, seen.count)} are cut before the end of their addresses and ports, by which {which} places them. {mend}")
 
 
-PARTS = [times_that_go_back, directions, interfaces, blocks_left_out, frames_without_class, cut_frames]
+PARTS = [times_that_go_back, behind_the_queue, long_frames, directions, interfaces, blocks_left_out, frames_without_class, cut_frames]
 
 
 # A FILE

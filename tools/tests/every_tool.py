@@ -39,6 +39,8 @@ CALLS = [
     ("show-run", "{plan} {capture} run other.svg {out}", ".svg", "capture plan fates"),
     ("show-run", "{plan} {capture} run --dropped {out}", ".pcap", "capture plan fates"),
     ("show-run", "{plan} {capture} run --table {out}", ".csv", "capture plan fates"),
+    ("how-long", "{capture} 1mbit {out} --program {program}", ".csv", "capture program"),
+    ("how-long", "{capture} 1mbit a.csv {out} --program {program}", ".svg", "capture"),
     ("show-run", "{plan} {capture} run --html {out}", ".html", "capture plan fates"),
     ("show-run", "{plan} {capture} run --marked {out}", ".pcapng", "capture plan fates"),
     ("show-run", "tap 1 4 4 {capture} run {out}", ".svg", "capture fates"),

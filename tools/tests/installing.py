@@ -5,7 +5,7 @@ import subprocess
 
 from tests.bench import HERE, ROOM, TOP, case, expect, fault, is_equal, repository, run
 
-NAMES = ["lqtx", *(f"lqtx-{it}" for it in ("at-rate", "check-capture", "check-plan", "show-run", "show-schedule", "sweep"))]
+NAMES = ["lqtx", *(f"lqtx-{it}" for it in ("at-rate", "check-capture", "check-plan", "how-long", "show-run", "show-schedule", "sweep"))]
 
 
 def installed(prefix):
@@ -25,17 +25,17 @@ def installed_tools_work_anywhere():
     """The commands of docs/INSTALLED.md, in a folder that isn't the repository, by their names alone."""
     prefix, room = ROOM / "prefix", ROOM / "anywhere"
     room.mkdir()
-    expect("install", installed(prefix), 0, "6 tools are in", "export PATH=")
+    expect("install", installed(prefix), 0, "7 tools are in", "export PATH=")
     shutil.copy(TOP / "examples/link.pcap", room / "all.pcap")
     env = os.environ | {"PATH": f"{prefix}/bin:{os.environ['PATH']}"}
     page = (prefix / "lib/lqtx/INSTALLED.md").read_text(encoding="utf-8")
     commands = [it.strip() for it in page.splitlines() if it.startswith("    lqtx")]
-    is_equal("INSTALLED.md: commands", [it.split()[0] for it in commands], ["lqtx-check-capture", "lqtx-at-rate", "lqtx", "lqtx-show-run", "lqtx-sweep"])
+    is_equal("INSTALLED.md: commands", [it.split()[0] for it in commands], ["lqtx-check-capture", "lqtx-how-long", "lqtx-at-rate", "lqtx", "lqtx-show-run"])
     for it in commands:
         said = subprocess.run(it, shell=True, cwd=room, env=env, capture_output=True, text=True, timeout=300)
         if said.returncode not in ((0, 1) if "check-capture" in it else (0,)):
             fault(f"INSTALLED.md: {it}: ends with {said.returncode}: {said.stderr[-300:]}")
-    is_equal("INSTALLED.md: outputs", [it for it in files_below(room) if ".lqtx/" not in it], sorted(["all.pcap", "plan.toml", "out/o.0.pcap", "out/o.fates", "out/o.svg", "out/waiting.svg", "out/len.csv", "out/len.svg"]))
+    is_equal("INSTALLED.md: outputs", [it for it in files_below(room) if ".lqtx/" not in it], sorted(["all.pcap", "plan.toml", "out/o.0.pcap", "out/o.fates", "out/o.times", "out/o.svg", "out/waiting.svg", "len.csv", "len.svg"]))
     for it in NAMES[1:]:
         expect(f"{it} --help", subprocess_of([it, "--help"], room, env), 0, f"    {it} ")
         expect(f"{it}, wrong words", subprocess_of([it, "--no-such"], room, env), 2)
@@ -92,6 +92,6 @@ def install_before_the_proof():
     top = repository("to-install", {"crates.txt": "lqtx:\n", "docs/lqtx.1": ".Dd x\n", "docs/INSTALLED.md": "# x\n", "docs/FORMATS.md": "# x\n", "crates/lqtx/src/main.rt": ""})
     shutil.copytree(HERE / "orders", top / "tools/orders")
     said = run(top / "tools/install", "--prefix", top / "prefix")
-    expect("install before the proof", said, 1, "there is no proved program yet", "6 tools are in")
+    expect("install before the proof", said, 1, "there is no proved program yet", "7 tools are in")
     expect("a tool before the proof", run(top / "prefix/bin/lqtx-check-plan", TOP / "examples/drops.toml"), 0, "accepted")
     expect("the program before the proof", run(top / "prefix/bin/lqtx", "gen", "1", "5", top / "g"), 1, "the proved program wasn't there when this was installed")

@@ -116,7 +116,7 @@ def code_of(command):
 
 def faults_of_command(room, command, text):
     """What is wrong with a command of a page."""
-    words = command.words + (" --program ./lqtx" if command.words.startswith("tools/sweep ") else "")
+    words = command.words + (" --program ./lqtx" if command.words.startswith(("tools/sweep ", "tools/how-long ")) else "")
     said = subprocess.run(words, shell=True, cwd=room, capture_output=True, text=True, timeout=120)
     place = f"{command.page}:{command.line}: {command.words}"
     got = said.stdout.splitlines()

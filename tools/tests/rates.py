@@ -2,7 +2,7 @@
 import struct
 import subprocess
 
-from lib import by_time, captures, plans
+from lib import by_time, plans
 from tests.bench import HERE, ROOM, TOP, case, expect, expect_none, fault, frame, is_equal, run
 
 
@@ -22,39 +22,36 @@ def at_rate():
         (room / "c.pcap").write_bytes(capture_at(frames, link))
         return run(HERE / "at-rate", room / "c.pcap", *words)
 
-    # 1,514 bytes and 24 more are 12,304 bits
+    # 1,514 bytes and 24 more are 12,304 bits, which take 123.04 microseconds
     whole = [(0, 1514), (9, 1514)]
     said = of(whole, "100mbit")
-    expect("at-rate", said, 0, "# A link of 100mbit for c.pcap", "1538 bytes of the wire, which are 123 microseconds", "8 bytes of preamble, 4 of FCS and 12", "one frame each 123 microseconds",
-           "of one length", "version = 4\nirq_us = 123\n[[station]]\nlen = 1000\nburst = 1\n")  # fmt: skip
-    root, faults = plans.judge(said[1].encode())
-    if faults or root["irq_us"] != 123:
-        fault(f"at-rate: it is no plan: {faults}")
-    expect("at-rate, with rings", of(whole, "100mbit", "--len", "100"), 0, "\nlen = 100\n")
-    expect("at-rate, with coalescing", of(whole, "1gbit", "--coalesce", "50"), 0, "takes 4 frames each 50 microseconds, which is 984.3 Mbit/s", "--coalesce 37, which takes 3 frames at once,", "irq_us = 50\n", "burst = 4\n")
-    # a frame of 60 bytes or fewer takes 84 bytes of the wire, which are 6.72 microseconds at 100 Mbit/s
-    expect("at-rate, of short frames", of([(0, 34), (9, 60)], "100mbit"), 0, "84 bytes of the wire, which are 6.72 microseconds", "irq_us = 7\n", "96 Mbit/s of mean frames, since a plan")
-    expect("at-rate, of different frames", of([(0, 60), (9, 1514)], "0.1Gbit"), 0, "811 bytes", "irq_us = 65\n", "The shortest ones, of 84", "bytes, go at 10.34 Mbit/s", "1538", "189.3 Mbit/s")
-    expect("at-rate, of raw IP", of([(0, 1500), (9, 1500)], "100mbit", link=101), 0, "1538 bytes")
-    # 84 bytes take 0.0672 microseconds at 10 Gbit/s, 1,538 bytes 1.23, and at 100 Gbit/s 0.123: no whole microsecond is near
-    for name, frames, rate, parts in (
-        ("short frames", [(0, 34), (9, 34)], "10gbit", ["0.0672 microseconds", "would be 672 Mbit/s", "--coalesce 1, which takes 15 frames"]), ("40gbit", whole, "40gbit", ["0.3076 microseconds", "--coalesce 4, which takes 13"]),
-        ("100gbit", whole, "100gbit", ["0.123 microseconds", "would be 12.3 Gbit/s", "--coalesce 5, which takes 41"]), ("10gbit", whole, "10gbit", ["1.23 microseconds", "would be 12.3 Gbit/s", "--coalesce 11, which takes 9"]),
-        ("absurd", whole, "99999999999999999999gbit", ["would be 12.3 Gbit/s"]), ("slow", whole, "1bit", ["takes 12304 s, and a plan has at most a second"]),
-    ):  # fmt: skip
-        said = of(frames, rate)
-        expect(f"at-rate, {name}", said, 1, f"at-rate: {rate}: the mean frame takes", *parts)
-        is_equal(f"at-rate, {name}: what is printed", said[1], "")
-    expect_none("at-rate, absurd", of(whole, "99999999999999999999gbit"), "--coalesce")
-    expect("at-rate, a card that is far off", of(whole, "100mbit", "--coalesce", "180"), 1, "one frame each 180 would be 68.36 Mbit/s")
-    expect("at-rate, a card of too many frames", of(whole, "99999999999999999999gbit", "--coalesce", "9"), 1, "frames at once, and a device takes at most 1,000,000")
-    for rate, coalesce, period, burst in (("100gbit", 5, 5, 41), ("40gbit", 4, 4, 13), ("10gbit", 11, 11, 9)):
-        expect(f"at-rate {rate} --coalesce {coalesce}", of(whole, rate, "--coalesce", str(coalesce)), 0, f"irq_us = {period}\n", f"burst = {burst}\n")
-    for words in (("100",), ("0mbit",), ("fast",), ("100mbit", "--len", "0"), ("100mbit", "--len", "65537"), ("100mbit", "--coalesce", "0"), ("100mbit", "--coalesce", "many"), ("100mbit", "--coalesce", "122"), ("100mbit", "more"), ()):
-        said = of(whole, *words)
-        expect(f"at-rate {' '.join(words)}", said, 2)
+    expect("at-rate", said, 0, "# A link of 100mbit for c.pcap", "Its 2 packets need 0.000246 s of the wire, and come within 9e-06 s.", "24 more, and 84 at least (preamble 8, FCS 4, gap 12)",
+           "\nversion = 5\n[[station]]\nlen = 1000\nrate_kbit = 100000\nring = 1\n")  # fmt: skip
+    is_equal("at-rate: faults of its plan", plans.judge(said[1].encode())[1], [])
+    keys = {
+        "--len 100 --coalesce 50": "len = 100\nrate_kbit = 100000\nring = 1\ncoalesce_us = 50\n", "--bql 3028": "rate_kbit = 100000\nbql = 3028\n", "--ring 64 --overhead 0": "ring = 64\noverhead = 0\n",
+        "--preset ixgbe": "rate_kbit = 100000\nring = 512\n", "--preset mlx5 --bql 9000": "rate_kbit = 100000\nbql = 9000\n", "--preset veth": "ring = 1\noverhead = 0\nmpu = 1\n",
+    }  # fmt: skip
+    for words, text in keys.items():
+        is_equal(f"at-rate {words}", of(whole, "100mbit", *words.split())[1].endswith(text), True)
+    expect("at-rate, a driver", of(whole, "100mbit", "--preset", "ixgbe"), 0, "drivers/net/ethernet/intel/ixgbe/ixgbe.h (IXGBE_DEFAULT_TXD)", "byte queue limits too")
+    expect("at-rate, a bridge", of(whole, "100mbit", "--classify", "none"), 0, '\nversion = 5\nclassify = "none"\n[[station]]\n')
+    expect("at-rate, frames that offloads put together", of([(0, 4000), (9, 60)], "100mbit"), 0, "1 of 2 packets (50%) have more than 1,522 bytes, up to 4,000")
+    expect("at-rate, of raw IP", of([(0, 1500), (9, 1500)], "100mbit", link=101), 0, "need 0.000246 s of the wire")
+    for rate, kbit in (("40gbit", 40000000), ("0.1Gbit", 100000), ("1tbit", 10**9), ("1000bit", 1)):
+        expect(f"at-rate {rate}", of(whole, rate), 0, f"rate_kbit = {kbit}\n")
+    for words in ("100", "0mbit", "fast", "1500bit", "1.001tbit", "100mbit --len 0", "100mbit --ring 65537", "100mbit --coalesce many", "100mbit --ring 2 --bql 3000", "100mbit --overhead 0 --mpu 0", "100mbit --preset e1000", "100mbit more", ""):
+        said = of(whole, *words.split())
+        expect(f"at-rate {words}", said, 2)
+        is_equal(f"at-rate {words}: what is printed", said[1], "")
     expect("at-rate, an empty capture", of([], "100mbit"), 1, "no packets")
     expect("at-rate, without times", of([(5, 60), (5, 60)], "100mbit"), 1, "no times")
+    said = of([(5, 60), (4, 60)], "100mbit")
+    expect("at-rate, a time that goes back", said, 1, "a link takes no such capture. To sort them", ": reordercap ")
+    is_equal("at-rate, a time that goes back: what is printed", said[1], "")
+    # frames that come as the link carries them, and some that come four times as quickly
+    expect("at-rate, a capture of the link", of([(124 * it, 1514) for it in range(150)], "100mbit"), 0, "it seems to be taken on the link itself, behind its queue")
+    expect_none("at-rate, a capture of what comes", of([(124 * it if it < 300 else 27900 + 31 * it, 1514) for it in range(450)], "100mbit"), "behind its queue")
     expect("at-rate, no capture", run(HERE / "at-rate", TOP / "README.md", "100mbit"), 1, "neither pcap nor pcapng")
     expect("at-rate, no file", run(HERE / "at-rate", room / "none", "100mbit"), 1, "No such file")
 
