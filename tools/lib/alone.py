@@ -9,6 +9,7 @@ from typing import NamedTuple
 from lib.places import steps_of
 from lib.trail import FULL, HANGS, PURGED, REFUSED, SENT, SHRUNK, Trail
 from lib.wire import Wire
+from lib.words import Failed
 
 SCHED, DEACTIVATED, MISSED, DRAINING = 1, 2, 4, 8
 NON_EMPTY = MISSED | DRAINING
@@ -402,6 +403,8 @@ class Run:
     """The run of a plan. What became of each packet is in `trail`; `wire` is that of the plan's card, or None."""
 
     def __init__(self, places, linux=Linux(), station=Station, endless=ENDLESS):
+        if places.back is not None:
+            raise Failed(f"packet {places.back} has an earlier time than the one before it, and the plan takes no such capture")
         self.places, self.plan, self.trail = places, places.plan, Trail(len(places))
         self.next_unit, self.devices, self.at = 0, [], []
         for of in self.plan.station:

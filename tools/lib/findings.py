@@ -97,7 +97,7 @@ class Seen:
         return self.plan and self.plan.station[0].card
 
     def looks_at_times(self):
-        return self.plan is None or self.plan.irq_us is not None or self.card is not None
+        return self.plan is None or self.plan.by_time
 
     def looks_at_flows(self):
         return self.plan is None or "flow" in (self.plan.spread, self.plan.split)
@@ -109,9 +109,9 @@ def times_that_go_back(seen):
     times = list(moments_of(seen.capture))
     back = sum(map(gt, times, times[1:]))
     if back:
-        most = max(a - b for a, b in zip(times, times[1:]))
-        said = f"{share(back, seen.count)} have an earlier time than the one before, by up to {most / 10**6:.6g} ms: a link {'takes no such capture' if seen.card else 'is then too fast'}"
-        yield Finding(f"{said}. To sort them", f"reordercap {seen.word} {seen.new_name('.sorted' + seen.ending)}", seen.card is not None)
+        most, is_refused = max(a - b for a, b in zip(times, times[1:])), bool(seen.plan and seen.plan.wants_order)
+        said = f"{share(back, seen.count)} have an earlier time than the one before, by up to {most / 10**6:.6g} ms: {'the plan takes no such capture' if is_refused else 'a link is then too fast'}"
+        yield Finding(f"{said}. To sort them", f"reordercap {seen.word} {seen.new_name('.sorted' + seen.ending)}", is_refused)
 
 
 def rates_of(times, octets):

@@ -40,7 +40,7 @@ def columns_of(shown):
     }  # fmt: skip
     for name, values in zip(("station", "queue", "band"), places):
         found[name] = packed(bytes([UNKNOWN]) * count if values is None else values)
-    if run.has_units and run.placed.by_time:
+    if run.has_units and run.plan.by_time:
         first = min(run.placed.times, default=0)
         found["moment"] = packed([it - first for it in run.placed.times], "f64")
     if waits:

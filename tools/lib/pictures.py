@@ -102,7 +102,7 @@ class ByTime:
 
 
 def axis_of(run, first):
-    if not run.has_units or not run.placed.by_time:
+    if not run.has_units or not run.plan.by_time:
         return ByNumber(len(run.capture), first)
     return ByTime(run.placed.times, first, run.wire.free // run.wire.card.rate_kbit if run.wire else 0)
 

@@ -86,10 +86,11 @@ class Places:
         except OverflowError:
             return list(moments_of(self.capture))
 
-    @property
-    def by_time(self):
-        """Whether queues are opened by the capture's time."""
-        return self.plan.irq_us is not None or self.plan.station[0].card is not None
+    @cached_property
+    def back(self):
+        """The first packet whose time is before that of the one before it, if the plan takes no such capture; or None."""
+        times = self.times if self.plan.wants_order else []
+        return next((n for n, (one, other) in enumerate(zip(times, times[1:]), 1) if other < one), None)
 
     def period_of(self, n):
         """In which period of the plan a packet came."""

@@ -421,6 +421,16 @@ class Plan(record("Plan", ROOT)):
         return [(at, it) for at, it in enumerate(self.children) if len(it) > 1]
 
     @property
+    def by_time(self):
+        """Whether queues are opened by the capture's times."""
+        return self.irq_us is not None or self.station[0].card is not None
+
+    @property
+    def wants_order(self):
+        """Whether it takes no capture whose times go back."""
+        return self.version > 4 and self.by_time
+
+    @property
     def units(self):
         """How many units it needs: one for each child, and one for each swap."""
         return sum(it.mq for it in self.station) + sum(it.kind == "swap" for it in self.event)

@@ -34,7 +34,7 @@ class Waits:
 
     def __init__(self, run, packets):
         self.run, self.trail, self.left, self.end = run, run.trail, run.trail.left, run.trail.end
-        self.by_time, self.wire = run.placed.by_time, run.wire
+        self.by_time, self.wire = run.plan.by_time, run.wire
         self.times, self.digits = run.placed.times if self.by_time else packets.times, 9 if self.wire else packets.digits
         self.accepted = {it.number: it.accepted // self.wire.card.rate_kbit for it in self.wire.flights} if self.wire else {}
         self.waiting_of, self.sent_of = {}, {}

@@ -88,6 +88,11 @@ def merged(capture):
     return by_wireshark(why, f"mergecap -F pcapng -w {new_name(capture, '.one.pcapng')} {quoted(capture)}")
 
 
+def in_order(capture):
+    why = "a packet has an earlier time than the one before it, and the plan takes no such capture. To sort them"
+    return by_wireshark(why, f"reordercap {quoted(capture)} {new_name(capture, '.sorted.pcapng' if head_of(capture) == BLOCKS else '.sorted.pcap')}")
+
+
 def way_out(reason, capture):
     """What is said of a capture that is refused for a reason, by its number (docs/FORMATS.md)."""
     if reason == 1:
@@ -96,8 +101,8 @@ def way_out(reason, capture):
         return unpacked(capture)
     if reason in (4, 6, 10):
         return whole(capture, "it was cut off, as by an interrupted tcpdump. To keep the packets that are whole")
-    if reason == 15:
-        return merged(capture)
+    if reason in (15, 16):
+        return (merged if reason == 15 else in_order)(capture)
     long = {5: "it has a packet of more than 262,144 bytes, and only headers are looked at", 7: "it has more than 1,000,000 packets",
             9: "it is too long, and only the headers of its packets are looked at"}  # fmt: skip
     return shorter(capture, long[reason]) if reason in long else whole(capture, "it breaks the rules of its format. To keep what can be read")

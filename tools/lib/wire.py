@@ -7,8 +7,6 @@ from collections import deque
 from typing import NamedTuple
 
 from lib.packets import ETHERNET_HEADER, Packets
-from lib.times import moments_of
-from lib.words import Failed
 
 BYTE = 8_000_000
 # a later time counts as this one
@@ -37,25 +35,11 @@ def bytes_of_wire(card, length):
     return max(length + card.overhead, card.mpu)
 
 
-def first_back(times):
-    """The first packet whose time is before that of the one before it; None where there is none."""
-    return next((n for n, (one, other) in enumerate(zip(times, times[1:]), 1) if other < one), None)
-
-
-def place_back(capture):
-    """Where its record or block begins in the file."""
-    back = first_back(list(moments_of(capture)))
-    return None if back is None else capture.starts[back]
-
-
 class Wire:
     """A card with its driver's ring, and the wire. `opened` has how often the queue was opened behind each packet."""
 
     def __init__(self, card, station, places):
         self.card, self.station, self.trail, self.times = card, station, station.trail, places.times
-        back = first_back(self.times)
-        if back is not None:
-            raise Failed(f"packet {back} has an earlier time than the one before it: a plan with a link takes no such capture, and reordercap sorts one")
         self.lengths = frame_lengths(places.capture)
         self.ring, self.bytes, self.free, self.flights = deque(), 0, 0, []
         self.opened, self.count = array("I"), 0

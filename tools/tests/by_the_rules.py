@@ -14,7 +14,7 @@ from lib import captures, machine, plans  # noqa: E402
 from lib.alone import Run  # noqa: E402
 from lib.places import Places  # noqa: E402
 from lib.trail import KINDS, SENT, joint_lists, sent_by_units  # noqa: E402
-from lib.wire import place_back, times_text  # noqa: E402
+from lib.wire import times_text  # noqa: E402
 
 GENERATED_PLAN = plans.plan_of({"irq_every": 64, "station": [{"len": 32, "burst": 48}]})
 
@@ -46,7 +46,7 @@ def run_files(plan_file, capture_file, out):
         print(f"plan refused: {faults[0].reason} {plans.REASONS[faults[0].reason]}")
         return 3
     plan, capture = plans.plan_of(root), captures.read(capture_file)
-    back = place_back(capture) if plan.station[0].card else None
+    back = Places(plan, capture).back
     if back is not None:
         print(f"capture refused: 16 TimeBack at {back}")
         return 4
