@@ -107,7 +107,7 @@ def build(tools, kernel, folder):
 
 def emulator(tools, kernel, image, processors, more=""):
     """The words that boot a guest, which is emulated throughout: its processors take turns on one of the host's."""
-    return ["nice", "-n", "19", "qemu-system-x86_64", *tools.firmware(), "-M", "pc", "-accel", "tcg,thread=single",
+    return ["qemu-system-x86_64", *tools.firmware(), "-M", "pc", "-accel", "tcg,thread=single",
             "-cpu", "qemu64", "-smp", str(processors), "-m", "512", "-nographic", "-no-reboot", "-nic", "none",
             "-kernel", str(kernel.image()), "-initrd", str(image),
             # on a busy host a kernel's test of its timer fails, and the kernel with it
@@ -117,7 +117,7 @@ def emulator(tools, kernel, image, processors, more=""):
 def boot(tools, kernel, image, share, processors=1, patience=600, steer=None):
     """Boots the guest, which works through SHARE/*.cases and leaves an .answers beside each. `steer` is told where the emulator's debugger
     listens, if the guest's order of steps is chosen; it needs the addresses of the System.map."""
-    words = [*emulator(tools, kernel, image, processors, "nokaslr"), "-virtfs", f"local,path={share},mount_tag=share,security_model=none"]
+    words = ["nice", "-n", "19", *emulator(tools, kernel, image, processors, "nokaslr"), "-virtfs", f"local,path={share},mount_tag=share,security_model=none"]
     console = share / "console"
     with open(console, "wb") as it, tempfile.TemporaryDirectory(prefix="beside-linux-") as room:
         debugger = Path(room) / "debugger"

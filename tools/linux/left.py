@@ -1,6 +1,8 @@
 """Rounds in which a qdisc is deactivated and activated again with packets in it: in how many of them packets are left behind."""
 import subprocess
+import time
 from collections import namedtuple
+from concurrent.futures import ThreadPoolExecutor
 
 from linux import guest, packages
 
@@ -13,7 +15,9 @@ ORDERS = {
     (1, 1): "as the first, and each queue is scheduled after dev_activate",
 }
 CONTROL = "6.1"
-PACKETS, PROCESSORS, ROUNDS, PATIENCE = 3, 2, 30, 130
+PACKETS, PROCESSORS, ROUNDS = 3, 2, 30
+# all of it ends within so many seconds, or a guest has the least time once it boots
+WHOLE, LEAST = 285, 60
 # of an order: its rounds, those in which the order came about, those with packets left, and packets: left, purged, sent with the next transmit
 Count = namedtuple("Count", "rounds came_about with_left left purged taken")
 NO_ROUND = Count(0, 0, 0, 0, 0, 0)
@@ -62,35 +66,39 @@ def image_of(tools, kernel, folder):
     return image
 
 
-def boot(tools, kernel, image):
+def boot(tools, kernel, image, patience):
     """What the guest's console said in the time that a kernel has."""
     words = guest.emulator(tools, kernel, image, PROCESSORS)
     try:
-        done = subprocess.run(words, env=tools.environment(), stdin=subprocess.DEVNULL, capture_output=True, timeout=PATIENCE, check=False)
+        done = subprocess.run(words, env=tools.environment(), stdin=subprocess.DEVNULL, capture_output=True, timeout=patience, check=False)
         said = done.stdout
     except subprocess.TimeoutExpired as it:
         said = it.stdout or b""
     return said.decode(errors="replace").replace("\r", "")
 
 
-def rounds_of(tools, word, folder, tell):
-    """The name of a kernel and its counts."""
-    version, lists = packages.named(word, folder, tell)
+def rounds_of(version, lists, tools, folder, tell, end):
+    """The name of a kernel and its counts. `tools` are being fetched meanwhile."""
     kernel = packages.Kernel(version, folder, tell, lists, alone=True)
-    image = image_of(tools, kernel, folder)
-    tell(f"booting {version}: at most {PATIENCE} s")
-    console = boot(tools, kernel, image)
+    image = image_of(tools.result(), kernel, folder)
+    patience = max(LEAST, end - time.monotonic())
+    tell(f"booting {version}: at most {patience:.0f} s")
+    console = boot(tools.result(), kernel, image, patience)
     (image.parent / "console").write_text(console, encoding="utf-8")
     counts, is_whole = counts_of(console)
     if counts[1, 0] == NO_ROUND:
         raise packages.Missing(f"the guest of {version} didn't come to its rounds; its console is in {image.parent / 'console'}")
     if not is_whole:
-        tell(f"the guest of {version} didn't come to the end of its rounds in {PATIENCE} s: the table has those that it came to")
+        tell(f"the guest of {version} didn't come to the end of its rounds in {patience:.0f} s: the table has those that it came to")
     return version.removesuffix("-amd64"), counts
 
 
-def compare(tools, word, folder, tell):
-    """The table of a kernel beside the control."""
-    words = [word] if word == CONTROL else [word, CONTROL]
-    results = dict(rounds_of(tools, it, folder, tell) for it in words)
+def compare(word, folder, tell):
+    """The counts of a kernel and of the control, whose packages are fetched, and whose guests run, side by side; and their table."""
+    end = time.monotonic() + WHOLE
+    with ThreadPoolExecutor(3) as side_by_side:
+        tools = side_by_side.submit(packages.Tools, folder, tell)
+        named = [packages.named(it, folder, tell) for it in ([word] if word == CONTROL else [word, CONTROL])]
+        running = [side_by_side.submit(rounds_of, *it, tools, folder, tell, end) for it in named]
+        results = dict(it.result() for it in running)
     return results, table(results)

@@ -118,14 +118,10 @@ def kernels():
 
 
 def fetch(names, folder, lists=Lists()):
-    """Downloads packages and unpacks them into a folder."""
+    """Downloads packages and unpacks them into a folder. Where one can't be had, apt's words name it."""
     kept = folder / "packages"
     kept.mkdir(parents=True, exist_ok=True)
-    for name in names:
-        try:
-            run(["apt-get", *lists.words, "download", name], folder=kept)
-        except Missing as it:
-            raise Missing(f"the package {name} can't be had: {it}") from None
+    run(["apt-get", *lists.words, "download", *names], folder=kept)
     for package in sorted(kept.glob("*.deb")):
         run(["dpkg-deb", "-x", str(package), str(folder / "root")])
         package.unlink()
