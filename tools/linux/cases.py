@@ -6,6 +6,7 @@ from lib import alone
 from lib.places import steps_of
 from lib.plans import PARAMS
 from lib.trail import FULL, REFUSED
+from lib.wire import Wire
 
 # what a sender is answered of a packet, by the kind of its fate
 EXPECTED_ERRORS = {FULL: 105, REFUSED: 100}
@@ -16,10 +17,16 @@ def params_of(it):
     return " ".join(str(getattr(it, key.name)) for key in PARAMS)
 
 
-def new_line(plan, j, room):
+def new_line(plan, j, room, params=None):
     it = plan.station[j]
     queues, shared = max(it.queues, it.mq), int(it.mq == 1)
-    return f"new {j} {it.len} {queues} {shared} {max(room, 1)} {params_of(it)} {int(it.bypass)}"
+    return f"new {j} {it.len} {queues} {shared} {max(room, 1)} {params or params_of(it)} {int(it.bypass)}"
+
+
+def new_card(plan, j, room):
+    """A station with a card, whose driver stops the queue where no room is left."""
+    card = plan.station[j].card
+    return [new_line(plan, j, room, "0 0 0 0"), f"card {j} {card.ring or 0} {card.bql or 0}"]
 
 
 def event_line(event):
@@ -39,16 +46,27 @@ def case_of(name, packets):
     plan = packets.plan
     yield f"case {name}"
     for j in range(len(plan.station)):
-        yield new_line(plan, j, len(packets))
-    for what, number in steps_of(packets):
+        yield from new_card(plan, j, len(packets)) if packets.card else [new_line(plan, j, len(packets))]
+    for what, number in moves_of(packets):
         if what == "send":
             yield send_line(number, packets)
         elif what == "wake":
             yield f"wake {number % 2}"
+        elif what == "ended":
+            yield f"ended {number}"
         else:
             yield event_line(plan.event[number])
     yield f"finish {len(packets) + 2}"
     yield "end"
+
+
+def moves_of(packets):
+    """What the guest does, in order. Beside a card it is told at each interrupt how many frames have left the wire since the last one, as the rules have it."""
+    if not packets.card:
+        return steps_of(packets)
+    if packets.moves is None:
+        packets.moves = Run(packets, linux=alone.Linux(same_length=True, too_long=True)).moves
+    return packets.moves
 
 
 # WHAT THE RULES EXPECT
@@ -78,12 +96,26 @@ def unit_lines(number, device, packets):
         yield f"L {number} {place} {it.calls} {it.busy} {len(it.accepted)} {int(it.hung)}{marks}"
 
 
+class ToldWire(Wire):
+    """A wire that tells its run when the card has looked whether there is room, and how many frames have left since it did so last."""
+
+    def __init__(self, wire, run):
+        super().__init__(wire.card, wire.station, run.places)
+        self.run, self.left = run, 0
+
+    def open_while_room(self, now):
+        super().open_while_room(now)
+        before, self.left = self.left, len(self.flights) - len(self.ring)
+        self.run.card_looked(self.left - before)
+
+
 class Run(alone.Run):
     """The run of a plan by the rules, and the guest's answers that they let one expect. The guest is told of each opening."""
 
     def __init__(self, packets, **options):
         super().__init__(packets, **options)
-        self.steps, self.last = [], []
+        self.steps, self.last, self.moves = [], [], []
+        self.wire = self.wire and ToldWire(self.wire, self)
         for number in range(len(self.devices)):
             self.tell(0, self.words(number, True))
         self.go()
@@ -95,12 +127,27 @@ class Run(alone.Run):
         self.steps.append([f"= {result}", *lines])
 
     def words(self, number, marks):
+        if self.wire:
+            self.devices[number].softirqs = 0
         return list(device_words(number, self.devices[number], marks))
 
+    def sent(self, number):
+        self.tell(EXPECTED_ERRORS.get(self.trail.kinds[number], 0), self.words(self.places.device(number)[0], False))
+
+    def card_looked(self, ended):
+        """Behind a packet no frame has left since, and at an interrupt at least one."""
+        if ended:
+            self.moves.append(("ended", ended))
+            self.tell(0, self.words(0, False))
+        else:
+            self.sent(self.moves[-1][1])
+
     def step(self, what, number):
+        self.moves.append((what, number))
         if what == "send":
             super().step(what, number)
-            self.tell(EXPECTED_ERRORS.get(self.trail.kinds[number], 0), self.words(self.places.device(number)[0], False))
+            if not self.wire:
+                self.sent(number)
         elif what == "wake":
             super().step(what, number)
             self.tell(0, [line for number in range(len(self.devices)) for line in self.words(number, False)])
@@ -128,12 +175,18 @@ def read_words(line):
                  *map(int, parts[8:11]), bands)
 
 
+def without_softirqs(line):
+    """A line of words without how many soft interrupts there were: a card's driver stops its queue where no room is left, and the rules at each packet."""
+    parts = line.split(" ")
+    return " ".join([*parts[:10], "0", *parts[11:]]) if parts[0] == "W" else line
+
+
 class Answers:
     """What a guest answered to a case, and the fates that follow from that alone."""
 
-    def __init__(self, lines):
+    def __init__(self, lines, has_card=False):
         self.steps, self.faults, self.last, self.drops = [], [], [], {}
-        for line in lines:
+        for line in map(without_softirqs, lines) if has_card else lines:
             if line.startswith("= "):
                 self.steps.append([line])
             elif line.startswith("!"):
@@ -201,7 +254,7 @@ class KernelFates:
         self.purged_bands_first = self.softirqs = 0
         places = iter(answers.steps)
         self.slots = [Slots(self.words_of(next(places))[j]) for j in range(len(plan.station))]
-        for (what, number), step in zip(steps_of(packets), places):
+        for (what, number), step in zip(moves_of(packets), places):
             self.step(what, number, step)
         for line in answers.last:
             self.sent(line)

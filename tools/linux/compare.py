@@ -3,8 +3,7 @@ from collections import namedtuple
 from itertools import combinations
 
 from lib.alone import Linux
-from lib.places import steps_of
-from linux.cases import KernelFates, Run
+from linux.cases import KernelFates, Run, moves_of
 
 Cause = namedtuple("Cause", "name may_come text")
 
@@ -60,9 +59,11 @@ def judge(packets, answers):
 def names_of_steps(packets):
     plan = packets.plan
     yield from (f"station {j} is made" for j in range(len(plan.station)))
-    for what, number in steps_of(packets):
+    for what, number in moves_of(packets):
         if what == "event":
             yield f"event {number} ({plan.event[number].kind})"
+        elif what == "ended":
+            yield f"{number} frames have left"
         else:
             yield f"packet {number} is sent" if what == "send" else "the queues are opened"
     yield "the end"

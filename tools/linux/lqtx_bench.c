@@ -7,7 +7,9 @@
  * unit for each queue.  A unit answers by burst, busy_every, busy_limit and
  * hang_after (docs/RULES.md, 'Devices') and logs each packet that it accepted.
  * A queue that was stopped is opened by the command "wake" and by nothing
- * else.  A probe on the tracepoint kfree_skb logs each packet of these devices
+ * else.  After the command "card" the device is a card's: its driver stops the
+ * queue where no descriptor is left, or by byte queue limits, and "ended" says
+ * how many frames have left the wire.  A probe on the tracepoint kfree_skb logs each packet of these devices
  * that the kernel drops.
  *
  * A packet's mark is its number, with its transmit queue in the upper byte.
@@ -55,6 +57,7 @@ struct accepted {
 	u32 priority;
 	u32 crc;
 	u32 queue;
+	u32 len;
 };
 
 struct dropped {
@@ -85,6 +88,9 @@ struct unit {
  * @overflow:	packets for which a log had no room
  * @dropped:	packets that the kernel dropped
  * @drops:	log of these
+ * @descriptors: of a card's driver; 0 is no such limit
+ * @bytes:	its byte queue limit; 0 is none
+ * @ended:	frames that it knows to have left the wire
  * @unit:	units; the first alone where @shared
  */
 struct bench {
@@ -96,6 +102,9 @@ struct bench {
 	atomic_t overflow;
 	atomic_t dropped;
 	struct dropped *drops;
+	u32 descriptors;
+	u32 bytes;
+	u32 ended;
 	struct unit unit[BENCH_QUEUES];
 };
 
@@ -139,10 +148,37 @@ static void log_accepted(struct bench *b, struct unit *u, struct sk_buff *skb)
 		entry->priority = skb->priority;
 		entry->crc = ~crc32_le(~0, skb->data, skb_headlen(skb));
 		entry->queue = skb_get_queue_mapping(skb);
+		entry->len = skb->len;
 	} else {
 		atomic_inc(&b->overflow);
 	}
 	u->accepted++;
+}
+
+static bool has_descriptor(const struct bench *b)
+{
+	return !b->descriptors || b->unit[0].accepted - b->ended < b->descriptors;
+}
+
+/* As drivers do it: BUSY is an error of the driver or of the stack. */
+static netdev_tx_t card_start_xmit(struct bench *b, struct sk_buff *skb,
+				   struct netdev_queue *txq)
+{
+	struct unit *u = &b->unit[0];
+	u32 len = skb->len;
+
+	u->calls++;
+	if (!has_descriptor(b)) {
+		u->busy++;
+		return NETDEV_TX_BUSY;
+	}
+	log_accepted(b, u, skb);
+	dev_consume_skb_any(skb);
+	if (b->bytes)
+		netdev_tx_sent_queue(txq, len);
+	if (!has_descriptor(b))
+		netif_tx_stop_queue(txq);
+	return NETDEV_TX_OK;
 }
 
 static netdev_tx_t bench_start_xmit(struct sk_buff *skb, struct net_device *dev)
@@ -151,6 +187,9 @@ static netdev_tx_t bench_start_xmit(struct sk_buff *skb, struct net_device *dev)
 	u32 queue = skb_get_queue_mapping(skb);
 	struct unit *u = unit_of(b, queue);
 	u32 i;
+
+	if (b->descriptors || b->bytes)
+		return card_start_xmit(b, skb, netdev_get_tx_queue(dev, queue));
 
 	u->calls++;
 	if (u->busy_every && u->calls % u->busy_every == 0 &&
@@ -394,6 +433,49 @@ static void wake_device(struct net_device *dev, bool hard)
 	}
 }
 
+/*
+ * card DESCRIPTORS BYTES: with one number as both of its bounds a byte queue
+ * limit is that from the first completion on.
+ */
+static int set_card(struct net_device *dev, u32 descriptors, u32 bytes)
+{
+	struct netdev_queue *txq = netdev_get_tx_queue(dev, 0);
+	struct bench *b = netdev_priv(dev);
+
+	b->descriptors = descriptors;
+	b->bytes = bytes;
+	if (bytes) {
+		txq->dql.min_limit = bytes;
+		txq->dql.max_limit = bytes;
+		local_bh_disable();
+		netdev_tx_sent_queue(txq, 1);
+		netdev_tx_completed_queue(txq, 1, 1);
+		local_bh_enable();
+	}
+	return 0;
+}
+
+/* ended FRAMES: so many have left the wire; a driver's poll. */
+static int poll_card(struct net_device *dev, u32 frames)
+{
+	struct netdev_queue *txq = netdev_get_tx_queue(dev, 0);
+	struct bench *b = netdev_priv(dev);
+	u32 bytes = 0;
+	u32 i;
+
+	if (frames > b->unit[0].accepted - b->ended)
+		return -EINVAL;
+	local_bh_disable();
+	for (i = 0; i < frames; i++)
+		bytes += b->unit[0].log[b->ended++].len;
+	if (b->bytes)
+		netdev_tx_completed_queue(txq, frames, bytes);
+	if (netif_tx_queue_stopped(txq) && has_descriptor(b))
+		netif_tx_wake_queue(txq);
+	local_bh_enable();
+	return 0;
+}
+
 static bool is_scheduled(struct net_device *dev)
 {
 	u32 i;
@@ -516,7 +598,7 @@ static void say_words(struct net_device *dev, bool marks)
 			txq = netdev_get_tx_queue(dev, j);
 			if (!b->shared && j != i)
 				continue;
-			say("%d", !netif_tx_queue_stopped(txq) ? 0 :
+			say("%d", !netif_xmit_stopped(txq) ? 0 :
 				  unit_of(b, j)->hung ? 2 : 1);
 		}
 		say_list(&q->gso_skb);
@@ -631,7 +713,7 @@ static bool is_done(struct net_device *dev)
 		q = qdisc_of(dev, i);
 		if (unit_of(b, i)->hung)
 			continue;
-		if (netif_tx_queue_stopped(txq) || q->gso_skb.qlen ||
+		if (netif_xmit_stopped(txq) || q->gso_skb.qlen ||
 		    q->skb_bad_txq.qlen)
 			return false;
 		priv = qdisc_priv(q);
@@ -686,15 +768,15 @@ static int receive(struct net_device *dev, u32 mark, const char *hex)
 static int tell_after(struct net_device *dev, const char *name, u32 value)
 {
 	bool marks = !strcmp(name, "all_words") || !strcmp(name, "finish");
-	int err;
+	int err = 0;
 
-	if (!strcmp(name, "finish")) {
+	if (!strcmp(name, "finish"))
 		err = finish(dev, value);
-	} else {
-		if (!strcmp(name, "wake"))
-			wake_device(dev, value);
-		err = settle(dev);
-	}
+	else if (!strcmp(name, "wake"))
+		wake_device(dev, value);
+	else if (!strcmp(name, "ended"))
+		err = poll_card(dev, value);
+	err = err ?: settle(dev);
 	say_words(dev, marks);
 	return err;
 }
@@ -707,9 +789,12 @@ static int on_device(struct net_device *dev, const char *name, char *rest)
 
 	if (!strcmp(name, "words") || !strcmp(name, "all_words"))
 		return tell_after(dev, name, 0);
-	if ((!strcmp(name, "wake") || !strcmp(name, "finish")) &&
-	    sscanf(rest, "%u", &value) == 1)
+	if ((!strcmp(name, "wake") || !strcmp(name, "finish") ||
+	     !strcmp(name, "ended")) && sscanf(rest, "%u", &value) == 1)
 		return tell_after(dev, name, value);
+	if (!strcmp(name, "card") &&
+	    sscanf(rest, "%u %u", &params[0], &params[1]) == 2)
+		return set_card(dev, params[0], params[1]);
 	/* of several senders: without waiting, and without an answer */
 	if (!strcmp(name, "kick") && sscanf(rest, "%u", &value) == 1) {
 		wake_device(dev, value);

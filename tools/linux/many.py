@@ -11,7 +11,7 @@ from lib.alone import Endless
 from linux import classes, guest, together
 from linux.cases import Answers, Run, answers_of, case_of
 from linux.compare import judge, tell_difference
-from linux.plans import Sent, random_plan, small_plans, text_of, timed_plan
+from linux.plans import Sent, link_plan, random_plan, small_plans, text_of, timed_plan
 from linux.wrong import NOT_SHOWN, SHOWN
 
 A_BOOT = 2000
@@ -44,7 +44,7 @@ class Many:
         self.folder, self.seed, self.program, self.tell = folder, seed, program, tell
         self.kinds, self.counts, self.totals, self.fates = {}, Counter(), Counter(), Counter()
         self.noticed, self.tried = Counter(), 0
-        self.told, self.unexplained = None, []
+        self.told, self.classes, self.unexplained = None, (0, 0, []), []
         shutil.rmtree(folder, ignore_errors=True)
         folder.mkdir(parents=True)
 
@@ -69,8 +69,8 @@ class Many:
 
     # One sender
 
-    def plans_of_one_sender(self, count, small, timed):
-        yield from examples()
+    def plans_of_one_sender(self, count, small, timed, links):
+        yield from examples() if count else []
         for i, of in enumerate(small_plans() if small else []):
             yield f"small-{i}", sent(*of)
         chance = random.Random(self.seed)
@@ -80,10 +80,13 @@ class Many:
         chance = random.Random(self.seed)
         for i in range(timed):
             yield f"timed-{i}", sent(*timed_plan(chance))
+        chance = random.Random(self.seed)
+        for i in range(links):
+            yield f"link-{i}", sent(*link_plan(chance))
 
-    def one_sender(self, count, small=True, timed=0):
+    def one_sender(self, count, small=True, timed=0, links=0):
         batch = []
-        for it in self.plans_of_one_sender(count, small, timed):
+        for it in self.plans_of_one_sender(count, small, timed, links):
             batch.append(it)
             if len(batch) == A_BOOT:
                 self.do_batch(batch)
@@ -107,7 +110,7 @@ class Many:
         if lines is None:
             self.keep(name, packets, [], ["the guest gave no answer"])
             return
-        answers = Answers(lines)
+        answers = Answers(lines, packets.card)
         verdict = judge(packets, answers)
         if verdict.agrees:
             self.counts[kind, "agree"] += 1
@@ -119,7 +122,7 @@ class Many:
         if verdict.kernel_fates:
             self.add_totals(verdict, packets, lines)
         self.ask_program(name, packets, verdict, lines)
-        if verdict.agrees and kind not in ("small", "example") and self.tried < SHARPNESS:
+        if verdict.agrees and kind not in ("small", "example", "link") and self.tried < SHARPNESS:
             self.try_wrong_rules(packets, answers)
 
     def add_totals(self, verdict, packets, lines):
@@ -182,7 +185,8 @@ class Many:
         yield from (f"{what}: {number}" for what, number in sorted(self.totals.items()))
         yield "fates of one sender's packets: " + ", ".join(f"{number} {what}" for what, number in self.fates.most_common())
         good, total, faults = self.classes
-        yield f"classification: {good} of {total} as the rules say"
+        if total:
+            yield f"classification: {good} of {total} as the rules say"
         yield from faults[:10]
         if self.tried:
             yield f"wrong rules, of {self.tried} plans that agree each is noticed in:"

@@ -7,6 +7,7 @@ from lib.captures import PRIORITY_OF_SERVICE
 from lib.packets import Packets
 from lib.places import Places
 from lib.plans import PARAMS, Event, Plan, Station
+from lib.wire import frame_lengths
 from lib.words import Failed
 
 # A packet socket takes frames from 14 bytes on; of a long one the path looks at no byte behind these.
@@ -29,9 +30,12 @@ class Sent(Places):
 
     def __init__(self, plan, capture):
         super().__init__(plan, capture)
-        self.priorities = capture.services.translate(PRIORITY_OF_SERVICE)
+        self.priorities = capture.services.translate(PRIORITY_OF_SERVICE) if plan.classify == "tos" else bytes(len(capture))
+        self.card, self.moves = plan.station[0].card, None
         of = Packets(capture)
         self.frames = [bytes(capture.data[at : at + min(captured, LONGEST)]).ljust(SHORTEST, b"\0") for at, captured in zip(of.frames, of.captured)]
+        if self.card:
+            self.frames = list(map(of_length, self.frames, frame_lengths(capture)))
         self.parents = [at for at, it in enumerate(plan.station) for _ in range(it.mq)]
         self.firsts = [it[0] for it in plan.children]
 
@@ -42,6 +46,13 @@ class Sent(Places):
         """The device of a packet, which is that of the plan's station, and the place of its child there."""
         at = self.parents[self.stations[n]]
         return at, self.stations[n] - self.firsts[at]
+
+
+def of_length(frame, length):
+    """A frame as long as it was on the wire, which counts where it takes its time: what wasn't captured is zeros."""
+    if not SHORTEST <= length <= LONGEST:
+        raise Refused(f"a frame of {length} bytes: beside a link a guest takes {SHORTEST} to {LONGEST}")
+    return frame[:length].ljust(length, b"\0")
 
 
 def text_of(plan):
@@ -55,6 +66,8 @@ def text_of(plan):
 
 def least_version(plan):
     """The least version in which a plan can be written, but for the first."""
+    if plan.classify != "tos" or any(it.card for it in plan.station):
+        return 5
     if plan.irq_us is not None or "flow" in (plan.split, plan.spread):
         return 4
     return 3 if plan.groups else 2
@@ -107,7 +120,7 @@ def random_events(chance, stations, count):
     for before in sorted(chance.randint(0, count + 1) for _ in range(chance.choice([0, 0, 1, 1, 2, 3, 5, 8]))):
         j = chance.randrange(len(stations))
         kind = chance.choice(["down", "resize", "tx_queue_len", "swap"]) if active[j] else "up"
-        if kind == "swap" and (stations[j].mq > 1 or room == 0):
+        if kind == "swap" and (stations[j].mq > 1 or stations[j].card or room == 0):
             kind = "down"
         room -= kind == "swap"
         active[j] = kind != "down"
@@ -153,6 +166,25 @@ def timed_plan(chance):
     # bytes that would be the ports of UDP
     frames = [it[:23] + bytes([17]) + it[24:] + chance.randbytes(4) if len(it) == 34 and chance.random() < 0.5 else it for it in frames]
     return plan._replace(irq_every=1, irq_us=period, spread=chance.choice(["bytes", "flow", "flow"])), frames, times
+
+
+def link_plan(chance):
+    """A plan with a link, its frames, and when each comes: in bursts and pauses of about a frame's time at the link's rate."""
+    rate = chance.choice([1000, 8000, 10_000, 33_333, 100_000, 999_983, 1_000_000, 2_500_000])
+    whole = 1538 * 8 * 10**6 // rate
+    sizes = chance.choice([[60], [1514], [60, 1514], range(SHORTEST, 1515), [60, 590, 1514]])
+    classes = chance.choice([[0], [0, 8, 16]])
+    time, frames, times = chance.randrange(10**9), [], []
+    for i in range(chance.choice([1, 2, 5, 20, 60, 150])):
+        size = chance.choice(sizes)
+        frames.append(frame(chance.choice(classes), 0, 0, i)[:size].ljust(size, b"\0"))
+        times.append(time)
+        time += chance.choice([0, 0, 1, whole // 10, whole // 3, whole, chance.randrange(3 * whole + 1), 20 * whole if chance.random() < 0.1 else 0])
+    limit = {"ring": chance.choice([1, 1, 2, 3, 8, 70, 256])} if chance.random() < 0.4 else {"bql": chance.choice([1, 1514, 3000, 10_000, 100_000])}
+    station = Station(len=chance.choice([1, 2, 3, 5, 16, 31, 32, 33, 40, 100]), bypass=chance.random() < 0.6, rate_kbit=rate, **limit,
+                      coalesce_us=chance.choice([0, 0, 1, 20, 50, 250, 1000]), **chance.choice([{}, {}, {"overhead": 0, "mpu": 64}, {"overhead": 7, "mpu": 0}]))
+    events = random_events(chance, [station], len(frames)) if chance.random() < 0.3 else []
+    return Plan(station=[station], event=events, classify=chance.choice(["tos", "tos", "none"])), frames, times
 
 
 SMALL_EVENTS = {

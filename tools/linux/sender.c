@@ -7,6 +7,8 @@
  *
  *   case NAME
  *   new J LEN QUEUES SHARED ROOM BURST BUSY_EVERY BUSY_LIMIT HANG_AFTER BYPASS
+ *   card J DESCRIPTORS BYTES	the device is a card's from here on
+ *   ended FRAMES		so many have left each device's wire
  *   send MARK J PRIORITY HEX	sends a frame, and tells the words
  *   wake HARD			wakes each device, and tells the words
  *   down J, up J		takes a device down or up, and tells the words
@@ -565,6 +567,12 @@ static void do_line(const char *line)
 		every_device("wake %d %d", number);
 	} else if (sscanf(line, "finish %d", &number) == 1) {
 		every_device("finish %d %d", number);
+	} else if (sscanf(line, "ended %d", &number) == 1) {
+		every_device("ended %d %d", number);
+	} else if (!strncmp(line, "card ", 5)) {
+		number = tell("%s", line);
+		if (number)
+			fprintf(out, "! %s: %d\n", line, -number);
 	} else if (!strncmp(line, "case ", 5)) {
 		fprintf(out, "%s\n", line);
 	} else if (sscanf(line, "new %d %n", &j, &at) == 1) {
