@@ -40,7 +40,7 @@ class Failed(Exception):
 def say(tool: str, line: object) -> None:
     """A line on standard error, which may be closed or full."""
     try:
-        print(f"{tool}: {line}", file=sys.stderr, flush=True)
+        print(f"{tool}: {line}\n", end="", file=sys.stderr, flush=True)
     except (OSError, ValueError):
         pass
 

@@ -112,10 +112,10 @@ class ToldWire(Wire):
 class Run(alone.Run):
     """The run of a plan by the rules, and the guest's answers that they let one expect. The guest is told of each opening."""
 
-    def __init__(self, packets, **options):
+    def __init__(self, packets, wire=ToldWire, **options):
         super().__init__(packets, **options)
         self.steps, self.last, self.moves = [], [], []
-        self.wire = self.wire and ToldWire(self.wire, self)
+        self.wire = self.wire and wire(self.wire, self)
         for number in range(len(self.devices)):
             self.tell(0, self.words(number, True))
         self.go()

@@ -12,7 +12,7 @@ from linux import classes, guest, together
 from linux.cases import Answers, Run, answers_of, case_of
 from linux.compare import judge, tell_difference
 from linux.plans import Sent, link_plan, random_plan, small_plans, text_of, timed_plan
-from linux.wrong import NOT_SHOWN, SHOWN
+from linux.wrong import NOT_SHOWN, OF_CARDS, SHOWN
 
 A_BOOT = 2000
 # How many of the plans are tried with each wrong rule.
@@ -43,7 +43,7 @@ class Many:
         self.tools, self.kernel, self.image = tools, kernel, image
         self.folder, self.seed, self.program, self.tell = folder, seed, program, tell
         self.kinds, self.counts, self.totals, self.fates = {}, Counter(), Counter(), Counter()
-        self.noticed, self.tried = Counter(), 0
+        self.noticed, self.tried = Counter(), Counter()
         self.told, self.classes, self.unexplained = None, (0, 0, []), []
         shutil.rmtree(folder, ignore_errors=True)
         folder.mkdir(parents=True)
@@ -122,7 +122,7 @@ class Many:
         if verdict.kernel_fates:
             self.add_totals(verdict, packets, lines)
         self.ask_program(name, packets, verdict, lines)
-        if verdict.agrees and kind not in ("small", "example", "link") and self.tried < SHARPNESS:
+        if verdict.agrees and kind not in ("small", "example") and self.tried[bool(packets.card)] < SHARPNESS:
             self.try_wrong_rules(packets, answers)
 
     def add_totals(self, verdict, packets, lines):
@@ -142,10 +142,10 @@ class Many:
             self.keep(f"{name}-program", packets, lines, ["the program's fates aren't those of the rules:", text])
 
     def try_wrong_rules(self, packets, answers):
-        self.tried += 1
-        for rule in [*SHOWN, *NOT_SHOWN]:
+        self.tried[bool(packets.card)] += 1
+        for rule in OF_CARDS if packets.card else [*SHOWN, *NOT_SHOWN]:
             try:
-                run = Run(packets, station=rule, endless=1000)
+                run = Run(packets, **{"wire" if packets.card else "station": rule}, endless=1000)
                 self.noticed[rule] += run.steps != answers.steps or run.last != answers.last
             except Endless:
                 self.noticed[rule] += 1
@@ -188,9 +188,11 @@ class Many:
         if total:
             yield f"classification: {good} of {total} as the rules say"
         yield from faults[:10]
-        if self.tried:
-            yield f"wrong rules, of {self.tried} plans that agree each is noticed in:"
-            yield from (f"  {self.noticed[it]:4}  {it.__doc__}" for it in SHOWN)
+        for has_card, rules in ((False, SHOWN), (True, OF_CARDS)):
+            if self.tried[has_card]:
+                yield f"wrong rules{' of a card' * has_card}, of {self.tried[has_card]} plans that agree each is noticed in:"
+                yield from (f"  {self.noticed[it]:4}  {it.__doc__}" for it in rules)
+        if self.tried[False]:
             yield "changed rules that one sender can't show:"
             yield from (f"  {self.noticed[it]:4}  {it.__doc__}" for it in NOT_SHOWN)
         yield f"differences without a known cause: {len(self.unexplained)}"

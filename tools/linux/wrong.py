@@ -1,5 +1,7 @@
 """Rules that are wrong on purpose, each by one change: how sharp the comparison is."""
 from lib.alone import DRAINING, MISSED, OPEN, Ring, Station
+from lib.wire import bytes_of_wire
+from linux.cases import ToldWire, moves_of
 
 
 class QuotaOf63(Station):
@@ -163,7 +165,59 @@ class NoRunAfterFull(Station):
             self.run()
 
 
+# Of a card.
+
+
+class WrongWire(ToldWire):
+    """A wire whose frames leave as a guest was told."""
+
+    def __init__(self, wire, run):
+        super().__init__(wire, run)
+        self.told = [[]]
+        for what, number in moves_of(run.places):
+            if what == "send":
+                self.told.append([])
+            elif what == "ended":
+                self.told[-1].append(number)
+
+    def interrupt_until(self, limit):
+        for frames in self.told[-1 if limit is None else len(self.opened) + 1]:
+            for _ in range(min(frames, len(self.ring))):
+                self.bytes -= self.ring.popleft().length
+            self.open_while_room(0)
+
+
+class OneDescriptorMore(WrongWire):
+    """the ring has one descriptor more"""
+
+    def has_room(self):
+        return super().has_room() or self.card.bql is None and len(self.ring) == self.card.ring
+
+
+class OneByteMore(WrongWire):
+    """one byte more than the limit may be out"""
+
+    def has_room(self):
+        return super().has_room() or self.card.bql is not None and self.bytes == self.card.bql + 1
+
+
+class NoRoomAtTheLimit(WrongWire):
+    """no packet is taken where as many bytes are out as the limit"""
+
+    def has_room(self):
+        return super().has_room() and self.bytes != self.card.bql
+
+
+class BytesOfTheWire(WrongWire):
+    """the limit counts the bytes that a frame takes on the wire"""
+
+    def __init__(self, wire, run):
+        super().__init__(wire, run)
+        self.lengths = [bytes_of_wire(self.card, it) for it in self.lengths]
+
+
 SHOWN = [QuotaOf63, QuotaOf65, QuotaWithoutMissed, BatchFrom31, BatchOf15, EndNotEmptied, NoDraining, BusyWithoutMissed,
          DrainingNotCleared, MissedNotCleared, RunAfterAnyBypass, RequeuedBehindItsBand, ResizeKeepsTheLast, ResizeKeepsTheHead,
          DownLeavesDraining, BandsBackwards, BandsTwoAndThreeChanged, WakeAlwaysSchedules]
 NOT_SHOWN = [NoSecondLook, NoRunAfterFull]
+OF_CARDS = [OneDescriptorMore, OneByteMore, NoRoomAtTheLimit, BytesOfTheWire]
