@@ -114,10 +114,10 @@ def emulator(tools, kernel, image, processors, more=""):
             "-append", f"console=ttyS0 quiet ipv6.disable=1 panic=-1 no_timer_check {more}".strip()]
 
 
-def boot(tools, kernel, image, share, processors=1, patience=600, steer=None):
+def boot(tools, kernel, image, share, processors=1, patience=600, steer=None, nice=0):
     """Boots the guest, which works through SHARE/*.cases and leaves an .answers beside each. `steer` is told where the emulator's debugger
     listens, if the guest's order of steps is chosen; it needs the addresses of the System.map."""
-    words = ["nice", "-n", "19", *emulator(tools, kernel, image, processors, "nokaslr"), "-virtfs", f"local,path={share},mount_tag=share,security_model=none"]
+    words = ["nice", "-n", str(nice), *emulator(tools, kernel, image, processors, "nokaslr"), "-virtfs", f"local,path={share},mount_tag=share,security_model=none"]
     console = share / "console"
     with open(console, "wb") as it, tempfile.TemporaryDirectory(prefix="beside-linux-") as room:
         debugger = Path(room) / "debugger"
