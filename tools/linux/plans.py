@@ -180,7 +180,9 @@ def link_plan(chance):
         frames.append(frame(chance.choice(classes), 0, 0, i)[:size].ljust(size, b"\0"))
         times.append(time)
         time += chance.choice([0, 0, 1, whole // 10, whole // 3, whole, chance.randrange(3 * whole + 1), 20 * whole if chance.random() < 0.1 else 0])
-    limit = {"ring": chance.choice([1, 1, 2, 3, 8, 70, 256])} if chance.random() < 0.4 else {"bql": chance.choice([1, 1514, 3000, 10_000, 100_000])}
+    # limits to which some frames come exactly, or all but a byte
+    some = max(1, sum(map(len, frames[: chance.randint(1, 4)])) - chance.choice([0, 0, 1]))
+    limit = {"ring": chance.choice([1, 1, 2, 3, 8, 70, 256])} if chance.random() < 0.4 else {"bql": chance.choice([1, some, some, 1514, 3000, 10_000, 100_000])}
     station = Station(len=chance.choice([1, 2, 3, 5, 16, 31, 32, 33, 40, 100]), bypass=chance.random() < 0.6, rate_kbit=rate, **limit,
                       coalesce_us=chance.choice([0, 0, 1, 20, 50, 250, 1000]), **chance.choice([{}, {}, {"overhead": 0, "mpu": 64}, {"overhead": 7, "mpu": 0}]))
     events = random_events(chance, [station], len(frames)) if chance.random() < 0.3 else []
