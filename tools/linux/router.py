@@ -133,9 +133,7 @@ def make_router(mtu):
         run("ip", "netns", "add", space)
     for one, space, other, beyond in PATHS:
         run("ip", "link", "add", one, "netns", space, "address", MACS[one], "type", "veth", "peer", "name", other, "netns", beyond, "address", MACS[other])
-    keys = ["ipv6.conf.all.forwarding=1", "ipv6.conf.default.accept_dad=0", "ipv4.ip_forward=1", "ipv4.conf.all.rp_filter=0", "ipv4.conf.default.rp_filter=0",
-            "ipv4.conf.r0.rp_filter=0"]  # fmt: skip
-    for key in keys:
+    for key in ("ipv6.conf.all.forwarding=1", "ipv4.ip_forward=1", "ipv4.conf.all.rp_filter=0", "ipv4.conf.r0.rp_filter=0"):
         run("ip", "netns", "exec", "router", "sysctl", "-qw", f"net.{key}")
     for space in ("source", "sink"):
         run("ip", "netns", "exec", space, "sysctl", "-qw", "net.ipv6.conf.all.disable_ipv6=1")
@@ -143,7 +141,7 @@ def make_router(mtu):
         run("ip", "-n", space, "link", "set", device, "mtu", str(mtu), "addrgenmode", "none")
         run("ip", "-n", space, "link", "set", device, "up")
     for address, neighbour, device in (("10.77.1.1/24", None, "r0"), ("10.77.2.1/24", "10.77.2.2", "r1"), ("fd77:1::1/64", None, "r0"), ("fd77:2::1/64", "fd77:2::2", "r1")):
-        run("ip", "-n", "router", "address", "add", address, "dev", device)
+        run("ip", "-n", "router", "address", "add", address, "dev", device, *["nodad"] * (":" in address))
         if neighbour:
             run("ip", "-n", "router", "neighbour", "add", neighbour, "lladdr", MACS["k0"], "dev", device, "nud", "permanent")
 
@@ -246,8 +244,9 @@ def replay(packets, rate_kbit, length):
         it.wire.send("end")
     (came, lost), (went, lost_too) = (it.hear(60) for it in (into, out))
     gone = {it.number for it in went}
+    # a few more may be the kernel's own, which reports its multicast groups
     dropped = counts()[1]
-    if lost or lost_too or len(came) != len(packets) or len(came) - len(gone) != dropped:
+    if lost or lost_too or len(came) != len(packets) or len(came) - len(gone) > dropped:
         raise Failed(f"{len(packets)} packets were sent, {len(came)} came in, {len(gone)} went out, {dropped} were dropped by the queue, and {lost + lost_too} not captured: "
                      "some were lost elsewhere", CANT_BE_HAD)  # fmt: skip
     return came, gone
