@@ -121,7 +121,8 @@ def build(call, sources):
     try:
         with contextlib.ExitStack() as stack:
             if call.given:
-                command = [sys.executable, "-S", "-B", __file__, "--answer", sources.program(answers.kind_for(outputs.Command(call.given), sources)), call.note, *call.given]
+                unproved = sources.program(answers.kind_for(outputs.Command(call.given), sources))
+                command = [sys.executable, "-S", "-B", __file__, "--answer", unproved, call.note, *call.given]
                 beside = subprocess.Popen(command, stdout=subprocess.DEVNULL)
                 stack.callback(beside.wait)
                 stack.callback(beside.terminate)

@@ -1,17 +1,26 @@
-"""Libraries that nothing but a next build needs: once the program is built each is one file, an eighth of its size."""
+"""Libraries that nothing but a next build needs: once the program is built each is one file, an eighth of its size.
+
+While a build is under way they are folders outside of the checkout: they have `.rt` and `.antt` files, and in a checkout in which a build was ended
+`rt ci` would refuse these.
+"""
 import contextlib
-import fcntl
 import filecmp
+import hashlib
 import os
 import pathlib
 import shutil
 import tarfile
 from concurrent.futures import ThreadPoolExecutor
 
+from lib.crates import TOP
+
+FILES = TOP / "build/libraries"
+FOLDERS = pathlib.Path(os.environ.get("XDG_CACHE_HOME") or "~/.cache").expanduser() / "lqtx" / f"{TOP.name}-{hashlib.sha256(bytes(TOP)).hexdigest()[:12]}"
+
 
 def file_of(library):
     """The file of a packed library. Where it is there, it counts, and not the folder: that may be there in part."""
-    return library.with_suffix(".packed")
+    return FILES / f"{library.stem}.packed"
 
 
 def is_there(library):
@@ -25,7 +34,7 @@ def forget(library):
 
 
 def _pack(library):
-    part = library.with_suffix(".part")
+    part = file_of(library).with_suffix(".part")
     with tarfile.open(part, "w:gz", compresslevel=1) as it:
         it.add(library, library.name)
     part.rename(file_of(library))
@@ -42,36 +51,14 @@ def _unpack(library):
 def pack(libraries):
     with ThreadPoolExecutor(os.cpu_count()) as pool:
         list(pool.map(_pack, (it for it in libraries if it.is_dir() and not file_of(it).is_file())))
-
-
-@contextlib.contextmanager
-def _alone(folder):
-    """Whether nothing else works in a folder; meanwhile nothing else begins to."""
-    lock = os.open(folder, os.O_RDONLY)
-    try:
-        fcntl.flock(lock, fcntl.LOCK_EX | fcntl.LOCK_NB)
-        yield True
-    except BlockingIOError:
-        yield False
-    finally:
-        os.close(lock)
-
-
-def put_away(kept):
-    """Packs the libraries of a build that was ended, and removes what was being made: `rt ci` refuses a checkout in which `.rt` files or links lie about.
-    What a build that is under way has is left to it."""
-    for folder, left in (kept, kept.glob("unproved.*/")), (kept / "libraries", (kept / "libraries").glob("*.rlib/")):
-        if folder.is_dir():
-            with _alone(folder) as is_alone:
-                there = [it for it in left if it.is_dir() and not it.is_symlink()] if is_alone else []
-                whole = [it for it in there if it.with_suffix(".sum").is_file() and not file_of(it).is_file()]
-                for it in set(there) - set(whole):
-                    shutil.rmtree(it)
-                pack(whole)
+    with contextlib.suppress(OSError):
+        FOLDERS.rmdir()
+        FOLDERS.parent.rmdir()
 
 
 def unpack(libraries):
     libraries = list(libraries)
+    FOLDERS.mkdir(parents=True, exist_ok=True)
     with ThreadPoolExecutor(os.cpu_count()) as pool:
         list(pool.map(_unpack, (it for it in libraries if file_of(it).is_file())))
     for at, library in enumerate(libraries):

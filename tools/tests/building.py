@@ -49,6 +49,7 @@ def first_build():
 def packed_libraries():
     """Equal interfaces are one file, others aren't; a packed library comes back as it was, and counts where a part of its folder is there too."""
     room, texts = ROOM / "libraries", {"low": "a", "high": "a", "other": "b"}
+    packed.FILES = packed.FOLDERS = room
     libraries = [room / f"{it}.rlib" for it in texts]
     for library, text in zip(libraries, texts.values()):
         file = library / "below/std/interface/toolchain/mir.json"

@@ -61,6 +61,25 @@ tells "the build was interrupted by signal"
 sleep 0.2
 left_behind
 
+begin "a build that is killed leaves nothing in the checkout that rt ci refuses"
+refused_by_gate() { find "$room/repo" -path "$room/repo/crates" -prune -o \( -name "*.rt" -o -name "*.antt" -o -type l \) -print; }
+# a library of its own, so that one is there and another under way
+printf 'lqtx: high\nhigh: low\nlow:\n' >"$room/repo/crates.txt"
+mkdir -p "$room/repo/crates/high/src"
+echo "one high" >"$room/repo/crates/high/src/lib.rt"
+for kind in "$room/repo/tools/build $room/made" "$room/repo/lqtx --unproved trace none"; do
+    name="killed: $kind"
+    : >plan
+    SLOW=1 TRY_SLOW=3 $kind >/dev/null 2>&1 &
+    killed=$!
+    case $kind in *build*) until grep -qs high "$room/rattle.log"; do sleep 0.05; done ;; *) until [ -s "$room/try.log" ]; do sleep 0.05; done ;; esac
+    kill -9 "$killed"
+    { wait "$killed"; } 2>/dev/null
+    [ -z "$(refused_by_gate)" ] || fault "leaves $(refused_by_gate)"
+done
+[ -n "$(find "$room/cache" -name low.rlib)" ] || fault "no library was there"
+sleep 3
+
 begin "two first builds at once"
 SLOW=0.2 "$room/repo/lqtx" words 4 >"$room/out2" 2>"$room/err2" &
 wrapper=$!
