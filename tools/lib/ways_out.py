@@ -10,8 +10,8 @@ import shutil
 import struct
 
 NANOSECONDS, CLASSIC, BLOCKS = (b"\x4d\x3c\xb2\xa1", b"\xa1\xb2\x3c\x4d"), (b"\xd4\xc3\xb2\xa1", b"\xa1\xb2\xc3\xd4"), b"\x0a\x0d\x0d\x0a"
-PACKED = {b"\x1f\x8b": "zcat", b"\x28\xb5\x2f\xfd": "zstdcat", b"\xfd7zX": "xzcat", b"BZh": "bzcat"}
-ENDINGS = (".gz", ".zst", ".xz", ".bz2", ".pcapng", ".pcap", ".cap")
+PACKED = {b"\x1f\x8b": "zcat", b"\x28\xb5\x2f\xfd": "zstdcat", b"\x04\x22\x4d\x18": "lz4cat", b"\xfd7zX": "xzcat", b"BZh": "bzcat"}
+ENDINGS = (".gz", ".zst", ".lz4", ".xz", ".bz2", ".pcapng", ".pcap", ".cap")
 # all that is looked at of a packet: the ports behind a tag and the longest IPv4 header, or behind an IPv6 header
 LOOKED_AT = 96
 # so many packets of that length aren't too long in either format
@@ -79,7 +79,8 @@ def whole(capture, why):
 def unpacked(capture):
     tool = next((it for begins, it in PACKED.items() if head_of(capture).startswith(begins)), None)
     if tool:
-        return f"it is compressed: {tool} <{quoted(capture)} >{new_name(capture, '.pcap')}"
+        source = f" ({tool} is in Debian's {tool[:-3]})" if tool in ("zstdcat", "lz4cat") and not shutil.which(tool) else ""
+        return f"it is compressed{source}: {tool} <{quoted(capture)} >{new_name(capture, '.pcap')}"
     return whole(capture, "it is neither pcap nor pcapng. If Wireshark can read it, convert it")
 
 

@@ -98,6 +98,11 @@ FOUND = [
     ("xz", lzma.compress(at_once([IPV4_FRAME])), None, ["compressed: xzcat <"], 1),
     ("bz2", bz2.compress(at_once([IPV4_FRAME])), None, ["compressed: bzcat <"], 1),
 ]
+# those that only a program compresses, where it is there
+for tool in ("zstd", "lz4"):
+    if shutil.which(tool):
+        made = subprocess.run([tool, "-q", "-c"], input=at_once([IPV4_FRAME]), stdout=subprocess.PIPE, check=True).stdout
+        FOUND.append((tool, made, None, [f"compressed: {tool}cat <"], 1))
 # captures, and plans, of which nothing is to be said
 CLEAN = [
     ("times that don't count", classic([START, START + 50_000, START + 20_000], [IPV4_FRAME] * 3), BY_COUNT),
@@ -136,9 +141,9 @@ def try_found(name, data, plan, parts, count):
     (room / f"{name}.cap").write_bytes(data)
     (room / "p.toml").write_text(plan or "", encoding="utf-8")
     said = run(HERE / "check-capture", f"{name}.cap", *["p.toml"] * bool(plan), cwd=room)
-    expect(f"check-capture, {name}", said, 4 if name in ("sections", "other-order", "cut-off", "cut-block", "empty", "text", "gz", "xz", "bz2") else 1, *parts)
+    expect(f"check-capture, {name}", said, 4 if name in ("sections", "other-order", "cut-off", "cut-block", "empty", "text", "gz", "xz", "bz2", "zstd", "lz4") else 1, *parts)
     line = next((it for it in said[1].splitlines() if parts[0] in it), "")
-    command = re.search(r": ((?:editcap|reordercap|mergecap|tshark|zcat|xzcat|bzcat|tools/check-capture) .*)", line)
+    command = re.search(r": ((?:editcap|reordercap|mergecap|tshark|zcat|xzcat|bzcat|zstdcat|lz4cat|tools/check-capture) .*)", line)
     if count is None:
         return
     made = mended(room, command[1], name) if command else fault(f"check-capture, {name}: says no command: {line}")
