@@ -47,12 +47,12 @@ class Call:
         """Looks for what is to be known of the capture. A fault of this tells nothing of the run."""
         if self.found is None:
             self.found = []
-            if self.given[:1] == ["run"] and self.command.inputs:
+            if self.given[:1] in (["run"], ["tap"]) and self.command.inputs:
                 with contextlib.suppress(Exception):
                     from lib import findings
 
                     state = self.command.state_of_inputs()
-                    self.found = findings.found_of(*reversed(self.command.inputs))
+                    self.found = findings.found_of(*reversed(self.command.inputs)) if self.given[0] == "run" else []
                     self.looked_at = state if not self.found else ""
 
     def say_found(self, code=0):

@@ -105,6 +105,16 @@ def file_of(path: str) -> Optional[Tuple]:
         return (folder, name)
 
 
+def keys_of(path: str) -> Iterator[Tuple]:
+    """What tells a file from others, in each way in which it may be found: a name of another case may have another inode, where FUSE gives them out by name."""
+    file = file_of(path)
+    if file:
+        yield file
+        if os.path.isfile(path):
+            of = os.stat(path)
+            yield (os.path.realpath(path).casefold(), of.st_size, of.st_mtime_ns)
+
+
 def file_exists_as(path: str, opened: int) -> bool:
     """Whether a name is still that of a file or folder that was opened."""
     try:
@@ -116,13 +126,14 @@ def file_exists_as(path: str, opened: int) -> bool:
 
 def refuse_inputs(inputs: Iterable[str], files: Iterable[str]) -> None:
     """Wrong where an output is one of the inputs, or one of the other outputs."""
-    read, taken = {file_of(it): str(it) for it in inputs}, {}
+    read, taken = {key: str(it) for it in inputs for key in keys_of(it)}, {}
     for it in map(str, files):
         file = file_of(it)
         if file is None:
             continue
-        if file in read:
-            raise Wrong(f"{it} is an input" + (f", {read[file]}" if it != read[file] else "") + ": the outputs need another name")
+        found = next((read[key] for key in keys_of(it) if key in read), None)
+        if found:
+            raise Wrong(f"{it} is an input" + (f", {found}" if it != found else "") + ": the outputs need another name")
         if file in taken:
             raise Wrong(f"{it} and {taken[file]} are one file: each output needs a name of its own")
         taken[file] = it
