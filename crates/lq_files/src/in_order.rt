@@ -27,6 +27,7 @@ fn is_by_time(irq: Irq) -> bool
 fn wants_order(plan: &Plan) -> bool
     ensures { result ≡ wants_order plan.now }
 {
+    plan.stays_within_limits();
     let timed = plan.station(0).card.is_some() || is_by_time(plan.irq());
     plan.version() >= FIRST_IN_ORDER && timed
 }
