@@ -1,5 +1,5 @@
--- The plan's events before a packet, one after the other.
-use Rattle.std.proofs.Common.{◌≡◌, ℕ, suc, ◌+◌, ◌≤◌, ◌==◌, Bool, true, false, cond, List, [], ◌∷◌, ◌++◌, Option, Some, filter, slice_get, refl, sym, ap, ◌∙◌, arith}
+-- Events of the plan, one after the other.
+use Rattle.std.proofs.Common.{◌≡◌, ℕ, suc, ◌+◌, ◌≤◌, Bool, true, false, cond, List, [], ◌∷◌, ◌++◌, Option, Some, filter, slice_get, refl, sym, ap, ◌∙◌, arith}
 use Rattle.std.specs.Option.{option_map_or}
 use Rattle.lq_model.specs.Alone.{RunningStation, before_of, changed, served}
 use Rattle.lq_model.specs.Capture.{Packets}
@@ -23,13 +23,13 @@ lengthened (kind.Resize len) most within = within.0
 lengthened (kind.TxQueueLen len) most within = within.0
 lengthened (kind.Swap params) most within = tt
 
--- the events below e that come before packet n
-abbrev pub below : Plan → ℕ → ℕ → List ℕ
-below plan n e = filter (λ event. before_of plan event == n) (first_numbers e)
+-- the events below e that come before such a packet
+abbrev pub below : Plan → (ℕ → Bool) → ℕ → List ℕ
+below plan test e = filter (λ event. test (before_of plan event)) (first_numbers e)
 
 -- those were done
-pub record HaveDone (plan : Plan) (packets : Packets) (now n e : ℕ) (old m : Linked) : Type 0 where
-  pub done : (infos : List Info) (w : Wired) → HaveOneQueue infos → IsWired old w → StepsTo old.wire.card packets now (with_changes plan infos (below plan n e)) w m
+pub record HaveDone (plan : Plan) (packets : Packets) (test : ℕ → Bool) (now e : ℕ) (old m : Linked) : Type 0 where
+  pub done : (infos : List Info) (w : Wired) → HaveOneQueue infos → IsWired old w → StepsTo old.wire.card packets now (with_changes plan infos (below plan test e)) w m
   pub loaded : load m ≤ load old
   pub bypass : m.station.bypass ≡ old.station.bypass
   pub card : m.wire.card ≡ old.wire.card
@@ -48,21 +48,21 @@ module _ (plan : Plan) (infos : List Info) where
   both (x ∷ xs) ys s = both xs ys _
 
   -- one event more is looked at
-  looked : (n e : ℕ) (event : EventPlan) (b : Bool) (s : RunningStation) → slice_get plan.events e ≡ Some event → (event.before == n) ≡ b
-      → with_changes plan infos (below plan n (e + 1)) s ≡ with_changes plan infos (cond b (e ∷ []) []) (with_changes plan infos (below plan n e) s)
-  looked n e event b s is now =
-      let test : (before_of plan e == n) ≡ b = ap (λ (o : Option EventPlan). option_map_or (λ v. v.before) o 0 == n) is ∙ now in
+  looked : (test : ℕ → Bool) (e : ℕ) (event : EventPlan) (b : Bool) (s : RunningStation) → slice_get plan.events e ≡ Some event → test event.before ≡ b
+      → with_changes plan infos (below plan test (e + 1)) s ≡ with_changes plan infos (cond b (e ∷ []) []) (with_changes plan infos (below plan test e) s)
+  looked test e event b s is now =
+      let so : test (before_of plan e) ≡ b = ap (λ (o : Option EventPlan). test (option_map_or (λ v. v.before) o 0)) is ∙ now in
       let next : e + 1 ≡ suc e = omega arith in
-      ap (λ (k : ℕ). with_changes plan infos (below plan n k) s) next
-      ∙ (ap (λ (l : List ℕ). with_changes plan infos l s) (last-of (λ event. before_of plan event == n) (first_numbers e) e)
-      ∙ (ap (λ (c : Bool). with_changes plan infos (below plan n e ++ cond c (e ∷ []) []) s) test ∙ both (below plan n e) (cond b (e ∷ []) []) s))
+      ap (λ (k : ℕ). with_changes plan infos (below plan test k) s) next
+      ∙ (ap (λ (l : List ℕ). with_changes plan infos l s) (last-of (λ event. test (before_of plan event)) (first_numbers e) e)
+      ∙ (ap (λ (c : Bool). with_changes plan infos (below plan test e ++ cond c (e ∷ []) []) s) so ∙ both (below plan test e) (cond b (e ∷ []) []) s))
 
-  pub one-more : (n e : ℕ) (event : EventPlan) (s : RunningStation) → slice_get plan.events e ≡ Some event → (event.before == n) ≡ true
-      → served infos (changed plan e event.kind (with_changes plan infos (below plan n e) s)) ≡ with_changes plan infos (below plan n (e + 1)) s
-  one-more n e event s is now =
-      let t = with_changes plan infos (below plan n e) s in
-      sym (looked n e event true s is now ∙ ap (λ (o : Option EventPlan). option_map_or (λ v. served infos (changed plan e v.kind t)) o t) is)
+  pub one-more : (test : ℕ → Bool) (e : ℕ) (event : EventPlan) (s : RunningStation) → slice_get plan.events e ≡ Some event → test event.before ≡ true
+      → served infos (changed plan e event.kind (with_changes plan infos (below plan test e) s)) ≡ with_changes plan infos (below plan test (e + 1)) s
+  one-more test e event s is now =
+      let t = with_changes plan infos (below plan test e) s in
+      sym (looked test e event true s is now ∙ ap (λ (o : Option EventPlan). option_map_or (λ v. served infos (changed plan e v.kind t)) o t) is)
 
-  pub none-more : (n e : ℕ) (event : EventPlan) (s : RunningStation) → slice_get plan.events e ≡ Some event → (event.before == n) ≡ false
-      → with_changes plan infos (below plan n e) s ≡ with_changes plan infos (below plan n (e + 1)) s
-  none-more n e event s is now = sym (looked n e event false s is now)
+  pub none-more : (test : ℕ → Bool) (e : ℕ) (event : EventPlan) (s : RunningStation) → slice_get plan.events e ≡ Some event → test event.before ≡ false
+      → with_changes plan infos (below plan test e) s ≡ with_changes plan infos (below plan test (e + 1)) s
+  none-more test e event s is now = sym (looked test e event false s is now)

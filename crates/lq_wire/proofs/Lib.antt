@@ -10,7 +10,13 @@ pub mod Openings
 pub mod Changes
 -- the station of a plan, with nothing brought yet
 pub mod Starts
+-- what a card does, whichever packets were told
+pub mod Told
 -- a packet, and what follows it
 pub mod Turns
 -- a plan with a card fits it
 pub mod Fits
+-- lines of packets, one after the other
+pub mod Lines
+-- the packets that a card accepted, turn by turn
+pub mod Flights

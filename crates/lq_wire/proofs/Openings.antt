@@ -1,5 +1,5 @@
 -- Openings and interrupts, one after the other.
-use Rattle.std.proofs.Common.{◌≡◌, ℕ, zero, suc, ◌+◌, ◌-◌, ◌<◌, ◌&&◌, Bool, true, false, List, [], ◌∷◌, Some, None, nat_le, refl, sym, ap, subst, ◌∙◌, arith}
+use Rattle.std.proofs.Common.{◌≡◌, ℕ, zero, suc, ◌+◌, ◌-◌, ◌<◌, ◌&&◌, Bool, true, false, List, [], ◌∷◌, Some, None, refl, sym, ap, subst, ◌∙◌, arith}
 use Rattle.std.proofs.lemmas.Bool.{cond-false, cond-true}
 use Rattle.lq_model.specs.Alone.{opened, served}
 use Rattle.lq_model.specs.Capture.{Packets}
@@ -8,7 +8,7 @@ use Rattle.lq_model.specs.declared.fate.Info.{Info}
 use Rattle.lq_model.specs.declared.flight.Flight.{Flight}
 use Rattle.lq_model.specs.declared.plan.Card.{Card}
 use Rattle.lq_wire.specs.Wire.{due_at}
-use Rattle.lq_wire.specs.Wired.{due_by, InterruptsOn, HasOpened, IsWired, OpensOn, StepsTo}
+use Rattle.lq_wire.specs.Wired.{InterruptsOn, HasOpened, IsWired, OpensOn, StepsTo}
 use Rattle.lq_wire.specs.declared.wired.Wired.{Wired as Linked}
 
 module _ (card : Card) (packets : Packets) (infos : List Info) where
@@ -53,58 +53,58 @@ module _ (card : Card) (packets : Packets) (infos : List Info) where
 
   -- INTERRUPTS
 
-  pub goes-first : (until left : ℕ) (o : OpenedSoFar) (m : Linked) → IsWired m o.wired → InterruptsOn card packets infos (due_by until) (interrupted_while card packets infos (due_by until) left o) o left 0 m
-  goes-first until left o m wired = record { here = o; same = refl; opened = record { wired = wired; times = omega arith } }
+  pub goes-first : (due : ℕ → Bool) (left : ℕ) (o : OpenedSoFar) (m : Linked) → IsWired m o.wired → InterruptsOn card packets infos due (interrupted_while card packets infos due left o) o left 0 m
+  goes-first due left o m wired = record { here = o; same = refl; opened = record { wired = wired; times = omega arith } }
 
-  none-due : (until : ℕ) (go_on : OpenedSoFar → OpenedSoFar) (ring : List Flight) (o : OpenedSoFar) → due_at card until ring ≡ None → next_interrupt card packets infos (due_by until) go_on ring o ≡ o
-  none-due until go_on [] o e = refl
-  none-due until go_on (f ∷ ring) o e = by (nat_le (f.ends + delay card) until) refl
+  none-due : (due : ℕ → Bool) (go_on : OpenedSoFar → OpenedSoFar) (ring : List Flight) (o : OpenedSoFar) → due_at card due ring ≡ None → next_interrupt card packets infos due go_on ring o ≡ o
+  none-due due go_on [] o e = refl
+  none-due due go_on (f ∷ ring) o e = by (due (f.ends + delay card)) refl
     where
-      by : (b : Bool) → nat_le (f.ends + delay card) until ≡ b → next_interrupt card packets infos (due_by until) go_on (f ∷ ring) o ≡ o
-      by false late = cond-false (nat_le (f.ends + delay card) until) _ _ late
-      by true early = absurd (let some = sym (cond-true (nat_le (f.ends + delay card) until) (Some (f.ends + delay card)) None early) ∙ e in cc)
+      by : (b : Bool) → due (f.ends + delay card) ≡ b → next_interrupt card packets infos due go_on (f ∷ ring) o ≡ o
+      by false late = cond-false (due (f.ends + delay card)) _ _ late
+      by true early = absurd (let some = sym (cond-true (due (f.ends + delay card)) (Some (f.ends + delay card)) None early) ∙ e in cc)
 
-  one-due : (until now : ℕ) (go_on : OpenedSoFar → OpenedSoFar) (ring : List Flight) (o : OpenedSoFar) → due_at card until ring ≡ Some now
-      → next_interrupt card packets infos (due_by until) go_on ring o ≡ go_on (interrupted card packets infos now o)
-  one-due until now go_on [] o e = absurd cc
-  one-due until now go_on (f ∷ ring) o e = by (nat_le (f.ends + delay card) until) refl
+  one-due : (due : ℕ → Bool) (now : ℕ) (go_on : OpenedSoFar → OpenedSoFar) (ring : List Flight) (o : OpenedSoFar) → due_at card due ring ≡ Some now
+      → next_interrupt card packets infos due go_on ring o ≡ go_on (interrupted card packets infos now o)
+  one-due due now go_on [] o e = absurd cc
+  one-due due now go_on (f ∷ ring) o e = by (due (f.ends + delay card)) refl
     where
-      by : (b : Bool) → nat_le (f.ends + delay card) until ≡ b → next_interrupt card packets infos (due_by until) go_on (f ∷ ring) o ≡ go_on (interrupted card packets infos now o)
-      by false late = absurd (let none = sym (cond-false (nat_le (f.ends + delay card) until) (Some (f.ends + delay card)) None late) ∙ e in cc)
+      by : (b : Bool) → due (f.ends + delay card) ≡ b → next_interrupt card packets infos due go_on (f ∷ ring) o ≡ go_on (interrupted card packets infos now o)
+      by false late = absurd (let none = sym (cond-false (due (f.ends + delay card)) (Some (f.ends + delay card)) None late) ∙ e in cc)
       by true early =
-          cond-true (nat_le (f.ends + delay card) until) _ _ early
-          ∙ ap (λ (t : ℕ). go_on (interrupted card packets infos t o)) (some-is (sym (cond-true (nat_le (f.ends + delay card) until) (Some (f.ends + delay card)) None early) ∙ e))
+          cond-true (due (f.ends + delay card)) _ _ early
+          ∙ ap (λ (t : ℕ). go_on (interrupted card packets infos t o)) (some-is (sym (cond-true (due (f.ends + delay card)) (Some (f.ends + delay card)) None early) ∙ e))
         where
           some-is : {a b : ℕ} → Some a ≡ Some b → a ≡ b
           some-is is = cc
 
-  pub goes-stop : (until left count : ℕ) (last first : OpenedSoFar) (m : Linked) (on : InterruptsOn card packets infos (due_by until) last first left count m) → due_at card until on.here.wired.ring ≡ None → HasOpened last first count m
-  goes-stop until left count last first m on none = record { wired = subst (λ (o : OpenedSoFar). IsWired m o.wired) (sym is) on.opened.wired; times = ap (λ (o : OpenedSoFar). o.times) is ∙ on.opened.times }
+  pub goes-stop : (due : ℕ → Bool) (left count : ℕ) (last first : OpenedSoFar) (m : Linked) (on : InterruptsOn card packets infos due last first left count m) → due_at card due on.here.wired.ring ≡ None → HasOpened last first count m
+  goes-stop due left count last first m on none = record { wired = subst (λ (o : OpenedSoFar). IsWired m o.wired) (sym is) on.opened.wired; times = ap (λ (o : OpenedSoFar). o.times) is ∙ on.opened.times }
     where
-      stays : (left : ℕ) (o : OpenedSoFar) → due_at card until o.wired.ring ≡ None → interrupted_while card packets infos (due_by until) left o ≡ o
+      stays : (left : ℕ) (o : OpenedSoFar) → due_at card due o.wired.ring ≡ None → interrupted_while card packets infos due left o ≡ o
       stays zero o e = refl
-      stays (suc left) o e = none-due until (interrupted_while card packets infos (due_by until) left) o.wired.ring o e
+      stays (suc left) o e = none-due due (interrupted_while card packets infos due left) o.wired.ring o e
 
       is : last ≡ on.here
       is = on.same ∙ stays left on.here none
 
-  pub goes-end : (until count : ℕ) (last first : OpenedSoFar) (m : Linked) → InterruptsOn card packets infos (due_by until) last first 0 count m → HasOpened last first count m
-  goes-end until count last first m on = record { wired = subst (λ (o : OpenedSoFar). IsWired m o.wired) (sym on.same) on.opened.wired; times = ap (λ (o : OpenedSoFar). o.times) on.same ∙ on.opened.times }
+  pub goes-end : (due : ℕ → Bool) (count : ℕ) (last first : OpenedSoFar) (m : Linked) → InterruptsOn card packets infos due last first 0 count m → HasOpened last first count m
+  goes-end due count last first m on = record { wired = subst (λ (o : OpenedSoFar). IsWired m o.wired) (sym on.same) on.opened.wired; times = ap (λ (o : OpenedSoFar). o.times) on.same ∙ on.opened.times }
 
-  pub goes-more : (until now left count more : ℕ) (last first : OpenedSoFar) (m new : Linked) (on : InterruptsOn card packets infos (due_by until) last first (suc left) count m) → due_at card until on.here.wired.ring ≡ Some now
-      → HasOpened (interrupted card packets infos now on.here) on.here more new → InterruptsOn card packets infos (due_by until) last first left (count + more) new
-  goes-more until now left count more last first m new on some has = record {
+  pub goes-more : (due : ℕ → Bool) (now left count more : ℕ) (last first : OpenedSoFar) (m new : Linked) (on : InterruptsOn card packets infos due last first (suc left) count m) → due_at card due on.here.wired.ring ≡ Some now
+      → HasOpened (interrupted card packets infos now on.here) on.here more new → InterruptsOn card packets infos due last first left (count + more) new
+  goes-more due now left count more last first m new on some has = record {
     here = interrupted card packets infos now on.here;
-    same = on.same ∙ one-due until now (interrupted_while card packets infos (due_by until) left) on.here.wired.ring on.here some;
+    same = on.same ∙ one-due due now (interrupted_while card packets infos due left) on.here.wired.ring on.here some;
     opened = record { wired = has.wired; times = let before = on.opened.times in let here = has.times in omega arith };
   }
 
-  pub goes-next : (until now left count more : ℕ) (last first : OpenedSoFar) (m new : Linked) (on : InterruptsOn card packets infos (due_by until) last first left count m) → 0 < left → due_at card until on.here.wired.ring ≡ Some now
-      → HasOpened (interrupted card packets infos now on.here) on.here more new → InterruptsOn card packets infos (due_by until) last first (left - 1) (count + more) new
-  goes-next until now zero count more last first m new on some comes has = absurd (omega arith)
-  goes-next until now (suc left) count more last first m new on some comes has =
+  pub goes-next : (due : ℕ → Bool) (now left count more : ℕ) (last first : OpenedSoFar) (m new : Linked) (on : InterruptsOn card packets infos due last first left count m) → 0 < left → due_at card due on.here.wired.ring ≡ Some now
+      → HasOpened (interrupted card packets infos now on.here) on.here more new → InterruptsOn card packets infos due last first (left - 1) (count + more) new
+  goes-next due now zero count more last first m new on some comes has = absurd (omega arith)
+  goes-next due now (suc left) count more last first m new on some comes has =
       let same : left ≡ suc left - 1 = omega arith in
-      subst (λ (k : ℕ). InterruptsOn card packets infos (due_by until) last first k (count + more) new) same (goes-more until now left count more last first m new on comes has)
+      subst (λ (k : ℕ). InterruptsOn card packets infos due last first k (count + more) new) same (goes-more due now left count more last first m new on comes has)
 
-  pub goes-done : (until left count : ℕ) (last first : OpenedSoFar) (m : Linked) → InterruptsOn card packets infos (due_by until) last first left count m → left ≡ 0 → HasOpened last first count m
-  goes-done until left count last first m on none = goes-end until count last first m (subst (λ (k : ℕ). InterruptsOn card packets infos (due_by until) last first k count m) none on)
+  pub goes-done : (due : ℕ → Bool) (left count : ℕ) (last first : OpenedSoFar) (m : Linked) → InterruptsOn card packets infos due last first left count m → left ≡ 0 → HasOpened last first count m
+  goes-done due left count last first m on none = goes-end due count last first m (subst (λ (k : ℕ). InterruptsOn card packets infos due last first k count m) none on)

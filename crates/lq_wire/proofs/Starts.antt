@@ -1,5 +1,5 @@
 -- The station of a plan, with nothing brought yet.
-use Rattle.std.proofs.Common.{ℕ, true, None, [], refl, ap₂, ◌∙◌}
+use Rattle.std.proofs.Common.{◌≡◌, ℕ, true, List, [], ◌∷◌, None, Some, slice_get, refl, sym, ap, ap₂, ◌∙◌}
 use Rattle.lq_model.specs.Account.{new_account}
 use Rattle.lq_model.specs.Alone.{RunningStation, new_station}
 use Rattle.lq_model.specs.Band.{empty_band}
@@ -26,3 +26,10 @@ module _ (station : StationPlan) (stop : HasOneStop station) where
         high = refl;
         down = refl;
       }
+
+some-is : {X : Type 0} {a b : X} → Some a ≡ Some b → a ≡ b
+some-is is = cc
+
+-- the first of a plan's stations, where there is one
+pub station-is : (ss : List StationPlan) (found station : StationPlan) → slice_get ss 0 ≡ Some found → ss ≡ station ∷ [] → station ≡ found
+station-is ss found station at one = some-is (sym (ap (λ (l : List StationPlan). slice_get l 0) one) ∙ at)

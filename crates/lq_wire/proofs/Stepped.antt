@@ -38,7 +38,7 @@ module _ (card : Card) (packets : Packets) (now : ℕ) where
   pub steps-to : (step : RunningStation → RunningStation) (accepted : Option ℕ) (w : Wired) (m : Linked) → StepsLone accepted (lone_state m.station) w.station (step w.station)
       → IsWire m.wire (with_flights card packets now (option_to_list accepted) w) → StepsTo card packets now step w m
   steps-to step accepted w m steps wire = record {
-    wired = subst (IsWired m) (sym (stepped-as step w (option_to_list accepted) steps.sent)) (record { station = steps.is; wire = record { ring = wire.ring; free = wire.free } });
+    wired = subst (IsWired m) (sym (stepped-as step w (option_to_list accepted) steps.sent)) (record { station = steps.is; wire = record { ring = wire.ring; free = wire.free; flights = wire.flights } });
     more = option_to_list accepted;
     sent = steps.sent;
   }

@@ -1,5 +1,5 @@
 -- A packet, and what follows it.
-use Rattle.std.proofs.Common.{◌≡◌, ℕ, suc, ◌+◌, ◌*◌, ◌<◌, ◌≤◌, Bool, cond, List, [], ◌∷◌, nat_lt, slice_get, sym, ap, ap₂, subst, ◌∙◌, arith}
+use Rattle.std.proofs.Common.{◌≡◌, ℕ, suc, ◌+◌, ◌*◌, ◌<◌, ◌≤◌, Bool, cond, List, [], ◌∷◌, Some, nat_lt, slice_get, sym, ap, ap₂, subst, ◌∙◌, arith}
 use Rattle.std.proofs.lemmas.Bool.{cond-false, le-leb, lt-leb}
 use Rattle.std.specs.Option.{option_map_or}
 use Rattle.std.specs.Prelude.{min}
@@ -10,8 +10,10 @@ use Rattle.lq_model.specs.Wire.{OpenedSoFar, Wired, after_wired, all_interrupted
 use Rattle.lq_model.specs.declared.fate.Info.{Info}
 use Rattle.lq_model.specs.declared.plan.Card.{Card}
 use Rattle.lq_model.specs.declared.plan.StationPlan.{StationPlan}
-use Rattle.lq_wire.specs.Wired.{HasOpened, HasTurned, IsWired, StepsTo, due_by}
+use Rattle.lq_wire.specs.Wire.{due_by}
+use Rattle.lq_wire.specs.Wired.{HasOpened, HasTurned, IsWired, StepsTo, none_told}
 use Rattle.lq_wire.proofs.Stepped.{steps-then}
+use Rattle.lq_wire.proofs.Told.{times-untold}
 use Rattle.lq_wire.specs.declared.wired.Wired.{Wired as Linked}
 
 module _ (card : Card) (plan : Plan) (packets : Packets) (infos : List Info) (station : StationPlan) where
@@ -23,12 +25,12 @@ module _ (card : Card) (plan : Plan) (packets : Packets) (infos : List Info) (st
   moment-is n now time is of = is ∙ ap (λ (t : ℕ). min t 0xffff_ffff_ffff_ffff * card.rate_kbit) of
 
   -- the events before it, and the packet
-  pub comes : (n now : ℕ) (m new : Linked) → now ≡ moment card packets n → StepsTo card packets now (with_changes plan infos (events_before plan n)) (at n) m
-      → StepsTo card packets now (λ s. served infos (brought_in infos (bypass_of plan 0) n s)) (made_at card packets now (with_changes plan infos (events_before plan n)) (at n)) new
-      → IsWired new (wired_with card plan packets infos n (at n))
-  comes n now m new is first next =
-      subst (λ (t : ℕ). IsWired new (made_at card packets t (λ s. served infos (brought_in infos (bypass_of plan 0) n (with_changes plan infos (events_before plan n) s))) (at n))) is
-      (steps-then card packets now (with_changes plan infos (events_before plan n)) (λ s. served infos (brought_in infos (bypass_of plan 0) n s)) (at n) m new first next).wired
+  pub comes : (n now : ℕ) (w : Wired) (m new : Linked) → now ≡ moment card packets n → StepsTo card packets now (with_changes plan infos (events_before plan n)) w m
+      → StepsTo card packets now (λ s. served infos (brought_in infos (bypass_of plan 0) n s)) (made_at card packets now (with_changes plan infos (events_before plan n)) w) new
+      → IsWired new (wired_with card plan packets infos n w)
+  comes n now w m new is first next =
+      subst (λ (t : ℕ). IsWired new (made_at card packets t (λ s. served infos (brought_in infos (bypass_of plan 0) n (with_changes plan infos (events_before plan n) s))) w)) is
+      (steps-then card packets now (with_changes plan infos (events_before plan n)) (λ s. served infos (brought_in infos (bypass_of plan 0) n s)) w m new first next).wired
 
   opens-are : plan.stations ≡ station ∷ [] → (n : ℕ) → n + 1 < packets.count → openings_of_card card plan packets infos n ≡ (turned card plan packets infos n (at n)).times
   unfolding openings_of_card
@@ -44,15 +46,15 @@ module _ (card : Card) (plan : Plan) (packets : Packets) (infos : List Info) (st
   turned-last n m last = record { opens = sym (none-opens n last); next = λ more. absurd (omega arith) }
 
   abbrev opened-by : ℕ → ℕ → ℕ → OpenedSoFar
-  opened-by now until n = all_interrupted card packets infos (due_by until) (opened_at card packets infos now (record { times = 0; wired = wired_with card plan packets infos n (at n) }))
+  opened-by now until n =
+      all_interrupted card packets infos (due_by (Some until)) (opened_at card packets infos now (record { times = 0; wired = wired_with card plan packets infos n (none_told (at n)) }))
 
   pub turned-on : plan.stations ≡ station ∷ [] → (n now until times : ℕ) (m : Linked) → n + 1 < packets.count → now ≡ moment card packets n → until ≡ moment card packets (n + 1)
-      → HasOpened (opened-by now until n) (record { times = 0; wired = wired_with card plan packets infos n (at n) }) times m → HasTurned card plan packets infos station n times m
+      → HasOpened (opened-by now until n) (record { times = 0; wired = wired_with card plan packets infos n (none_told (at n)) }) times m → HasTurned card plan packets infos station n times m
   turned-on stations n now until times m there now-is until-is has =
-      let same : opened-by now until n ≡ turned card plan packets infos n (at n) = ap₂ (λ (a b : ℕ). opened-by a b n) now-is until-is in
+      let same : opened-by now until n ≡ turned card plan packets infos n (none_told (at n)) = ap₂ (λ (a b : ℕ). opened-by a b n) now-is until-is in
       let counts : (opened-by now until n).times ≡ times = has.times ∙ (let none : 0 + times ≡ times = omega arith in none) in
-      let next : suc n ≡ n + 1 = omega arith in
       record {
-        opens = sym (opens-are stations n there ∙ (ap (λ (o : OpenedSoFar). o.times) (sym same) ∙ counts));
-        next = λ more. subst (λ (k : ℕ). IsWired m (at k)) next (subst (λ (o : OpenedSoFar). IsWired m o.wired) same has.wired);
+        opens = sym (opens-are stations n there ∙ (times-untold card plan packets infos n (at n) ∙ (ap (λ (o : OpenedSoFar). o.times) (sym same) ∙ counts)));
+        next = λ more. subst (λ (o : OpenedSoFar). IsWired m o.wired) same has.wired;
       }

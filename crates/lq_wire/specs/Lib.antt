@@ -2,3 +2,5 @@
 pub mod Wire
 -- a station with its card, as code has them
 pub mod Wired
+-- the packets that were accepted, told turn by turn
+pub mod Times

@@ -1,9 +1,9 @@
 -- A station with its card, as code has them.
-use Rattle.std.specs.Prelude.{◌≡◌, ◌<◌, ℕ, ◌+◌, Bool, true, false, nat_le, if◌then◌else◌, List, ◌++◌, Some, slice_get}
+use Rattle.std.specs.Prelude.{◌≡◌, ◌<◌, ℕ, ◌+◌, Bool, true, false, if◌then◌else◌, List, [], ◌++◌, Some, slice_get}
 use Rattle.lq_model.specs.Alone.{RunningStation}
 use Rattle.lq_model.specs.Capture.{Packets}
 use Rattle.lq_model.specs.Plan.{Plan, is_at, is_swap_kind}
-use Rattle.lq_model.specs.Wire.{OpenedSoFar, Wired, after_wired, first_wired, interrupted_while, opened_while, openings_of_card, sent_now, made_at}
+use Rattle.lq_model.specs.Wire.{OpenedSoFar, Wired, after_wired, first_wired, interrupted_while, opened_while, openings_of_card, sent_now, made_at, turned}
 use Rattle.lq_model.specs.declared.fate.Info.{Info}
 use Rattle.lq_model.specs.declared.plan.Card.{Card}
 use Rattle.lq_model.specs.declared.plan.EventPlan.{EventPlan}
@@ -16,6 +16,7 @@ use Rattle.lq_wire.specs.declared.wired.Wired.{Wired as Linked}
 pub record IsWire (m : Wire) (w : Wired) : Type 0 where
   pub ring : m.ring.items ≡ w.ring
   pub free : m.free ≡ w.free
+  pub flights : m.untold.items ≡ w.flights
 
 -- it is this station with its card
 pub record IsWired (m : Linked) (w : Wired) : Type 0 where
@@ -35,10 +36,6 @@ pub record StepsTo (card : Card) (packets : Packets) (now : ℕ) (step : Running
   pub wired : IsWired m (made_at card packets now step w)
   pub more : List ℕ
   pub sent : sent_now (step w.station) ≡ sent_now w.station ++ more
-
--- an interrupt is due up to a moment
-abbrev pub due_by : ℕ → ℕ → Bool
-due_by until now = nat_le now until
 
 -- what was opened so often is it
 pub record HasOpened (last first : OpenedSoFar) (count : ℕ) (m : Linked) : Type 0 where
@@ -70,7 +67,11 @@ pub record AreForCard (plan : Plan) : Type 0 where
   pub at : (e : ℕ) (event : EventPlan) → slice_get plan.events e ≡ Some event → is_at 0 event ≡ true
   pub no_swap : (e : ℕ) (event : EventPlan) → slice_get plan.events e ≡ Some event → is_swap_kind event.kind ≡ false
 
--- behind packet n the queue is opened so often, and it is the station of the next one, if there is one
+-- the station with its card, of which no packet was told
+abbrev pub none_told : Wired → Wired
+none_told w = record w { flights = [] }
+
+-- behind packet n the queue is opened so often, and it is what packet n and the openings made of the station, if there is a next packet
 pub record HasTurned (card : Card) (plan : Plan) (packets : Packets) (infos : List Info) (station : StationPlan) (n times : ℕ) (m : Linked) : Type 0 where
   pub opens : times ≡ openings_of_card card plan packets infos n
-  pub next : n + 1 < packets.count → IsWired m (after_wired card plan packets infos (first_wired station) (n + 1))
+  pub next : n + 1 < packets.count → IsWired m (turned card plan packets infos n (none_told (after_wired card plan packets infos (first_wired station) n))).wired

@@ -1,8 +1,8 @@
 //! The driver's ring and the wire.
-ghost use Rattle.std.specs.Prelude.{◌≡◌, ◌+◌, ◌*◌, ◌^◌, ◌<◌, ◌≤◌, ◌∷◌, ◌++◌, [], drop, option_to_list, IfSome, OnOk};
+ghost use Rattle.std.specs.Prelude.{◌≡◌, ◌+◌, ◌*◌, ◌^◌, ◌<◌, ◌≤◌, ◌∷◌, ◌++◌, [], All, drop, option_to_list, IfSome, OnOk};
 ghost use Rattle.std.specs.VecDeque.{deque_len};
 ghost use Rattle.lq_model.specs.Wire.{delay, flight_of, frame_length, ring_has_room, left_at, wire_time};
-ghost use Rattle.lq_wire.specs.Wire.{due_at, first_has_left, flight_lengths};
+ghost use Rattle.lq_wire.specs.Wire.{due_at, due_by, first_has_left, flight_lengths, latest};
 
 use lq_model::{Card, Flight, Limit};
 use lq_pcap::Frames;
@@ -29,10 +29,13 @@ pub struct Wire {
     pub free: u128,
     /// How many packets were accepted.
     pub accepted: u32,
+    /// Those that were accepted and not told yet.
+    pub untold: Vec<Flight>,
     pub ghost bytes_are: { bytes ≡ flight_lengths ring.items },
     pub ghost few: { deque_len ring ≤ accepted },
     pub ghost small: { bytes ≤ accepted * 4294967309 },
-    pub ghost near: { free ≤ 2 ^ 96 + accepted * 2 ^ 57 },
+    pub ghost near: { free ≤ 2 ^ 96 + accepted * 2 ^ 75 },
+    pub ghost ended: { All (λ flight. flight.ends ≤ free) ring.items },
 }
 
 impl Wire {
@@ -45,6 +48,7 @@ impl Wire {
         ensures ring { result.ring.items ≡ [] }
         ensures free { result.free ≡ 0 }
         ensures accepted { result.accepted ≡ 0 }
+        ensures untold { result.untold.items ≡ [] }
     {
         Wire {
             card,
@@ -52,6 +56,7 @@ impl Wire {
             bytes: 0,
             free: 0,
             accepted: 0,
+            untold: Vec::new(alloc),
         }
     }
 
@@ -67,23 +72,26 @@ impl Wire {
 
     /// The device accepts packet `n` at a moment.
     pub fn accept<F: Frames>(&mut self, frames: &F, now: u128, n: u32) -> Result<(), AllocError>
-        requires near { now < 2 ^ 96 }
+        requires near { now ≤ latest self.old.accepted }
         requires few { self.old.accepted < 1000000 }
         ensures ring { OnOk result (self.new.ring.items ≡ self.old.ring.items ++ flight_of self.old.card (F.packets frames.now) now self.old.free n ∷ []) }
         ensures free { OnOk result (self.new.free ≡ (flight_of self.old.card (F.packets frames.now) now self.old.free n).ends) }
         ensures accepted { OnOk result (self.new.accepted ≡ self.old.accepted + 1) }
+        ensures untold { OnOk result (self.new.untold.items ≡ self.old.untold.items ++ flight_of self.old.card (F.packets frames.now) now self.old.free n ∷ []) }
         ensures card { self.new.card ≡ self.old.card }
     {
         let length = length_of(frames, n);
         let begins = now.max(self.free);
         let ends = begins + wire_time(self.card, length);
-        self.ring.push_back(Flight {
+        let flight = Flight {
             number: n,
             accepted: now,
             begins,
             ends,
             length,
-        })?;
+        };
+        self.untold.push(flight)?;
+        self.ring.push_back(flight)?;
         self.free = ends;
         self.bytes += length;
         self.accepted += 1;
@@ -97,7 +105,7 @@ impl Wire {
         now: u128,
         accepted: Option<u32>,
     ) -> Result<(), AllocError>
-        requires near { now < 2 ^ 96 }
+        requires near { now ≤ latest self.old.accepted }
         requires few { self.old.accepted + slot_count accepted ≤ 1000000 }
         ensures accepts { OnOk result ((w : Wired) → IsWire self.old w → IsWire self.new (with_flights self.old.card (F.packets frames.now) now (option_to_list accepted) w)) }
         ensures accepted { OnOk result (self.new.accepted ≡ self.old.accepted + slot_count accepted) }
@@ -114,6 +122,7 @@ impl Wire {
         ensures ring { self.new.ring.items ≡ left_at now self.old.ring.items }
         ensures free { self.new.free ≡ self.old.free }
         ensures accepted { self.new.accepted ≡ self.old.accepted }
+        ensures untold { self.new.untold ≡ self.old.untold }
         ensures card { self.new.card ≡ self.old.card }
     {
         for turn in 0..self.ring.len() {
@@ -140,6 +149,7 @@ impl Wire {
         ensures ring { self.new.ring.items ≡ drop 1 self.old.ring.items }
         ensures free { self.new.free ≡ self.old.free }
         ensures accepted { self.new.accepted ≡ self.old.accepted }
+        ensures untold { self.new.untold ≡ self.old.untold }
         ensures card { self.new.card ≡ self.old.card }
     {
         if let Some(first) = self.ring.pop_front() {
@@ -147,28 +157,31 @@ impl Wire {
         }
     }
 
-    /// The moment of the next interrupt, if it comes up to a moment.
-    pub fn due(&self, until: u128) -> Option<u128>
-        ensures due { result ≡ due_at self.now.card until self.now.ring.items }
-        ensures until { IfSome result (λ now. now ≤ until) }
+    /// The moment of the next interrupt, if there is one, up to a moment if there is such a limit.
+    pub fn due(&self, until: Option<u128>) -> Option<u128>
+        ensures due { result ≡ due_at self.now.card (due_by until) self.now.ring.items }
+        ensures near { IfSome result (λ now. now ≤ latest self.now.accepted) }
     {
-        let delay = delay(self.card);
-        match self.ring.front() {
-            Some(first) => {
-                if delay <= until && first.ends <= until - delay {
-                    Some(first.ends + delay)
-                } else {
-                    None
-                }
-            }
-            None => None,
-        }
+        let first = self.ring.front()?;
+        let now = first.ends + delay(self.card);
+        if is_due(until, now) { Some(now) } else { None }
+    }
+}
+
+// Whether a moment is due.
+fn is_due(until: Option<u128>, now: u128) -> bool
+    ensures { result ≡ due_by until now }
+{
+    match until {
+        Some(until) => now <= until,
+        None => true,
     }
 }
 
 // How long after a frame has left its interrupt comes.
 fn delay(card: Card) -> u128
-    ensures { result ≡ delay card }
+    ensures delay { result ≡ delay card }
+    ensures few { result ≤ 2 ^ 74 }
 {
     u128::from(card.coalesce_us) * 1000 * u128::from(card.rate_kbit)
 }

@@ -1,5 +1,5 @@
 //! A station with its card.
-ghost use Rattle.std.specs.Prelude.{◌≡◌, ◌+◌, ◌&&◌, ◌^◌, ◌<◌, ◌≤◌, ℕ, List, true, false, IfOk, OnOk};
+ghost use Rattle.std.specs.Prelude.{◌≡◌, ◌+◌, ◌&&◌, ◌^◌, ◌<◌, ◌≤◌, [], ℕ, List, Some, true, false, IfOk, OnOk};
 
 use crate::wire::Wire;
 use lq_lone::Lone;
@@ -16,12 +16,13 @@ pub struct Wired {
 }
 
 impl Wired {
-    ghost use Rattle.lq_model.specs.Alone.{brought_in, changed, events_before, opened, served};
+    ghost use Rattle.lq_model.specs.Alone.{brought_in, changed, events_after, events_before, opened, served};
     ghost use Rattle.lq_model.specs.Plan.{Plan as PlanOfRun, band_in, is_swap_kind};
     ghost use Rattle.lq_model.specs.Wire.{OpenedSoFar, Wired as WiredStation, all_interrupted, first_wired, ring_has_room, is_shut, opened_at, with_changes};
     ghost use Rattle.lq_model.specs.declared.fate.Info.{Info};
     ghost use Rattle.lq_lone.specs.Lone.{HaveOneQueue, IsLengthened, lone_state, waiting};
-    ghost use Rattle.lq_wire.specs.Wired.{AreForCard, HasOneStop, HasOpened, IsWired, StepsTo, due_by, load, stop_count};
+    ghost use Rattle.lq_wire.specs.Wire.{due_by, latest};
+    ghost use Rattle.lq_wire.specs.Wired.{AreForCard, HasOneStop, HasOpened, IsWired, StepsTo, load, stop_count, none_told};
 
     /// The station of a plan, with nothing brought yet.
     pub fn new(alloc: Global, card: Card, station: StationPlan) -> Wired
@@ -39,12 +40,13 @@ impl Wired {
 
     // Opens the queue and serves the station, at a moment.
     fn open<F: Frames>(&mut self, frames: &F, now: u128) -> Result<(), AllocError>
-        requires near { now < 2 ^ 96 }
+        requires near { now ≤ latest self.old.wire.accepted }
         requires few { load self.old ≤ 1000000 }
         ensures opens { OnOk result ((infos : List Info) (w : WiredStation) → HaveOneQueue infos → IsWired self.old w
             → StepsTo self.old.wire.card (F.packets frames.now) now (λ s. served infos (opened s)) w self.new) }
         ensures load { OnOk result (load self.new ≡ load self.old) }
         ensures count { OnOk result (waiting (lone_state self.new.station) + stop_count self.new ≡ waiting (lone_state self.old.station)) }
+        ensures accepted { OnOk result (self.old.wire.accepted ≤ self.new.wire.accepted) }
         ensures bypass { self.new.station.bypass ≡ self.old.station.bypass }
         ensures card { self.new.wire.card ≡ self.old.wire.card }
     {
@@ -120,6 +122,32 @@ impl Wired {
         Ok(())
     }
 
+    /// The plan's events behind the last of so many packets, each at a moment.
+    pub fn change_after<F: Frames>(
+        &mut self,
+        plan: &Plan,
+        frames: &F,
+        now: u128,
+        count: u32,
+    ) -> Result<(), AllocError>
+        requires near { now < 2 ^ 96 }
+        requires few { load self.old ≤ 1000000 }
+        requires events { AreForCard plan.now }
+        ensures changes { OnOk result ((infos : List Info) (w : WiredStation) → HaveOneQueue infos → IsWired self.old w
+            → StepsTo self.old.wire.card (F.packets frames.now) now (with_changes plan.now infos (events_after plan.now count)) w self.new) }
+        ensures load { OnOk result (load self.new ≤ load self.old) }
+        ensures bypass { OnOk result (self.new.station.bypass ≡ self.old.station.bypass) }
+        ensures card { OnOk result (self.new.wire.card ≡ self.old.wire.card) }
+    {
+        for e in 0..plan.events() {
+            let event = plan.event(e);
+            if event.before >= count {
+                self.change(frames, now, event.kind)?;
+            }
+        }
+        Ok(())
+    }
+
     // Whether the queue is stopped and there is room.
     fn may_open(&self) -> bool
         ensures opens { (w : WiredStation) → IsWired self.now w → result ≡ (is_shut w.station && ring_has_room self.now.wire.card w.ring) }
@@ -130,7 +158,7 @@ impl Wired {
 
     /// Opens the queue at a moment as often as it is stopped and there is room: how often.
     pub fn open_while_room<F: Frames>(&mut self, frames: &F, now: u128) -> Result<u32, AllocError>
-        requires near { now < 2 ^ 96 }
+        requires near { now ≤ latest self.old.wire.accepted }
         requires few { load self.old ≤ 1000000 }
         ensures opens { IfOk result (λ times. (infos : List Info) (o : OpenedSoFar) → HaveOneQueue infos → IsWired self.old o.wired
             → HasOpened (opened_at self.old.wire.card (F.packets frames.now) infos now o) o times self.new) }
@@ -151,9 +179,12 @@ impl Wired {
         Ok(times)
     }
 
-    /// All interrupts up to a moment: how often the queue is opened at them.
-    pub fn on_until<F: Frames>(&mut self, frames: &F, until: u128) -> Result<u32, AllocError>
-        requires near { until < 2 ^ 96 }
+    /// All interrupts, up to a moment if there is such a limit: how often the queue is opened at them.
+    pub fn on_until<F: Frames>(
+        &mut self,
+        frames: &F,
+        until: Option<u128>,
+    ) -> Result<u32, AllocError>
         requires few { load self.old ≤ 1000000 }
         ensures opens { IfOk result (λ times. (infos : List Info) (o : OpenedSoFar) → HaveOneQueue infos → IsWired self.old o.wired
             → HasOpened (all_interrupted self.old.wire.card (F.packets frames.now) infos (due_by until) o) o times self.new) }
@@ -181,16 +212,26 @@ impl Wired {
         now: u128,
         until: u128,
     ) -> Result<u32, AllocError>
-        requires near { (now < 2 ^ 96) × (until < 2 ^ 96) }
+        requires near { now < 2 ^ 96 }
         requires few { load self.old ≤ 1000000 }
         ensures opens { IfOk result (λ times. (infos : List Info) (o : OpenedSoFar) → HaveOneQueue infos → IsWired self.old o.wired
-            → HasOpened (all_interrupted self.old.wire.card (F.packets frames.now) infos (due_by until) (opened_at self.old.wire.card (F.packets frames.now) infos now o)) o times self.new) }
+            → HasOpened (all_interrupted self.old.wire.card (F.packets frames.now) infos (due_by (Some until)) (opened_at self.old.wire.card (F.packets frames.now) infos now o)) o times self.new) }
         ensures load { IfOk result (λ times. load self.new ≡ load self.old) }
         ensures bypass { IfOk result (λ times. self.new.station.bypass ≡ self.old.station.bypass) }
         ensures card { IfOk result (λ times. self.new.wire.card ≡ self.old.wire.card) }
     {
         let at_once = self.open_while_room(frames, now)?;
-        let later = self.on_until(frames, until)?;
+        let later = self.on_until(frames, Some(until))?;
         Ok(at_once + later)
+    }
+
+    /// All packets that were accepted are told.
+    pub fn tell_all(&mut self)
+        ensures told { (w : WiredStation) → IsWired self.old w → IsWired self.new (none_told w) }
+        ensures load { load self.new ≡ load self.old }
+        ensures bypass { self.new.station.bypass ≡ self.old.station.bypass }
+        ensures card { self.new.wire.card ≡ self.old.wire.card }
+    {
+        self.wire.untold.clear();
     }
 }

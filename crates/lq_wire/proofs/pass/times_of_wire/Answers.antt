@@ -1,18 +1,14 @@
-use Rattle.std.proofs.Common.{◌≡◌, ◌+◌, ◌<◌, ℕ, suc, List, [], ◌∷◌, ◌++◌, Option, Some, false, map, slice_get, refl, sym, ap, ap₂, subst, ◌∙◌, arith}
+use Rattle.std.proofs.Common.{◌≡◌, ◌+◌, ◌<◌, ℕ, suc, List, [], ◌∷◌, ◌++◌, Option, false, map, refl, sym, ap, ap₂, subst, ◌∙◌, arith}
 use Rattle.std.specs.Option.{option_map_or}
 use Rattle.lq_model.specs.Numbers.{first_numbers}
 use Rattle.lq_model.specs.Wire.{after_wired, first_wired, openings_of_card}
 use Rattle.lq_model.specs.declared.plan.Card.{Card}
 use Rattle.lq_model.specs.declared.plan.StationPlan.{StationPlan}
 use Rattle.lq_card_laws.specs.Laws.{FitsCard}
-use Rattle.lq_wire.specs.Wired.{HasTurned, IsWired}
+use Rattle.lq_wire.specs.Wired.{HasTurned, IsWired, none_told}
+use Rattle.lq_wire.proofs.Starts.{station-is}
+use Rattle.lq_wire.proofs.Told.{told-on}
 use Rattle.lq_wire.proofs.pass.times_of_wire.Goals as goal
-
-some-is : {X : Type 0} {a b : X} → Some a ≡ Some b → a ≡ b
-some-is is = cc
-
-station-is : (ss : List StationPlan) (found station : StationPlan) → slice_get ss 0 ≡ Some found → ss ≡ station ∷ [] → station ≡ found
-station-is ss found station at one = some-is (sym (ap (λ (l : List StationPlan). slice_get l 0) one) ∙ at)
 
 map-last : (f : ℕ → ℕ) (xs : List ℕ) (n : ℕ) → map f (xs ++ n ∷ []) ≡ map f xs ++ f n ∷ []
 map-last f [] n = refl
@@ -37,7 +33,7 @@ loop-n-preserved g c =
     let below : n < packets.count = omega arith in
     let turned : (station : StationPlan) → FitsCard plan infos station → HasTurned card plan packets infos station n opened c.turn.new.wired =
     λ station fits. subst (λ (k : Card). HasTurned k plan packets infos station n opened c.turn.new.wired) inv.card
-    (done.turned station fits (subst (λ (k : Card). IsWired c.loop-n.wired (after_wired k plan packets infos (first_wired station) n)) (sym inv.card) (inv.wired below station fits))) in
+    (done.turned station fits (subst (λ (k : Card). IsWired c.loop-n.wired (none_told (after_wired k plan packets infos (first_wired station) n))) (sym inv.card) (inv.wired below station fits))) in
     let next : suc n ≡ n + 1 = omega arith in
     let opens = openings_of_card card plan packets infos in
     record {
@@ -45,9 +41,9 @@ loop-n-preserved g c =
           c.in_ok-push.ensures.items
           ∙ (ap₂ (λ (l : List ℕ) (k : ℕ). l ++ k ∷ []) inv.times (turned c.requires.fits.0 c.requires.fits.1).opens
           ∙ (sym (map-last opens (first_numbers n) n) ∙ ap (λ (k : ℕ). map opens (first_numbers k)) next));
-      wired = λ more station fits. (turned station fits).next more;
+      wired = λ more station fits. told-on card plan packets infos station n c.turn.new.wired c.tell_all.new.self ((turned station fits).next more) c.tell_all.ensures.told;
       time = λ more. done.time (omega arith);
-      load = done.load;
-      bypass = done.bypass ∙ inv.bypass;
-      card = done.card ∙ inv.card;
+      load = let here = c.tell_all.ensures.load in let turn = done.load in omega arith;
+      bypass = c.tell_all.ensures.bypass ∙ (done.bypass ∙ inv.bypass);
+      card = c.tell_all.ensures.card ∙ (done.card ∙ inv.card);
     }

@@ -9,5 +9,6 @@ invariant-loop-turn l = record {
   long : length l.self.ring.items + l.turn ≡ length l.fn.self.ring.items;
   free : l.self.free ≡ l.fn.self.free;
   accepted : l.self.accepted ≡ l.fn.self.accepted;
+  untold : l.self.untold ≡ l.fn.self.untold;
   card : l.self.card ≡ l.fn.self.card;
 }

@@ -1,4 +1,4 @@
-use Rattle.std.proofs.Common.{◌≡◌, ◌+◌, ℕ, length, refl, sym, subst, ◌∙◌, eq-eqb, arith}
+use Rattle.std.proofs.Common.{◌≡◌, ◌==◌, ◌+◌, Bool, ℕ, length, refl, sym, subst, ◌∙◌, eq-eqb, arith}
 use Rattle.std.proofs.lemmas.Bool.{ne_eqb}
 use Rattle.lq_model.specs.Alone.{changed, served}
 use Rattle.lq_model.specs.Wire.{made_at, with_changes}
@@ -24,27 +24,27 @@ loop-e-init g c = record {
 
 pub loop-e-preserved : goal.loop-e-preserved
 loop-e-preserved g c =
-    let plan = c.args.plan.now in let packets = g.F.Frames.packets c.args.frames.now in let now = c.args.now in let n = c.args.n in let e = c.loop-e.e in
+    let plan = c.args.plan.now in let packets = g.F.Frames.packets c.args.frames.now in let now = c.args.now in let test : ℕ → Bool = λ before. before == c.args.n in let e = c.loop-e.e in
     let event = c.event-event.result in let is = c.event-event.ensures.event in let inv = c.loop-e.invariant in let card = c.args.self.now.wire.card in
     elim c.if-event-n.branch [
       | then-event-n+in_ok-change w ↦
-          subst (HaveDone plan packets now n (e + 1) c.args.self.now) (sym w.self-is) (record {
+          subst (HaveDone plan packets test now (e + 1) c.args.self.now) (sym w.self-is) (record {
             done = λ infos v queues wired.
-                let first = with_changes plan infos (below plan n e) in let so = inv.done infos v queues wired in
+                let first = with_changes plan infos (below plan test e) in let so = inv.done infos v queues wired in
                 let next = subst (λ (k : Card). StepsTo k packets now (λ s. served infos (changed plan e event.kind s)) (made_at card packets now first v) w.change.new.self) inv.card
                 (w.in_ok-change.ensures.changes plan e infos (made_at card packets now first v) queues so.wired) in
-                steps-same card packets now (λ s. served infos (changed plan e event.kind (first s))) (with_changes plan infos (below plan n (e + 1))) v w.change.new.self
-                (one-more plan infos n e event v.station is (eq-eqb event.before n w.if-event-n.true))
+                steps-same card packets now (λ s. served infos (changed plan e event.kind (first s))) (with_changes plan infos (below plan test (e + 1))) v w.change.new.self
+                (one-more plan infos test e event v.station is (eq-eqb event.before c.args.n w.if-event-n.true))
                 (steps-then card packets now first (λ s. served infos (changed plan e event.kind s)) v c.loop-e.self w.change.new.self so next);
             loaded = omega (arith, w.in_ok-change.ensures.load, inv.loaded);
             bypass = w.in_ok-change.ensures.bypass ∙ inv.bypass;
             card = w.in_ok-change.ensures.card ∙ inv.card;
           })
       | else-event-n w ↦
-          subst (HaveDone plan packets now n (e + 1) c.args.self.now) (sym w.self-is) (record {
+          subst (HaveDone plan packets test now (e + 1) c.args.self.now) (sym w.self-is) (record {
             done = λ infos v queues wired.
-                steps-same card packets now (with_changes plan infos (below plan n e)) (with_changes plan infos (below plan n (e + 1))) v c.loop-e.self
-                (none-more plan infos n e event v.station is (ne_eqb event.before n w.if-event-n.false)) (inv.done infos v queues wired);
+                steps-same card packets now (with_changes plan infos (below plan test e)) (with_changes plan infos (below plan test (e + 1))) v c.loop-e.self
+                (none-more plan infos test e event v.station is (ne_eqb event.before c.args.n w.if-event-n.false)) (inv.done infos v queues wired);
             loaded = inv.loaded;
             bypass = inv.bypass;
             card = inv.card;
@@ -55,5 +55,5 @@ pub returns-clause-changes : goal.returns-clause-changes
 returns-clause-changes g c infos w queues wired =
     let plan = c.args.plan.now in let test = c.loop-e-test.false in let end = c.loop-e.auto.e-end in let all = c.events-e-end.ensures.events in
     let same : c.loop-e.e ≡ length plan.events = omega arith in
-    subst (λ (k : ℕ). StepsTo c.args.self.now.wire.card (g.F.Frames.packets c.args.frames.now) c.args.now (with_changes plan infos (below plan c.args.n k)) w c.loop-e.self) same
+    subst (λ (k : ℕ). StepsTo c.args.self.now.wire.card (g.F.Frames.packets c.args.frames.now) c.args.now (with_changes plan infos (below plan (λ before. before == c.args.n) k)) w c.loop-e.self) same
     (c.loop-e.invariant.done infos w queues wired)

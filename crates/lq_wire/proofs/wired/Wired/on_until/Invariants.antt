@@ -2,7 +2,8 @@ use Rattle.std.proofs.Common.{◌≡◌, ◌+◌, ◌≤◌, ℕ, List, length}
 use Rattle.lq_model.specs.Wire.{OpenedSoFar, all_interrupted}
 use Rattle.lq_model.specs.declared.fate.Info.{Info}
 use Rattle.lq_lone.specs.Lone.{HaveOneQueue, lone_state, waiting}
-use Rattle.lq_wire.specs.Wired.{InterruptsOn, IsWired, due_by, load}
+use Rattle.lq_wire.specs.Wire.{due_by}
+use Rattle.lq_wire.specs.Wired.{InterruptsOn, IsWired, load}
 use Rattle.lq_wire.proofs.wired.Wired.on_until.Given as goal
 
 -- the interrupts that are left lead from here to the end

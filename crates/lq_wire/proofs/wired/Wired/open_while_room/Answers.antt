@@ -21,6 +21,7 @@ loop-turn-init g c =
             opens-first c.args.self.now.wire.card (g.F.Frames.packets c.args.frames.now) infos c.args.now (length (held o.wired.station.account) + 1) o c.args.self.now wired,
           );
       count = omega arith;
+      accepted = omega arith;
       load = refl;
       bypass = refl;
       card = refl;
@@ -47,6 +48,7 @@ loop-turn-preserved g c =
           let steps = subst (λ (k : Card). StepsTo k packets c.args.now (λ s. served infos (opened s)) on.here.wired c.open.new.self) inv.card (done.opens infos on.here.wired queues on.opened.wired) in
           (at.0 - 1, omega arith, opens-next card packets infos c.args.now at.0 c.loop-turn.times (opened_at card packets infos c.args.now o) o c.loop-turn.self c.open.new.self on some may steps);
       count = omega (arith, stopped, inv.count, done.count);
+      accepted = omega (arith, inv.accepted, done.accepted);
       load = done.load ∙ inv.load;
       bypass = done.bypass ∙ inv.bypass;
       card = done.card ∙ inv.card;

@@ -12,6 +12,7 @@ invariant-loop-turn g l = record {
       → (left : ℕ) × (left + l.turn ≡ waiting (lone_state l.fn.self.station) + 1)
       × OpensOn l.fn.self.wire.card (g.F.Frames.packets l.frames) infos l.now (opened_at l.fn.self.wire.card (g.F.Frames.packets l.frames) infos l.now o) o left l.times l.self;
   count : l.times + waiting (lone_state l.self.station) + stop_count l.self ≤ waiting (lone_state l.fn.self.station) + 1;
+  accepted : l.fn.self.wire.accepted ≤ l.self.wire.accepted;
   load : load l.self ≡ load l.fn.self;
   bypass : l.self.station.bypass ≡ l.fn.self.station.bypass;
   card : l.self.wire.card ≡ l.fn.self.wire.card;

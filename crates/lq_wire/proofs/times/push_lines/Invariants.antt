@@ -1,0 +1,7 @@
+use Rattle.std.proofs.Common.{◌≡◌, ◌++◌, drop}
+use Rattle.lq_model.specs.Texts.{times_text}
+use Rattle.lq_wire.proofs.times.push_lines.Given as goal
+
+-- the lines that are left complete the text
+abbrev pub invariant-loop-flight : goal.invariant-loop-flight
+invariant-loop-flight l = l.text.items ++ times_text l.card (drop l.flight-index l.flights) ≡ l.fn.text.items ++ times_text l.card l.flights

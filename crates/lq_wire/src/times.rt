@@ -1,0 +1,128 @@
+//! When each packet was accepted and when its frame ended, told line by line.
+ghost use Rattle.std.specs.Prelude.{◌≡◌, ◌++◌, ◌+◌, ◌/◌, ◌<◌, ◌≤◌, OnOk, length};
+ghost use Rattle.std.specs.Fmt.{decimal};
+ghost use Rattle.lq_model.specs.Texts.{time_line, times_text};
+ghost use Rattle.lq_model.specs.declared.plan.StationPlan.{StationPlan as Station};
+ghost use Rattle.lq_card_laws.specs.Laws.{FitsCard};
+ghost use Rattle.lq_wire.specs.Times.{HasGone, IsBeforePacket, lines_left};
+
+use crate::pass::{finish, first_time, turn};
+use crate::wired::Wired;
+use itoa::Buffer;
+use lq_model::{Card, Flight, Info};
+use lq_pcap::Frames;
+use lq_plan::Plan;
+use std::alloc::{AllocError, Global};
+
+/// A pass over the packets of a plan with a card that tells the packets which the card accepted, in that order.
+#[derive(Drop)]
+pub struct Times {
+    pub wired: Wired,
+    /// The time of the next packet.
+    pub time: u128,
+}
+
+impl Times {
+    /// Before the first packet.
+    pub fn new<F: Frames>(
+        alloc: Global,
+        plan: &Plan,
+        card: Card,
+        infos: &[Info],
+        frames: &F,
+    ) -> Times
+        requires fits { (station : Station) × FitsCard plan.now infos.now station }
+        ensures { (station : Station) → FitsCard plan.now infos.now station → IsBeforePacket result card plan.now (F.packets frames.now) infos.now station 0 }
+    {
+        Times {
+            wired: Wired::new(alloc, card, plan.station(0)),
+            time: first_time(frames),
+        }
+    }
+
+    // Packet `n` and what follows it up to the next one; all that follows the last one.
+    fn go_on<F: Frames>(
+        &mut self,
+        plan: &Plan,
+        infos: &[Info],
+        frames: &F,
+        n: usize,
+    ) -> Result<(), AllocError>
+        requires at { (station : Station) × FitsCard plan.now infos.now station × IsBeforePacket self.old self.old.wired.wire.card plan.now (F.packets frames.now) infos.now station n }
+        requires count { length infos.now ≡ (F.packets frames.now).count }
+        requires few { length infos.now ≤ 1000000 }
+        requires there { n < length infos.now }
+        ensures { OnOk result ((station : Station) → FitsCard plan.now infos.now station → IsBeforePacket self.old self.old.wired.wire.card plan.now (F.packets frames.now) infos.now station n
+            → HasGone self.new self.old.wired.wire.card plan.now (F.packets frames.now) infos.now station n) }
+    {
+        if n + 1 < infos.len() {
+            turn(&mut self.wired, plan, infos, frames, n, &mut self.time)?;
+            return Ok(());
+        }
+        finish(&mut self.wired, plan, infos, frames, n, self.time)
+    }
+
+    /// Writes the lines of the packets that are accepted from packet `n` on, up to the next one, to the end of a text; from the last packet on, of all that are left.
+    ///
+    /// # AllocError
+    ///
+    /// There was no room for the lines, or for the packets that wait or are in the driver's ring.
+    pub fn push_turn<F: Frames>(
+        &mut self,
+        text: &mut Vec<u8>,
+        plan: &Plan,
+        card: Card,
+        infos: &[Info],
+        frames: &F,
+        n: usize,
+    ) -> Result<(), AllocError>
+        requires at { (station : Station) × FitsCard plan.now infos.now station × IsBeforePacket self.old card plan.now (F.packets frames.now) infos.now station n }
+        requires count { length infos.now ≡ (F.packets frames.now).count }
+        requires few { length infos.now ≤ 1000000 }
+        requires there { n < length infos.now }
+        ensures at { OnOk result ((station : Station) → FitsCard plan.now infos.now station → IsBeforePacket self.old card plan.now (F.packets frames.now) infos.now station n
+            → IsBeforePacket self.new card plan.now (F.packets frames.now) infos.now station (n + 1)) }
+        ensures tells { OnOk result ((station : Station) → FitsCard plan.now infos.now station → IsBeforePacket self.old card plan.now (F.packets frames.now) infos.now station n
+            → text.new.items ++ lines_left card plan.now (F.packets frames.now) infos.now station (n + 1) ≡ text.old.items ++ lines_left card plan.now (F.packets frames.now) infos.now station n) }
+    {
+        self.go_on(plan, infos, frames, n)?;
+        push_lines(text, card, &self.wired.wire.untold)?;
+        self.wired.tell_all();
+        Ok(())
+    }
+}
+
+// A line for each of these packets.
+fn push_lines(text: &mut Vec<u8>, card: Card, flights: &[Flight]) -> Result<(), AllocError>
+    ensures { OnOk result (text.new.items ≡ text.old.items ++ times_text card flights.now) }
+{
+    for flight in flights {
+        push_line(text, card, flight)?;
+    }
+    Ok(())
+}
+
+// The line of a packet.
+fn push_line(text: &mut Vec<u8>, card: Card, flight: &Flight) -> Result<(), AllocError>
+    ensures { OnOk result (text.new.items ≡ text.old.items ++ time_line card flight.now) }
+{
+    push_number(text, u128::from(flight.number))?;
+    text.extend_from_slice(b" ")?;
+    push_number(text, nanoseconds(card, flight.accepted))?;
+    text.extend_from_slice(b" ")?;
+    push_number(text, nanoseconds(card, flight.ends))?;
+    text.extend_from_slice(b"\n")
+}
+
+fn push_number(text: &mut Vec<u8>, number: u128) -> Result<(), AllocError>
+    ensures { OnOk result (text.new.items ≡ text.old.items ++ decimal number) }
+{
+    text.extend_from_slice(Buffer::new().format(number).as_bytes())
+}
+
+// A moment in nanoseconds, rounded down.
+fn nanoseconds(card: Card, moment: u128) -> u128
+    ensures { result ≡ moment / card.rate_kbit }
+{
+    moment.checked_div(u128::from(card.rate_kbit)).unwrap_or(0)
+}
