@@ -1,11 +1,11 @@
 -- The run of one sender whose queues are opened as a card opens them.
-use Rattle.std.proofs.Common.{◌≡◌, ℕ, zero, suc, ◌+◌, ◌<◌, ◌≤◌, ◌==◌, Bool, true, false, cond, List, [], ◌∷◌, length, map, Option, Some, None, nat_lt, nat_le, slice_get, refl, sym, ap, ap₂, subst, ◌∙◌, arith}
+use Rattle.std.proofs.Common.{◌≡◌, ℕ, zero, suc, ◌+◌, ◌<◌, ◌==◌, Bool, true, false, cond, List, [], ◌∷◌, map, Option, Some, None, slice_get, refl, sym, ap, ap₂, subst, ◌∙◌, arith}
 use Rattle.std.specs.Option.{option_map_or}
 use Rattle.std.proofs.lemmas.Bool.{le-leb}
-use Rattle.lq_model.specs.Alone.{RunningStation, after_packets, brought_in, bypass_of, changed, changed_where, events_before, new_stations, opened, opened_and_served, served, turn_ended, with_event, with_events, with_packet, with_turn}
+use Rattle.lq_model.specs.Alone.{RunningStation, after_packets, brought_in, bypass_of, changed, changed_where, events_before, new_stations, opened, opened_and_served, served, turn_ended, with_events, with_packet, with_turn}
 use Rattle.lq_model.specs.Capture.{Packets}
-use Rattle.lq_model.specs.Plan.{Plan, is_at, station_in}
-use Rattle.lq_model.specs.Wire.{Wired, after_wired, first_wired, moment, openings_of_card, made_at, turned, wired_with, with_changes}
+use Rattle.lq_model.specs.Plan.{Plan, is_at}
+use Rattle.lq_model.specs.Wire.{Wired, after_wired, first_wired, moment, openings_of_card, turned, wired_with, with_changes}
 use Rattle.lq_model.specs.Wire.{served_with}
 use Rattle.lq_model.specs.declared.fate.Info.{Info}
 use Rattle.lq_model.specs.declared.plan.Card.{Card}
@@ -114,13 +114,13 @@ module _ (card : Card) (plan : Plan) (packets : Packets) (infos : List Info) (st
         },
       )
 
-  brought-settled : (n : ℕ) (w : Wired) → HasIt w.station → HasSettled (wired_with card plan packets infos n w).station
+  pub brought-settled : (n : ℕ) (w : Wired) → HasIt w.station → HasSettled (wired_with card plan packets infos n w).station
   brought-settled n w has =
       let ready = with_changes plan infos (events_before plan n) w.station in
       subst HasSettled (sym (stepped-station card packets infos (moment card packets n) (λ s. served_with plan infos n (with_changes plan infos (events_before plan n) s)) w))
       (still-brought infos fits.first_queue (bypass_of plan 0) n ready (fits.bands n) (changed-still (events_before plan n) w.station has))
 
-  wired-still : (n : ℕ) → HasIt (after_wired card plan packets infos (first_wired station) n).station
+  pub wired-still : (n : ℕ) → HasIt (after_wired card plan packets infos (first_wired station) n).station
   wired-still zero = begins
   wired-still (suc n) =
       let w = after_wired card plan packets infos (first_wired station) n in let settled = brought-settled n w (wired-still n) in

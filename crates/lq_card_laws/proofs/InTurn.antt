@@ -1,12 +1,12 @@
 -- The frames of a wire, one after the other.
-use Rattle.std.proofs.Common.{◌≡◌, ℕ, zero, suc, ◌+◌, ◌-◌, ◌==◌, ◌&&◌, Bool, true, false, cond, List, [], ◌∷◌, ◌++◌, length, Option, None, Some, nat_le, slice_get, refl, ap, subst}
+use Rattle.std.proofs.Common.{◌≡◌, ℕ, zero, suc, ◌+◌, ◌-◌, ◌==◌, ◌&&◌, Bool, true, false, cond, List, [], ◌∷◌, ◌++◌, length, Option, None, Some, nat_le, slice_get, refl, subst}
 use Rattle.std.specs.Option.{option_map_or}
 use Rattle.std.specs.Prelude.{max}
 use Rattle.lq_model.specs.Account.{held}
-use Rattle.lq_model.specs.Alone.{RunningStation, brought_in, events_after, events_before, opened, served}
+use Rattle.lq_model.specs.Alone.{RunningStation, events_after, events_before, opened, served}
 use Rattle.lq_model.specs.Capture.{Packets}
 use Rattle.lq_model.specs.Plan.{Plan}
-use Rattle.lq_model.specs.Wire.{OpenedSoFar, Wired, with_flight, after_wired, with_flights, all_interrupted, come, delay, finished_wired, first_wired, flights_of, flights_of_card, ring_has_room, interrupted, interrupted_while, is_shut, left_at, moment, newly_sent, next_interrupt, opened_at, opened_while, made_at, turned, wire_time, wired_with, with_changes, served_with}
+use Rattle.lq_model.specs.Wire.{OpenedSoFar, Wired, with_flight, after_wired, with_flights, come, delay, finished_wired, first_wired, flights_of, flights_of_card, ring_has_room, interrupted, interrupted_while, is_shut, left_at, moment, newly_sent, next_interrupt, opened_while, made_at, turned, wire_time, wired_with, with_changes, served_with}
 use Rattle.lq_model.specs.declared.fate.Info.{Info}
 use Rattle.lq_model.specs.declared.flight.Flight.{Flight}
 use Rattle.lq_model.specs.declared.plan.Card.{Card}

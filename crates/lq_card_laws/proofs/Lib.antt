@@ -4,3 +4,5 @@ pub mod Often
 pub mod Beside
 -- the frames of a wire, one after the other
 pub mod InTurn
+-- a packet waits only for room
+pub mod Waits

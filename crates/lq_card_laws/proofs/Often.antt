@@ -1,10 +1,10 @@
 -- How often a card opens its station.
-use Rattle.std.proofs.Common.{◌≡◌, ℕ, zero, suc, ◌+◌, ◌&&◌, Bool, true, false, cond, List, [], ◌∷◌, length, nat_le, refl, sym, ap, ap₂, subst, ◌∙◌, arith}
+use Rattle.std.proofs.Common.{◌≡◌, ℕ, zero, suc, ◌+◌, ◌&&◌, Bool, true, false, cond, List, [], ◌∷◌, length, nat_le, refl, ap, ◌∙◌, arith}
 use Rattle.lq_model.specs.Account.{held}
 use Rattle.lq_model.specs.Alone.{RunningStation, opened, served}
 use Rattle.lq_model.specs.Capture.{Packets}
 use Rattle.lq_model.specs.Plan.{Plan}
-use Rattle.lq_model.specs.Wire.{OpenedSoFar, Wired, with_flight, with_flights, all_interrupted, come, delay, ring_has_room, interrupted, interrupted_while, is_shut, left_at, moment, newly_sent, next_interrupt, opened_at, opened_while, made_at, turned, wired_with}
+use Rattle.lq_model.specs.Wire.{OpenedSoFar, Wired, with_flight, with_flights, come, delay, ring_has_room, interrupted, interrupted_while, is_shut, left_at, moment, newly_sent, next_interrupt, opened_while, made_at, turned, wired_with}
 use Rattle.lq_model.specs.declared.fate.Info.{Info}
 use Rattle.lq_model.specs.declared.flight.Flight.{Flight}
 use Rattle.lq_model.specs.declared.plan.Card.{Card}

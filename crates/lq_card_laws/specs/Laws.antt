@@ -1,9 +1,10 @@
 -- What a card on a wire does to its station.
-use Rattle.std.specs.Prelude.{◌≡◌, ◌<◌, ◌+◌, max, ℕ, zero, suc, true, false, List, [], ◌∷◌, Some, slice_get}
+use Rattle.std.specs.Prelude.{◌≡◌, ◌<◌, ◌+◌, max, ℕ, zero, suc, Bool, true, false, List, [], ◌∷◌, length, None, Some, slice_get}
+use Rattle.lq_model.specs.Account.{held}
 use Rattle.lq_model.specs.Alone.{RunningStation, after_packets, new_stations, opened, served}
 use Rattle.lq_model.specs.Capture.{Packets}
 use Rattle.lq_model.specs.Plan.{Plan, band_in, is_at, is_swap_kind, queue_in, station_in}
-use Rattle.lq_model.specs.Wire.{Wired, after_wired, first_wired, flights_of_card, openings_of_card, turned, wire_time, wired_with}
+use Rattle.lq_model.specs.Wire.{Wired, after_wired, come, first_wired, flights_of_card, interrupted_while, openings_of_card, ring_has_room, turned, wire_time, wired_with}
 use Rattle.lq_model.specs.declared.fate.Info.{Info}
 use Rattle.lq_model.specs.declared.flight.Flight.{Flight}
 use Rattle.lq_model.specs.declared.plan.Card.{Card}
@@ -54,3 +55,12 @@ AreInTurn card free (flight ∷ flights) =
 -- so the wire has never two frames at once, and doesn't wait while an accepted one is there
 abbrev pub NeverTwoAtOnce : Type 0
 NeverTwoAtOnce = (card : Card) (plan : Plan) (packets : Packets) (infos : List Info) → AreInTurn card 0 (flights_of_card card plan packets infos)
+
+-- a packet waits in an active station only while the driver has no room for one
+abbrev pub WaitsForRoom : Card → Wired → Type 0
+WaitsForRoom card w = w.station.account.down ≡ None → 0 < length (held w.station.account) → ring_has_room card w.ring ≡ false
+
+-- So it is at each packet, once its queue was opened while there was room, and behind each interrupt that follows, whichever are due and however many.
+abbrev pub WaitsOnlyForRoom : Type 0
+WaitsOnlyForRoom = (card : Card) (plan : Plan) (packets : Packets) (infos : List Info) (station : StationPlan) → FitsCard plan infos station → (n : ℕ) (due : ℕ → Bool) (more : ℕ)
+    → WaitsForRoom card (interrupted_while card packets infos due more (come card plan packets infos n (after_wired card plan packets infos (first_wired station) n))).wired

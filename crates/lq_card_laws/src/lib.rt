@@ -2,7 +2,7 @@
 #![tactic(auto)]
 
 ghost use Rattle.std.specs.Prelude.{◌≡◌, [], ◌∷◌, None, Some};
-ghost use Rattle.lq_card_laws.specs.Laws.{NeverTwoAtOnce, OpensSoOften, RunsBeside};
+ghost use Rattle.lq_card_laws.specs.Laws.{NeverTwoAtOnce, OpensSoOften, RunsBeside, WaitsOnlyForRoom};
 ghost use Rattle.lq_model.specs.Capture.{first_back};
 ghost use Rattle.lq_model.specs.Runs.{packets_at};
 
@@ -19,6 +19,12 @@ pub fn card_runs_beside()
 /// The frames of a card are on its wire one after the other: each begins when it is accepted, or when the frame before it ends, whichever is later.
 pub fn never_two_frames_at_once()
     ensures { NeverTwoAtOnce }
+{}
+
+/// A packet waits in an active station only while the driver has no room: at each packet, once the queue was opened while there was room, and behind each
+/// interrupt.
+pub fn waits_only_for_room()
+    ensures { WaitsOnlyForRoom }
 {}
 
 /// The first packet whose time goes back, worked out: a card tells nothing of such a capture.
