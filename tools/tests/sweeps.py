@@ -145,7 +145,7 @@ def the_program_of_a_sweep():
 
 @case
 def an_interrupt_of_a_sweep():
-    """It ends at once, and with it the programs that it runs."""
+    """It ends within a second, and with it the programs that it runs; beside much other work it may take longer."""
     room = ROOM / "interrupt"
     room.mkdir()
     program, plan = room / "program", room / "plan.toml"
@@ -158,10 +158,10 @@ def an_interrupt_of_a_sweep():
     of_program = ["pgrep", "-f", f"^[^ ]*python3 {program} run"]
     while subprocess.run(of_program, stdout=subprocess.DEVNULL).returncode and time.monotonic() < until:
         time.sleep(0.02)
-    began = time.monotonic()
+    began, most = time.monotonic(), 1 if os.getloadavg()[0] < 3 * os.cpu_count() else 5
     started.send_signal(signal.SIGINT)
     said = started.communicate()[1]
-    if started.returncode != -signal.SIGINT or time.monotonic() - began > 5 or "the same call goes on" not in said or "Traceback" in said:
+    if started.returncode != -signal.SIGINT or time.monotonic() - began > most or "the same call goes on" not in said or "Traceback" in said:
         fault(f"sweep, an interrupt: ends with {started.returncode} after {time.monotonic() - began:.1f} s, and says {said!r}")
     time.sleep(0.1)
     if not subprocess.run(of_program, stdout=subprocess.DEVNULL).returncode:
