@@ -22,18 +22,20 @@ had P field infos n none some = by (slice_get infos n) refl
 
 pub card-fits : (plan : Plan) (infos : List Info) (station : StationPlan) (card : Card) → IsWithinLimits plan → All (IsInfoWithin plan) infos
     → slice_get plan.stations 0 ≡ Some station → station.card ≡ Some card → (s : StationPlan) × FitsCard plan infos s
-card-fits plan infos station card limits within at is =
-    (station, record {
-      one = record { stations = link.alone; events = at-one; packets = λ n. had (λ k. k ≡ 0) (λ info. info.station) infos n refl (λ info there. first info (each n info there)) };
-      some = own.some;
-      queues = link.queues;
-      burst = device.burst;
-      never_busy = device.never_busy;
-      never_hangs = device.never_hangs;
-      no_swap = link.no_swap;
-      bands = λ n. had (λ k. k < 3) (λ info. info.band) infos n (omega arith) (λ info there. (each n info there).band);
-      first_queue = λ n. had (λ k. k ≡ 0) (λ info. info.queue) infos n refl (λ info there. only info (each n info there));
-    })
+card-fits plan infos station card limits within at is = (
+  station,
+  record {
+    one = record { stations = link.alone; events = at-one; packets = λ n. had (λ k. k ≡ 0) (λ info. info.station) infos n refl (λ info there. first info (each n info there)) };
+    some = own.some;
+    queues = link.queues;
+    burst = device.burst;
+    never_busy = device.never_busy;
+    never_hangs = device.never_hangs;
+    no_swap = link.no_swap;
+    bands = λ n. had (λ k. k < 3) (λ info. info.band) infos n (omega arith) (λ info there. (each n info there).band);
+    first_queue = λ n. had (λ k. k ≡ 0) (λ info. info.queue) infos n refl (λ info there. only info (each n info there));
+  },
+)
   where
     link : IsLink plan station
     link = limits.link 0 station card at is
