@@ -41,7 +41,7 @@ class Command:
 
     def tails(self, units: int = UNITS, groups: int = GROUPS) -> List[str]:
         """What follows OUT in the names of the files that it may write: `gen` writes its capture to the very name."""
-        of_run = [*(f".{it}.pcap" for it in range(units)), *(f".mq{it}.pcap" for it in range(groups)), ".fates"]
+        of_run = [*(f".{it}.pcap" for it in range(units)), *(f".mq{it}.pcap" for it in range(groups)), ".fates", ".times"]
         return {"run": of_run, "tap": [".pcap", ".fates"], "gen": [""]}[self.words[0]] if self.out is not None else []
 
     def files(self, *counts: int) -> List[str]:

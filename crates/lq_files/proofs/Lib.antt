@@ -24,3 +24,5 @@ pub mod GroupPackets
 pub mod RunFilesLemmas
 -- captures whose times go back
 pub mod InOrder
+-- the card whose times are told
+pub mod TimesLemmas

@@ -16,6 +16,7 @@ mod refusal;
 mod report;
 mod source;
 mod tap_outputs;
+mod times;
 mod write;
 
 pub use answer::{Status, Stop};

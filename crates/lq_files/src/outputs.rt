@@ -1,11 +1,12 @@
 //! All that a run writes: its files, and its lines to standard output.
-ghost use Rattle.std.specs.Prelude.{◌≡◌, ◌⊎◌, ◌<◌, ◌^◌, List, length, OnOk, OnErr};
+ghost use Rattle.std.specs.Prelude.{◌≡◌, ◌⊎◌, ◌<◌, ◌^◌, All, List, length, OnOk, OnErr};
 ghost use Rattle.lq_host.specs.Host.{wrote};
 ghost use Rattle.lq_model.specs.Plan.{infos_of, unit_count};
 ghost use Rattle.lq_model.specs.Settled.{IsSettled};
 ghost use Rattle.lq_model.specs.declared.fate.Info.{Info};
 ghost use Rattle.lq_fates.specs.Counts.{AreCounts};
 ghost use Rattle.lq_pcapng.specs.File.{packets_of_file};
+ghost use Rattle.lq_plan.specs.Packets.{IsInfoWithin};
 ghost use Rattle.lq_files.specs.Reports.{run_texts};
 ghost use Rattle.lq_files.specs.RunFiles.{counts_output};
 ghost use Rattle.lq_files.specs.RunFiles.{MayWrite};
@@ -16,6 +17,7 @@ use crate::answer::Stop;
 use crate::groups::{push_mq_lines, write_groups};
 use crate::report::RunReport;
 use crate::source::FateLines;
+use crate::times::write_times;
 use crate::write::{write_fates, write_output, write_units};
 use lq_fates::{Counts, Fates, counts_of, counts_text, sent_by_units};
 use lq_host::Host;
@@ -80,6 +82,7 @@ pub fn write_run<R: Threads + Sync, H: Host, F: Fates>(
     requires infos { report.now.infos.now ≡ infos_of report.now.run.plan.now (packets_of_file report.now.run.capture.now) }
     requires count { length report.now.infos.now ≡ (packets_of_file report.now.run.capture.now).count }
     requires few { length report.now.infos.now < 2 ^ 32 }
+    requires within { All (IsInfoWithin report.now.run.plan.now) report.now.infos.now }
     requires settled { IsSettled report.now.run.plan.now report.now.infos.now (F.fates report.now.fates.now) }
     ensures handles { (H.state host.new).handles ≡ (H.state host.old).handles }
     ensures ok { OnOk result (H.state host.new
@@ -99,5 +102,6 @@ pub fn write_run<R: Threads + Sync, H: Host, F: Fates>(
         fates: report.fates,
     };
     write_fates(rt, alloc, host, report.run.out, &lines)?;
+    write_times(alloc, host, &report.run, report.infos)?;
     write_counted(alloc, host, plan, report.fates, &counts)
 }

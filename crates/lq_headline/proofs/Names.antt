@@ -5,7 +5,7 @@ use Rattle.std.specs.Prelude.{codes}
 use Rattle.std.proofs.lemmas.Fmt.{decimal_by_steps, decimal_injective}
 use Rattle.std.proofs.lemmas.List.{append_cancel_left, append_cancel_right}
 use Rattle.lq_files.specs.Groups.{group_capture_name}
-use Rattle.lq_files.specs.RunFiles.{capture_name, fates_name}
+use Rattle.lq_files.specs.RunFiles.{capture_name, fates_name, times_name}
 
 -- a number begins with a digit
 record BeginsWithDigit (text : List ℕ) : Type 0 where
@@ -58,4 +58,20 @@ pub no_root_fates : (out : List ℕ) (j : ℕ) → group_capture_name out j ≡ 
 no_root_fates out j same =
     let after : codes ".mq" ++ (decimal j ++ codes ".pcap") ≡ codes ".fates" = append_cancel_left out _ _ same in
     let at : ◌≡◌ {A = ℕ} 109 102 = heads 109 102 (113 ∷ (decimal j ++ codes ".pcap")) (97 ∷ 116 ∷ 101 ∷ 115 ∷ []) (tails 46 46 _ _ after) in
+    absurd (omega arith)
+
+-- that of the times is none of them
+pub no_times : (out : List ℕ) (u : ℕ) → u < 2 ^ 64 → times_name out ≡ capture_name out u → ⊥
+no_times out u u_small same =
+    let first = begins u u_small in
+    let below = first.below in
+    let after : codes ".times" ≡ codes "." ++ (decimal u ++ codes ".pcap") = append_cancel_left out _ _ same in
+    let there : codes ".times" ≡ codes "." ++ (((48 + first.digit) ∷ first.rest) ++ codes ".pcap") = after ∙ ap (λ text. codes "." ++ (text ++ codes ".pcap")) first.is in
+    let at : 116 ≡ 48 + first.digit = heads _ _ _ _ (tails _ _ _ _ there) in
+    absurd (omega arith)
+
+pub no_times_fates : (out : List ℕ) → times_name out ≡ fates_name out → ⊥
+no_times_fates out same =
+    let after : codes ".times" ≡ codes ".fates" = append_cancel_left out _ _ same in
+    let at : ◌≡◌ {A = ℕ} 116 102 = heads 116 102 (105 ∷ 109 ∷ 101 ∷ 115 ∷ []) (97 ∷ 116 ∷ 101 ∷ 115 ∷ []) (tails 46 46 _ _ after) in
     absurd (omega arith)

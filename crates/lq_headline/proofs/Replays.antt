@@ -1,12 +1,13 @@
 -- The headline of a run, from what `lqtx` says of it.
-use Rattle.std.proofs.Common.{◌≡◌, ◌<◌, ◌^◌, ◌++◌, ◌∷◌, [], ℕ, List, length, map, Option, Some, refl, sym, ap, ◌∙◌, subst, arith, inl, inr, slice_get}
+use Rattle.std.proofs.Common.{◌≡◌, ◌<◌, ◌^◌, ◌++◌, ◌∷◌, [], ℕ, List, length, map, Option, None, Some, refl, sym, ap, ◌∙◌, subst, arith, inl, inr, slice_get}
 use Rattle.std.specs.Prelude.{codes}
 use Rattle.std.specs.Fmt.{decimal}
+use Rattle.std.specs.Option.{option_map_or}
 use Rattle.std.proofs.lemmas.List.{append_assoc}
 use Rattle.std.proofs.lemmas.Option.{same_Some, slice_get_within}
 use Rattle.lq_files.proofs.TextLemmas.{length-infos_of, sent_below}
 use Rattle.lq_files.specs.Groups.{group_capture_name, group_files, mq_lines, roots, sent_by_group}
-use Rattle.lq_files.specs.RunFiles.{Run as RunOf, capture_name, fates_name, run_of, texts_of, unit_files}
+use Rattle.lq_files.specs.RunFiles.{Run as RunOf, capture_name, card_told, fates_name, run_of, texts_of, times_name, unit_files}
 use Rattle.lq_files.specs.Written.{FileText}
 use Rattle.lq_fates.proofs.SentLemmas.{sent_is}
 use Rattle.lq_host.specs.Host.{Contents, Files, HostState, Output}
@@ -14,9 +15,11 @@ use Rattle.lq_model.specs.Device.{DeviceState}
 use Rattle.lq_model.specs.Plan.{Plan, info_of, infos_of, owner_of, priority_by, station_of, unit_count}
 use Rattle.lq_model.specs.Sent.{sent_of}
 use Rattle.lq_model.specs.Settled.{IsSentList}
-use Rattle.lq_model.specs.Texts.{fates_text}
+use Rattle.lq_model.specs.Texts.{fates_text, times_text}
+use Rattle.lq_model.specs.Wire.{flights_of_card}
 use Rattle.lq_model.specs.declared.fate.Fate.{Fate}
 use Rattle.lq_model.specs.declared.fate.Info.{Info}
+use Rattle.lq_model.specs.declared.plan.Card.{Card}
 use Rattle.lq_pcapng.specs.File.{packets_of_file, text_of}
 use Rattle.lq_plan.specs.Limits.{IsWithinLimits}
 use Rattle.lq_plan.proofs.Acceptance as plans
@@ -32,8 +35,8 @@ use Rattle.lq_top.specs.Program.{HostAt, IsCodeOfWords, new_bench}
 use Rattle.lq_top.specs.Reads.{after_reads}
 use Rattle.lq_files.specs.Status.{code_of}
 use Rattle.lq_headline.proofs.Decided.{HasReplayed, command_found, words_of_run}
-use Rattle.lq_headline.proofs.Files.{IsNamed, agree_both, agree_each, agree_numbers, handed_written, has_text, named_first, named_number, named_then, put}
-use Rattle.lq_headline.proofs.Names.{no_fates, no_group, no_root_fates, one_unit}
+use Rattle.lq_headline.proofs.Files.{Agree, IsNamed, agree_both, agree_each, agree_numbers, handed_written, has_text, named_first, named_number, named_then, put}
+use Rattle.lq_headline.proofs.Names.{no_fates, no_group, no_root_fates, no_times, no_times_fates, one_unit}
 use Rattle.lq_headline.proofs.Orders.{at-packet, in-order, units-below}
 use Rattle.lq_headline.proofs.Texts.{same_counts, same_fates}
 use Rattle.lq_headline.specs.Page.{HaveAccepted, Headline, IsCaptureFile, HasWritten, Replay, fate_lines, unit_capture}
@@ -131,13 +134,18 @@ module _ (plan_name capture_file out plan_bytes capture_bytes : List ℕ) (old n
   small unit below = let few = units-few plan in let stations = within.stations in let events = within.events in omega arith
 
   files-of : (name text : List ℕ) (files : Files) → ((k : ℕ) → k < unit_count plan → capture_name out k ≡ name → text_of found.capture (sent_of fates k) ≡ text)
-      → ((j : ℕ) → group_capture_name out j ≡ name → text_of found.capture (sent_by_group plan fates j) ≡ text) → (fates_name out ≡ name → fates_text fates ≡ text)
+      → ((j : ℕ) → group_capture_name out j ≡ name → text_of found.capture (sent_by_group plan fates j) ≡ text) → (fates_name out ≡ name → fates_text fates ≡ text) → (times_name out ≡ name → ⊥)
       → IsNamed name (texts_of run_is fates).files → put files (texts_of run_is fates).files name ≡ Some text
-  files-of name text files units groups last named =
+  files-of name text files units groups last times named =
       has_text name text (texts_of run_is fates).files files
       (agree_both name text (unit_files out found.capture fates (unit_count plan)) _ (agree_numbers name text unit_file (unit_count plan) units)
-      (agree_both name text (group_files out found.capture plan fates) _ (agree_each name text group_file (roots plan) groups) (last, tt)))
+      (agree_both name text (group_files out found.capture plan fates) _ (agree_each name text group_file (roots plan) groups) (last, no-times (card_told plan) times)))
       (inl named)
+    where
+      no-times : (o : Option Card) → (times_name out ≡ name → ⊥)
+          → Agree name text (option_map_or (λ card. record { name = times_name out; text = times_text card (flights_of_card card plan (packets_of_file found.capture) (infos_of plan (packets_of_file found.capture))) } ∷ []) o [])
+      no-times None other = tt
+      no-times (Some card) other = ((λ same. absurd (other same)), tt)
 
   capture-there : (files : Files) (unit : ℕ) → unit < unit_count plan → put files (texts_of run_is fates).files (capture_name out unit) ≡ Some (unit_capture run unit)
   capture-there files unit below =
@@ -145,6 +153,7 @@ module _ (plan_name capture_file out plan_bytes capture_bytes : List ℕ) (old n
       (λ k lt same. ap (λ u. text_of found.capture (sent_of fates u)) (one_unit out k unit (small k lt) (small unit below) same))
       (λ j same. absurd (no_group out unit j (small unit below) same))
       (λ same. absurd (no_fates out unit (small unit below) same))
+      (λ same. absurd (no_times out unit (small unit below) same))
       (named_first (capture_name out unit) (unit_files out found.capture fates (unit_count plan)) _ (named_number unit_file (unit_count plan) unit below))
       ∙ ap Some (parts.text (sent_of fates unit) (sent_below fates unit (packets_of_file found.capture).count (are.of_run.settled.serials unit) (let is = count-is in omega arith)))
 
@@ -154,6 +163,7 @@ module _ (plan_name capture_file out plan_bytes capture_bytes : List ℕ) (old n
       (λ k lt same. absurd (no_fates out k (small k lt) (sym same)))
       (λ j same. absurd (no_root_fates out j same))
       (λ same. refl)
+      (λ same. absurd (no_times_fates out same))
       (named_then (fates_name out) (unit_files out found.capture fates (unit_count plan)) _ (named_then (fates_name out) (group_files out found.capture plan fates) _ (inl refl)))
       ∙ ap Some (same_fates fates)
 

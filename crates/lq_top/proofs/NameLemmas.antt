@@ -3,7 +3,7 @@ use Rattle.std.proofs.Common.{ℕ, List, Option, Some, None}
 use Rattle.lq_host.specs.Host.{any_name}
 use Rattle.lq_files.specs.Command.{CommandWords, OfGen, OfRun, OfTap, OfTrace}
 use Rattle.lq_files.specs.Groups.{group_capture_name}
-use Rattle.lq_files.specs.RunFiles.{capture_name, fates_name}
+use Rattle.lq_files.specs.RunFiles.{capture_name, fates_name, times_name}
 use Rattle.lq_files.specs.TapFiles.{read_name}
 use Rattle.lq_top.specs.Names.{MayDo}
 
@@ -12,7 +12,7 @@ may_all opens creates None = _
 may_all opens creates (Some (OfRun words)) = (
   opens words.plan,
   opens words.capture,
-  record { units = λ unit below. creates (capture_name words.out unit); groups = λ j below. creates (group_capture_name words.out j); fates = creates (fates_name words.out) },
+  record { units = λ unit below. creates (capture_name words.out unit); groups = λ j below. creates (group_capture_name words.out j); fates = creates (fates_name words.out); times = creates (times_name words.out) },
 )
 may_all opens creates (Some (OfGen words)) = creates words.out
 may_all opens creates (Some (OfTrace file)) = opens file

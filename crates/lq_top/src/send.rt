@@ -1,9 +1,10 @@
 //! The packets of a capture are sent under a plan, and what became of them is written, for `run` and for `gen`.
-ghost use Rattle.std.specs.Prelude.{◌≡◌, ◌⊎◌, ◌<◌, ◌^◌, [], IfOk, OnErr, OnOk, drop, length, map, vec_len};
+ghost use Rattle.std.specs.Prelude.{◌≡◌, ◌⊎◌, ◌<◌, ◌^◌, [], All, IfOk, OnErr, OnOk, drop, length, map, vec_len};
 ghost use Rattle.lq_model.specs.Openings.{openings};
 ghost use Rattle.lq_model.specs.Plan.{infos_of, unit_count};
 ghost use Rattle.lq_pcapng.specs.File.{packets_of_file};
 ghost use Rattle.lq_model.specs.Settled.{IsSettled};
+ghost use Rattle.lq_plan.specs.Packets.{IsInfoWithin};
 ghost use Rattle.lq_files.specs.Accepted.{IsRunnable};
 ghost use Rattle.lq_host.specs.Host.{wrote};
 ghost use Rattle.lq_files.specs.RunFiles.{MayWrite, counts_output};
@@ -43,6 +44,7 @@ pub fn send_capture<R: Threads + Wait + Sync, G: Gate, D: TxDevice>(
     requires none_yet { ended.old.items ≡ [] }
     ensures infos { IfOk result (λ infos. infos.items ≡ infos_of run.now.plan.now (packets_of_file run.now.capture.now)) }
     ensures count { IfOk result (λ infos. vec_len infos ≡ (packets_of_file run.now.capture.now).count) }
+    ensures within { IfOk result (λ infos. All (IsInfoWithin run.now.plan.now) infos.items) }
     ensures fates { IfOk result (λ infos. AreFatesOf run.now.plan.now infos.items (openings run.now.plan.now (packets_of_file run.now.capture.now))
         (fates_told infos.items (map ended_state ended.new.items)) (map D.state bench.old.items) (map D.state bench.new.items)) }
     ensures ended { IfOk result (λ infos. AreEnded run.now.plan.now infos.items
@@ -71,6 +73,7 @@ fn write_report<R: Threads + Sync, H: Host, G: Gate, F: Fates>(
     requires infos { infos.now ≡ infos_of run.now.plan.now (packets_of_file run.now.capture.now) }
     requires count { length infos.now ≡ (packets_of_file run.now.capture.now).count }
     requires few { length infos.now < 2 ^ 32 }
+    requires within { All (IsInfoWithin run.now.plan.now) infos.now }
     requires settled { IsSettled run.now.plan.now infos.now (F.fates fates.now) }
     ensures handles { (H.state host.new).handles ≡ (H.state host.old).handles }
     ensures ok { OnOk result (H.state host.new ≡ written (run_texts run.now (F.fates fates.now)) (H.state host.old)) }
@@ -97,6 +100,7 @@ pub fn write_told<'a, R: Threads + Sync, H: Host, G: Gate, D: TxDevice>(
     requires infos { infos.now ≡ infos_of run.now.plan.now (packets_of_file run.now.capture.now) }
     requires count { length infos.now ≡ (packets_of_file run.now.capture.now).count }
     requires few { length infos.now < 2 ^ 32 }
+    requires within { All (IsInfoWithin run.now.plan.now) infos.now }
     requires told { TellEach infos.now (map ended_state ended.now) }
     requires settled { IsSettled run.now.plan.now infos.now (fates_told infos.now (map ended_state ended.now)) }
     ensures handles { (H.state host.new).handles ≡ (H.state host.old).handles }

@@ -157,7 +157,8 @@ fn do_command<R: Threads + Wait + Sync, H: Host, G: Gate, D: TxDevice>(
 /// - `run PLAN CAPTURE OUT` reads the plan, which may need more devices than the bench has, and the capture; sends the
 ///   packets through the plan's stations, the device at place u of the bench being unit u; makes `OUT.<unit>.pcap` for
 ///   each unit in ascending order, `OUT.mq<J>.pcap` for each station J of the plan that is a multi-queue root, of the packets
-///   that its children sent, and `OUT.fates`; and writes the counts to standard output, behind them a line for each root.
+///   that its children sent, `OUT.fates`, and `OUT.times` if one sender sends over a card; and writes the counts to standard
+///   output, behind them a line for each root.
 /// - `gen NUMBER COUNT OUT` makes OUT, the capture of COUNT packets that NUMBER generates, and then sends its packets
 ///   through one station over the first device of the bench: `irq_every = 64`, and a station with `len = 32` and
 ///   `burst = 48`. It writes the counts to standard output. NUMBER is below 2^32 and COUNT at most 1,000,000, both in

@@ -5,7 +5,7 @@ use Rattle.lq_model.specs.Texts.{is_sent_by}
 use Rattle.lq_fates.specs.Sent.{sent_by_units}
 use Rattle.lq_files.specs.RunFiles.{run_of}
 use Rattle.lq_files.proofs.MoveLemmas.{on_err_any}
-use Rattle.lq_files.proofs.RunFilesLemmas.{counts_of_plan, stopped_first, stopped_in_units, stopped_in_groups, stopped_in_fates, stopped_in_counts, all_written}
+use Rattle.lq_files.proofs.RunFilesLemmas.{counts_of_plan, stopped_first, stopped_in_units, stopped_in_groups, stopped_in_fates, stopped_in_times, stopped_in_counts, all_written}
 use Rattle.lq_files.proofs.SentLists.{for_each_below, for_each_of, sent_long}
 use Rattle.lq_files.proofs.outputs.write_run.Goals as goal
 
@@ -66,12 +66,19 @@ returns-in_err-write_fates-clause-err g c =
     c.units-units.ensures.units c.in_ok-write_units.ensures.ok (g.H.Host.state c.write_groups.new.host) c.in_ok-write_groups.ensures.ok (g.H.Host.state c.write_fates.new.host)
     c.in_err-write_fates.ensures.err)
 
+pub returns-in_err-write_times-clause-err : goal.returns-in_err-write_times-clause-err
+returns-in_err-write_times-clause-err g c =
+    on_err_any c.from_residual-in_err-write_times.result
+    (stopped_in_times (run_of c.args.report.now.run.out.now c.args.report.now.run.plan.now c.args.report.now.run.capture.now) (g.F.Fates.fates c.args.report.now.fates.now) c.units-units.result (g.H.Host.state c.args.host.now) (g.H.Host.state c.write_units.new.host)
+    c.units-units.ensures.units c.in_ok-write_units.ensures.ok (g.H.Host.state c.write_groups.new.host) c.in_ok-write_groups.ensures.ok (g.H.Host.state c.write_fates.new.host)
+    c.in_ok-write_fates.ensures.ok c.args.report.now.infos.now c.requires.infos (g.H.Host.state c.write_times.new.host) c.in_err-write_times.ensures.err)
+
 pub returns-clause-ok : goal.returns-clause-ok
 returns-clause-ok g c =
     on_ok_weaker c.write_counted.result
     (all_written (run_of c.args.report.now.run.out.now c.args.report.now.run.plan.now c.args.report.now.run.capture.now) (g.F.Fates.fates c.args.report.now.fates.now) c.units-units.result (g.H.Host.state c.args.host.now) (g.H.Host.state c.write_units.new.host)
     c.units-units.ensures.units c.in_ok-write_units.ensures.ok (g.H.Host.state c.write_groups.new.host) c.in_ok-write_groups.ensures.ok (g.H.Host.state c.write_fates.new.host)
-    c.in_ok-write_fates.ensures.ok c.args.report.now.infos.now c.requires.infos (g.H.Host.state c.write_counted.new.host))
+    c.in_ok-write_fates.ensures.ok c.args.report.now.infos.now c.requires.infos (g.H.Host.state c.write_times.new.host) c.in_ok-write_times.ensures.ok (g.H.Host.state c.write_counted.new.host))
     (c.write_counted.ensures.ok c.args.report.now.infos.now (counts_of_plan c.args.report.now.run.plan.now (g.F.Fates.fates c.args.report.now.fates.now) c.args.report.now.infos.now
     c.stations.result c.units-units.result c.in_ok-counts.counts c.stations.ensures.stations c.units-units.ensures.units c.in_ok-counts.ensures))
 
@@ -80,6 +87,6 @@ returns-clause-err g c =
     on_err_weaker c.write_counted.result
     (stopped_in_counts (run_of c.args.report.now.run.out.now c.args.report.now.run.plan.now c.args.report.now.run.capture.now) (g.F.Fates.fates c.args.report.now.fates.now) c.units-units.result (g.H.Host.state c.args.host.now) (g.H.Host.state c.write_units.new.host)
     c.units-units.ensures.units c.in_ok-write_units.ensures.ok (g.H.Host.state c.write_groups.new.host) c.in_ok-write_groups.ensures.ok (g.H.Host.state c.write_fates.new.host)
-    c.in_ok-write_fates.ensures.ok c.args.report.now.infos.now c.requires.infos (g.H.Host.state c.write_counted.new.host))
+    c.in_ok-write_fates.ensures.ok c.args.report.now.infos.now c.requires.infos (g.H.Host.state c.write_times.new.host) c.in_ok-write_times.ensures.ok (g.H.Host.state c.write_counted.new.host))
     (c.write_counted.ensures.err c.args.report.now.infos.now (counts_of_plan c.args.report.now.run.plan.now (g.F.Fates.fates c.args.report.now.fates.now) c.args.report.now.infos.now
     c.stations.result c.units-units.result c.in_ok-counts.counts c.stations.ensures.stations c.units-units.ensures.units c.in_ok-counts.ensures))

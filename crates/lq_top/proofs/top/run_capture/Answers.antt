@@ -1,6 +1,7 @@
-use Rattle.std.proofs.Common.{◌≡◌, List, ap₂, inl, map, refl, subst, sym}
+use Rattle.std.proofs.Common.{◌≡◌, All, List, ap₂, inl, map, refl, subst, sym}
 use Rattle.lq_model.specs.Settled.{IsSettled}
 use Rattle.lq_model.specs.declared.fate.Info.{Info}
+use Rattle.lq_plan.specs.Packets.{IsInfoWithin}
 use Rattle.lq_table.specs.Ended.{ended_state}
 use Rattle.lq_files.specs.RunFiles.{run_of}
 use Rattle.lq_senders.specs.Told.{TellEach, fates_told}
@@ -11,6 +12,9 @@ pub write_told-requires-clause-told : goal.write_told-requires-clause-told
 write_told-requires-clause-told g c κs within =
     subst (λ (infos : List Info). TellEach infos (map ended_state c.as_slice.result.now)) (sym c.deref.ensures.value)
     (subst (λ ended. TellEach c.in_ok-infos.infos.items (map ended_state ended)) (sym c.as_slice.ensures.value) c.in_ok-infos.ensures.told)
+
+pub write_told-requires-clause-within : goal.write_told-requires-clause-within
+write_told-requires-clause-within g c κs live = subst (λ (infos : List Info). All (IsInfoWithin c.args.run.now.plan.now) infos) (sym c.deref.ensures.value) c.in_ok-infos.ensures.within
 
 pub write_told-requires-clause-settled : goal.write_told-requires-clause-settled
 write_told-requires-clause-settled g c κs within =
