@@ -27,6 +27,15 @@ INSIDE = "BESIDE_LINK_INSIDE"
 SPACES = ("source", "router", "sink")
 MACS = {"s0": "02:00:00:00:01:01", "r0": "02:00:00:00:01:02", "r1": "02:00:00:00:02:01", "k0": "02:00:00:00:02:02"}
 PATHS = [("s0", "source", "r0", "router"), ("r1", "router", "k0", "sink")]
+# the router forwards whatever the source of a packet is, and the ends say nothing by themselves
+KEYS = [
+    ("router", "ipv4/ip_forward", 1),
+    ("router", "ipv6/conf/all/forwarding", 1),
+    ("router", "ipv4/conf/all/rp_filter", 0),
+    ("router", "ipv4/conf/r0/rp_filter", 0),
+    ("source", "ipv6/conf/all/disable_ipv6", 1),
+    ("sink", "ipv6/conf/all/disable_ipv6", 1),
+]
 HEAD = 64  # bytes of a frame that are kept
 SHORTEST = {4: ETHERNET_HEADER + 20, 6: ETHERNET_HEADER + 40}
 MOST = 2**22  # of packets: numbers in 100.64.0.0/10
@@ -133,10 +142,8 @@ def make_router(mtu):
         run("ip", "netns", "add", space)
     for one, space, other, beyond in PATHS:
         run("ip", "link", "add", one, "netns", space, "address", MACS[one], "type", "veth", "peer", "name", other, "netns", beyond, "address", MACS[other])
-    for key in ("ipv6.conf.all.forwarding=1", "ipv4.ip_forward=1", "ipv4.conf.all.rp_filter=0", "ipv4.conf.r0.rp_filter=0"):
-        run("ip", "netns", "exec", "router", "sysctl", "-qw", f"net.{key}")
-    for space in ("source", "sink"):
-        run("ip", "netns", "exec", space, "sysctl", "-qw", "net.ipv6.conf.all.disable_ipv6=1")
+    for space, key, value in KEYS:
+        run("ip", "netns", "exec", space, "sh", "-c", f"echo {value} >/proc/sys/net/{key}")
     for device, space in (("s0", "source"), ("r0", "router"), ("r1", "router"), ("k0", "sink")):
         run("ip", "-n", space, "link", "set", device, "mtu", str(mtu), "addrgenmode", "none")
         run("ip", "-n", space, "link", "set", device, "up")
