@@ -10,7 +10,9 @@ import shutil
 import stat
 from array import array
 from collections import Counter
+from functools import cached_property
 from itertools import accumulate
+from math import inf
 from operator import gt, lt, sub
 from typing import NamedTuple
 
@@ -92,6 +94,10 @@ class Seen:
         rows = zip(self.frames, self.captured, self.links)
         return (data[at : at + size] for at, captured, it in rows if it == link and captured >= size)
 
+    @cached_property
+    def times(self):
+        return list(moments_of(self.capture))
+
     @property
     def card(self):
         return self.plan and self.plan.station[0].card
@@ -106,7 +112,7 @@ class Seen:
 def times_that_go_back(seen):
     if not seen.looks_at_times():
         return
-    times = list(moments_of(seen.capture))
+    times = seen.times
     back = sum(map(gt, times, times[1:]))
     if back:
         most, is_refused = max(a - b for a, b in zip(times, times[1:])), bool(seen.plan and seen.plan.wants_order)
@@ -115,20 +121,21 @@ def times_that_go_back(seen):
 
 
 def rates_of(times, octets):
-    """How many bits a millisecond come in each stretch of packets, where its time isn't 0."""
+    """How many bits a millisecond come in each stretch of packets: endlessly many where they come at once."""
     sums = list(accumulate(octets, initial=0))
-    return [(sums[n + STRETCH] - sums[n]) * 8 * 10**6 / (times[n + STRETCH] - times[n]) for n in range(len(times) - STRETCH) if times[n + STRETCH] > times[n]]
+    for few, many, early, late in zip(sums, sums[STRETCH:], times, times[STRETCH:]):
+        yield (many - few) * 8 * 10**6 / (late - early) if late > early else inf
 
 
 def behind_the_queue(seen):
     """A capture of the link itself is as quick as the link where that is busy, and hardly quicker."""
-    if not seen.card:
-        return
-    rate, times = seen.card.rate_kbit, list(moments_of(seen.capture))
+    rate = seen.card.rate_kbit if seen.card else 0
     # a shaper counts the bytes of a frame alone
-    quick, full = rates_of(times, seen.capture.lengths), rates_of(times, [bytes_of_wire(seen.card, it) for it in frame_lengths(seen.capture)])
+    if seen.count <= STRETCH or not rate or any(it > QUICK * rate for it in rates_of(seen.times, seen.capture.lengths)):
+        return
+    full = list(rates_of(seen.times, [bytes_of_wire(seen.card, it) for it in frame_lengths(seen.capture)]))
     busy = sum(it >= NEARLY * rate for it in full)
-    if quick and len(quick) == seen.count - STRETCH and max(quick) <= QUICK * rate and busy >= OFTEN * len(full):
+    if busy >= OFTEN * len(full):
         said = f"no {STRETCH} packets in a row are quicker than the link, and {busy / len(full):.0%} of such nearly as quick: it seems to be taken on the link itself, behind its queue"
         yield Finding(f"{said}. What was dropped isn't in it, and 0 dropped is then no answer. To capture what comes to the queue", f"tcpdump -i INTERFACE -Q in -w {seen.new_name('.in.pcap')}")
 
@@ -403,6 +410,8 @@ def found_of(name, plan=None, capture=None):
 
 
 def tell(tool, name, plan=None, capture=None):
-    """Says on standard error what is found of a capture."""
-    for it in found_of(name, plan, capture):
+    """Says on standard error what is found of a capture; whether `lqtx` refuses it for that."""
+    found = found_of(name, plan, capture)
+    for it in found:
         say(tool, f"{name}: {it}")
+    return any(it.is_refused for it in found)
