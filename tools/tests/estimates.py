@@ -67,12 +67,17 @@ ONCE = {
 QUIET = 947  # seconds that a first build took on this machine with nothing else at work: 52 processor minutes
 
 
+def estimate_of(build, crates):
+    """The estimate of a build of these crates alone: others of the program came later."""
+    build.Kit = type("Kit", (), {"__init__": lambda *_: None, "has": lambda *_: False})
+    uses = build.crates_of_program()
+    return build.Build({crate: [it for it in uses[crate] if it in crates or it not in uses] for crate in uses if crate in crates}, 4).estimate
+
+
 @case
 def estimate_of_a_first_build():
     """From the first minute on it is right within a third for a machine that stays as it is, and soon after other work came."""
-    build = load("build")
-    build.Kit = type("Kit", (), {"__init__": lambda *_: None, "has": lambda *_: False})
-    it = build.Build(build.crates_of_program(), 4).estimate
+    it = estimate_of(load("build"), ONCE)
     ends = {crate: end for crate, (_, end) in ONCE.items()}
     took, slower = max(ends.values()), 52 * 60 / sum(it.plan.seconds.values())
     planned = {crate: slower * it.plan.seconds.get(crate, 5) for crate in ONCE}
@@ -103,8 +108,7 @@ def estimate_of_a_slow_first_build():
     """From the first minute on it is right within a third, though the first crates are small and the unproved build has a processor meanwhile."""
     build = load("build")
     build.SHARES["lq_model"] = 42  # which it took then
-    build.Kit = type("Kit", (), {"__init__": lambda *_: None, "has": lambda *_: False})
-    it = build.Build(build.crates_of_program(), 4).estimate
+    it = estimate_of(build, SLOW)
     took = max(end for _, end, _ in SLOW.values())
     for now in range(60, took, 20):
         for crate, (_, end, used) in SLOW.items():
