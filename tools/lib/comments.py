@@ -19,7 +19,7 @@ STARTS = (tokenize.ENCODING, tokenize.NEWLINE, tokenize.INDENT, tokenize.DEDENT)
 def comments_of(file: Path) -> Iterator[Tuple[int, str]]:
     """The comments of a file, and in Python the texts that describe something; each with the line at which it begins."""
     text = file.read_text(encoding="utf-8")
-    if file.suffix == ".py" or text.startswith("#!/usr/bin/env python3"):
+    if file.suffix == ".py" or re.match("#!/usr/bin/env (-S )?python3", text):
         before = tokenize.ENCODING
         for it in tokenize.generate_tokens(io.StringIO(text).readline):
             if it.type == tokenize.COMMENT or it.type == tokenize.STRING and before in STARTS:

@@ -143,7 +143,7 @@ def words_of_flow(flow):
     """A flow in words: the protocol, and from where to where."""
     if flow.protocol is None:
         return "no IP header"
-    with_port = lambda address, port: address if port is None else f"[{address}]:{port}" if ":" in address else f"{address}:{port}"  # noqa: E731
+    with_port = lambda address, port: address if port is None else f"[{address}]:{port}" if ":" in address else f"{address}:{port}"
     return f"{flow.protocol} {with_port(flow.source, flow.source_port)} > {with_port(flow.destination, flow.destination_port)}"
 
 

@@ -57,7 +57,7 @@ def say_found(command, found, code):
 
 
 def told_by(tool, *given):
-    return subprocess.run([sys.executable, TOOLS / tool, *given], stdin=subprocess.DEVNULL, capture_output=True, encoding="utf-8", errors="replace")
+    return subprocess.run([sys.executable, "-B", TOOLS / tool, *given], stdin=subprocess.DEVNULL, capture_output=True, encoding="utf-8", errors="replace")
 
 
 def explain_capture(command, program):

@@ -4,24 +4,19 @@
     front.py --after STATUS SIGNAL WORD...      explains the program's end once the shell has run it with these words; SIGNAL is the one that it got, or 0
     front.py --answer PROGRAM NOTE WORD...      the answer of the program without its proof, on standard error, while the proof is under way
 """
+import contextlib
+import itertools
 import os
+import pathlib
+import re
+import shutil
+import subprocess
 import sys
 
-sys.dont_write_bytecode = True
 sys.path[0] = os.path.dirname(sys.path[0])
-from lib import words  # noqa: E402
-from lib.words import Failed, Wrong  # noqa: E402
-
-import contextlib  # noqa: E402
-import itertools  # noqa: E402
-import pathlib  # noqa: E402
-import re  # noqa: E402
-import shutil  # noqa: E402
-import signal  # noqa: E402
-import subprocess  # noqa: E402
-
-from lib import answers, ends, kept, outputs, without_proof  # noqa: E402
+from lib import answers, ends, kept, outputs, without_proof, words  # noqa: E402
 from lib.crates import NoKit  # noqa: E402
+from lib.words import Failed, Wrong  # noqa: E402
 
 TOP, say = kept.TOP, answers.tell
 PAGES = {

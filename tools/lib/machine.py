@@ -429,10 +429,9 @@ def work_with_mistake(data, mistake):
     wrong, events, parted = None, [], None
     with_control = mistake == "soft_interrupt_gives_up_when_deactivated"
     right_events = list(work(data))
-    right = None
     for event in right_events:
         if event.what == "setup":
-            wrong = right = event.after
+            wrong = event.after
             events.append(event)
             continue
         i, line = event.seat, event.line

@@ -313,7 +313,7 @@ def picture_of_tap(run, of, first):
 def curve(waiting, most, top, colour):
     """How many packets wait, over packet numbers: where several share a column of half a pixel, from the fewest to the most; at last those left, which go."""
     count = len(waiting)
-    up = lambda it: f"{top + HEIGHT - (HEIGHT - 8) * it / most:.1f}"  # noqa: E731
+    up = lambda it: f"{top + HEIGHT - (HEIGHT - 8) * it / most:.1f}"
     columns, path = min(2 * WIDTH, count), []
     for column in range(columns):
         start, end = -(-column * count // columns), -(-(column + 1) * count // columns)
@@ -326,7 +326,7 @@ def curve(waiting, most, top, colour):
 
 def curve_by_time(changes, axis, most, top, colour):
     """How many packets wait, over time: in each column of half a pixel from the fewest to the most, and from column to column what waits between."""
-    up = lambda it: f"{top + HEIGHT - (HEIGHT - 8) * it / most:.1f}"  # noqa: E731
+    up = lambda it: f"{top + HEIGHT - (HEIGHT - 8) * it / most:.1f}"
     waiting, columns = 0, {}
     for time, change in changes:
         column = min(round(axis.at(time) * axis.whole), axis.whole)

@@ -167,7 +167,7 @@ def outputs_that_are_the_user_s():
         expect(f"{tool}: {call}, a file of the user's", said, 2, "out" + ending + " is there, and wasn't left so by an earlier call: --force overwrites it")
         if said[2].count("\n") != 1 or contents(room) != before:
             fault(f"{tool}: {call}, a file of the user's: files have changed")
-        if tool == "show-schedule" or tool == "show-run" and not " tap " in f" {call}":
+        if tool == "show-schedule" or tool == "show-run" and " tap " not in f" {call}":
             expect(f"{tool}: {call}, with --force", run(*words, "--force", cwd=room), 0)
             said = run(*words, cwd=room)
             expect(f"{tool}: {call}, once more", said, 0)
@@ -234,7 +234,7 @@ def outputs_that_are_there():
     """A tool's own outputs are replaced; pictures are SVG and named so; two outputs are two files."""
     room = ROOM / "there"
     files = inputs_of(room, "")
-    show = lambda *words: run(HERE / "show-schedule", files["schedule"], *words, cwd=room)  # noqa: E731
+    show = lambda *words: run(HERE / "show-schedule", files["schedule"], *words, cwd=room)
     for again in ("a picture", "a picture again"):
         said = show("a.svg")
         expect(again, said, 0)
@@ -244,7 +244,7 @@ def outputs_that_are_there():
     said = show("a.svg")
     expect("a picture over another's", said, 2, "show-schedule: a.svg is there, and wasn't left so by an earlier call: --force overwrites it\n")
     expect("a picture of another name", show("a.png"), 2, "a.png: a picture is written as SVG, so its name ends in .svg")
-    sweep = lambda *words: run(HERE / "sweep", files["plan"], files["capture"], "irq_every=1..2", *words, "--program", files["program"], cwd=room)  # noqa: E731
+    sweep = lambda *words: run(HERE / "sweep", files["plan"], files["capture"], "irq_every=1..2", *words, "--program", files["program"], cwd=room)
     expect("a sweep's picture of another name", sweep("b.csv", "b.png"), 2, "a picture is written as SVG")
     expect("a table and a picture of one name", sweep("b.svg", "./b.svg"), 2, "./b.svg and b.svg are one file")
     if (room / "b.svg").exists() or (room / "a.png").exists() or (room / "b.csv").exists():

@@ -90,7 +90,7 @@ def shown_of_a_link():
     (room / "c.pcap").write_bytes(capture_at([0, 10, 20], [1476, 76, 76]).data)
     made = run(HERE / "tests/by_the_rules.py", "run", "p.toml", "c.pcap", "o", cwd=room)
     is_equal("the times of a link", (made[0], (room / "o.times").read_text(encoding="utf-8")), (0, "0 0 1500000\n1 1500000 1600000\n2 1600000 1700000\n"))
-    show = lambda *words: run(HERE / "show-run", "p.toml", "c.pcap", "o", *words, cwd=room)  # noqa: E731
+    show = lambda *words: run(HERE / "show-run", "p.toml", "c.pcap", "o", *words, cwd=room)
     waits = "wait 1490.0 us in the middle, 1580.0 us for 99 of 100, 1580.0 us at most"
     said = show("o.svg", "b.svg", "--table", "t.csv", "--marked", "m.pcapng", "--retimed", "0", "r.pcap", "--html", "o.html", "--flows")
     expect("show-run of a link", said, 0, f"\n  backlog at most 2 pkt, 152 bytes; {waits}\n", f"sent 1628 bytes 3 pkt, dropped 0; {waits}\n",
@@ -117,7 +117,7 @@ def how_long():
     room.mkdir()
     (room / "once.pcap").write_bytes(capture_at([0] * 39 + [1], [76] * 40).data)
     (room / "twice.pcap").write_bytes(capture_at([0] * 40 + [650] * 5, [76] * 45).data)
-    find = lambda name, *words: run(HERE / "how-long", f"{name}.pcap", "8mbit", *words, "--program", HERE / "tests/by_the_rules.py", cwd=room)  # noqa: E731
+    find = lambda name, *words: run(HERE / "how-long", f"{name}.pcap", "8mbit", *words, "--program", HERE / "tests/by_the_rules.py", cwd=room)
     expect("how-long", find("once"), 0, "txqueuelen 38 drops none of 40 packets; waits 2000.0 us (median), 3899.0 us (99 of 100)", "39 packets of a band wait at once", "38 was the first that was run", "txqueuelen 37 drops 1 of 40")
     expect("how-long, some dropped", find("once", "--drops", "5"), 0, "txqueuelen 33 drops 5 of 40 packets", "by bisection")
     expect("how-long, a share dropped", find("once", "--drops", "10%"), 0, "txqueuelen 34 drops 4 of 40 packets")

@@ -143,7 +143,7 @@ def show_run_of_a_tap():
     text = "".join(it + "\n" for it in TAP_FATES)
     (room / "t.fates").write_text(text, encoding="utf-8")
     (room / "t.pcap").write_bytes(loopback.written([0, 1, 3, 4, 5, 6, 9]))
-    show = lambda out, *words, tap=("1", "4", "4"): run(HERE / "show-run", "tap", *tap, capture, room / out, *words)  # noqa: E731
+    show = lambda out, *words, tap=("1", "4", "4"): run(HERE / "show-run", "tap", *tap, capture, room / out, *words)
     said = show("t", room / "t.svg", "--dropped", room / "lost.pcap")
     octets = sum(loopback.lengths[n] for n in (0, 1, 3, 4, 5, 6, 9))
     expect("show-run of a tap", said, 0, "tap: a ring of 4 slots, 1 senders, batches of 4\n", f" read {octets} bytes 7 pkt, dropped 3 (full 2, lost 1)\n sender 0: read ")

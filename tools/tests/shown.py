@@ -62,7 +62,7 @@ def waits_and_table():
         expect(f"table{ending}", shown("six", SLOW, SIX, "--table", table.with_suffix(ending), "--numbers-from", "1"), 0)
         text = table.with_suffix(ending).read_text(encoding="utf-8")
         found = json.loads(text) if ending == ".json" else [json.loads(it) for it in text.splitlines()]
-        as_text = lambda it: "" if it is None else str(it).lower() if isinstance(it, bool) else str(it)  # noqa: E731
+        as_text = lambda it: "" if it is None else str(it).lower() if isinstance(it, bool) else str(it)
         for it, row in zip(found, rows):
             told = {key: f"{value:.6f}" if key in ("time", "waited_seconds") else as_text(value) for key, value in it.items()}
             if told != row or len(found) != 6:
@@ -177,7 +177,7 @@ def marked():
 def marked_pcapng():
     """All blocks and options of a pcapng stay, a comment that was there too; a simple packet block has no place for one."""
     for order in "<>":
-        packet = lambda more: block(order, 6, struct.pack(order + "IIIII", 1, 5, 6, 34, 34) + frame(0, 7, 9) + bytes(2) + more)  # noqa: E731
+        packet = lambda more: block(order, 6, struct.pack(order + "IIIII", 1, 5, 6, 34, 34) + frame(0, 7, 9) + bytes(2) + more)
         parts = [
             block(order, 1, struct.pack(order + "HHI", 101, 0, 0)),
             block(order, 1, struct.pack(order + "HHI", 1, 0, 0) + option(order, 2, b"eth0") + option(order, 9, b"\x03") + bytes(4)),
@@ -189,7 +189,7 @@ def marked_pcapng():
             block(order, 5, bytes(16)),
             block(order, 0xBAD, b"own data"),
         ]
-        section = lambda long: block(order, 0x0A0D0D0A, struct.pack(order + "IHHq", 0x1A2B3C4D, 1, 0, long) + option(order, 4, b"tcpdump") + bytes(4))  # noqa: E731
+        section = lambda long: block(order, 0x0A0D0D0A, struct.pack(order + "IHHq", 0x1A2B3C4D, 1, 0, long) + option(order, 4, b"tcpdump") + bytes(4))
         for given in (False, True):
             data, file = section(len(b"".join(parts)) if given else -1) + b"".join(parts), ROOM / "shown/ng-marked.pcapng"
             said = shown("ng", "[[station]]\n", data, "--marked", file, "--table", ROOM / "shown/ng.csv")

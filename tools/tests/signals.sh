@@ -1,3 +1,4 @@
+# shellcheck shell=sh disable=SC2012,SC2015,SC2034,SC2086,SC2154 # names are those of tools/test-wrapper
 # Cases of tools/test-wrapper, which reads this file: signals, while the program is built and while it runs, and two builds at once.
 
 begin "a signal"

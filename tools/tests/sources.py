@@ -1,5 +1,5 @@
 """Tools that read the sources: what nobody needs, names with several meanings, and what is to be read."""
-from tests.bench import case, expect, expect_none, fault, is_equal, repository, run
+from tests.bench import case, expect, expect_none, is_equal, repository, run
 
 SMALL = {
     "README.md": "A law stands: `kept_law`.\n",

@@ -129,7 +129,7 @@ class Fixed:
         po, keep = self.po, self.only
         ordered = lambda *orders: self.members(lambda it: it.order in orders and it.kind != "F")
         fence = lambda kind: then(po, keep(self.members(lambda it: it.kind == "F" and it.order == kind)), po)
-        memory, read, write = keep(accesses), keep(self.is_read), keep(self.is_write)
+        memory, write = keep(accesses), keep(self.is_write)
         returning = keep(self.is_read & ~ordered("noreturn"))
         # one that failed counts too: a barrier after it orders it, although it has no order of its own
         updates = keep(_or([row | 1 << at if row else 0 for at, row in enumerate(self.rmw)]) | ordered("failed"))
