@@ -20,7 +20,7 @@ from lib.words import Failed, Wrong  # noqa: E402
 
 TOP, say = kept.TOP, answers.tell
 PAGES = {
-    2: f"the manual: man {TOP}/docs/lqtx.1, and {TOP}/README.md", 3: "docs/FORMATS.md, 'Plans', explains each reason, and lists common mistakes",
+    2: f"the manual: man {TOP}/docs/lqtx.1, and {TOP}/README.md", 3: "docs/FORMATS.md, 'Plans', explains each reason",
 }  # fmt: skip
 
 

@@ -5,7 +5,7 @@ from lib import plans
 from tests.bench import HERE, ROOM, TOP, case, expect, fault, run
 from tests.odd_plans import ODD_PLANS
 
-# what is written most often by mistake, as docs/FORMATS.md has it: the least reason, and a part of what is said
+# what is written most often by mistake: the least reason, and a part of what is said
 PLANS = {
     "": ("3 Missing", "the top, `station`: it is missing"),
     "[[station]]\nlen =\n": ("1 NotToml", ":2: the text:"),
