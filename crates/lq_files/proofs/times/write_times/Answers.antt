@@ -1,8 +1,5 @@
-use Rattle.std.proofs.Common.{List, inl, refl, sym, subst, ◌∙◌, ap}
-use Rattle.lq_pcapng.specs.File.{packets_of_file}
-use Rattle.lq_files.specs.Written.{FileText, FilesAreCut, files_written}
-use Rattle.std.proofs.lemmas.Result.{on_ok_weaker, on_err_weaker}
-use Rattle.lq_files.proofs.TimesLemmas.{files-told, told-fits}
+use Rattle.std.proofs.Common.{sym, ◌∙◌}
+use Rattle.lq_files.proofs.TimesLemmas.{told-fits}
 use Rattle.lq_files.proofs.times.write_times.Goals as goal
 
 pub write_times_of-requires-clause-fits : goal.write_times_of-requires-clause-fits

@@ -1,14 +1,12 @@
-use Rattle.std.proofs.Common.{ℕ, ◌≡◌, ◌≤◌, ◌<◌, ◌+◌, ◌*◌, ◌++◌, ◌∙◌, List, ap, refl, sym, arith}
+use Rattle.std.proofs.Common.{ℕ, ◌≤◌, ◌+◌, ◌*◌, ◌++◌, ◌∙◌, List, ap, refl, arith}
 use Rattle.std.proofs.lemmas.Result.{on_ok_weaker, on_err_weaker}
 use Rattle.lq_model.specs.Texts.{times_text}
 use Rattle.lq_model.specs.Wire.{flights_of_card}
 use Rattle.lq_pcapng.specs.File.{packets_of_file}
 use Rattle.lq_wire.proofs.Flights.{all-left, none-left}
 use Rattle.lq_wire.specs.Times.{lines_left}
-use Rattle.lq_files.specs.Parts.{IsStreamed}
 use Rattle.lq_files.proofs.MoveLemmas.{on_err_any}
 use Rattle.lq_files.proofs.PieceLemmas.{streamed_cut, streamed_none, streamed_pushed, streamed_written, written_cut, written_whole}
-use Rattle.lq_files.proofs.times.write_turns.Given as given
 use Rattle.lq_files.proofs.times.write_turns.Goals as goal
 
 pub push_turn-requires-clause-at : goal.push_turn-requires-clause-at
