@@ -5,10 +5,8 @@ the sources as they are, as long as none of the files in `build/sources.*` has c
 """
 import contextlib
 import os
-import subprocess
 
 from lib.crates import CRATES, TOP, NoKit, checksum_of_sources, checksum_of_toolchain, crates_below, files_of, folders_of, kit, told_by_toolchain
-from lib.words import Failed, say
 
 KEPT = TOP / "build"
 # the unproved one for small inputs is compiled in less time; of a module the other is made
@@ -53,29 +51,3 @@ def drop_old(kind):
     kept = sorted((it for it in KEPT.glob(f"{kind}.*.*") if it.is_file()), key=lambda it: it.stat().st_mtime, reverse=True)
     for it in kept[STAYING[kind] :]:
         it.unlink()
-
-
-def installed_program():
-    """The one that tools/install put beside the tools."""
-    program = TOP / "program"
-    if not program.exists():
-        raise Failed("the proved program wasn't there when this was installed: --program PATH names one")
-    return program
-
-
-def program_for(tool, is_unproved):
-    """The program that a tool runs, which is kept. A proof isn't begun here: it takes too long for that."""
-    if not CRATES.exists():
-        return installed_program()
-    sources = Sources()
-    proved, unproved = sources.program(PROVED), sources.program(UNPROVED)
-    if not is_unproved and is_made(proved):
-        return proved
-    if not is_unproved and not any(is_made(sources.program(it)) for it in (UNPROVED, FOR_SMALL)):
-        raise Failed("no program is built: --unproved compiles one without its proof, in a minute or two; `./lqtx run PLAN CAPTURE OUT` proves and builds one")
-    if not is_made(unproved):
-        said = subprocess.run([TOP / "lqtx", "--unproved"], env=os.environ | {"LQTX_SHOW_PROGRAM": "1"}, stdout=subprocess.DEVNULL, stdin=subprocess.DEVNULL)
-        if said.returncode:
-            raise Failed("the program isn't compiled")
-    say(tool, "the runs are those of the program without its proof" + ("" if is_unproved else ": the proved one isn't built"))
-    return unproved
