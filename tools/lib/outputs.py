@@ -105,14 +105,13 @@ def file_of(path: str) -> Optional[Tuple]:
         return (folder, name)
 
 
-def keys_of(path: str) -> Iterator[Tuple]:
-    """What tells a file from others, in each way in which it may be found: a name of another case may have another inode, where FUSE gives them out by name."""
-    file = file_of(path)
-    if file:
-        yield file
-        if os.path.isfile(path):
-            of = os.stat(path)
-            yield (os.path.realpath(path).casefold(), of.st_size, of.st_mtime_ns)
+def spelled(path: str) -> str:
+    """A path as its folders spell it: where names of another case are the same file, FUSE may give each an inode of its own."""
+    folder, name = os.path.split(os.path.realpath(path))
+    with contextlib.suppress(OSError):
+        names = os.listdir(folder)
+        name = name if name in names else next((it for it in names if it.casefold() == name.casefold()), name)
+    return os.path.join(spelled(folder), name) if name else folder
 
 
 def file_exists_as(path: str, opened: int) -> bool:
@@ -126,12 +125,15 @@ def file_exists_as(path: str, opened: int) -> bool:
 
 def refuse_inputs(inputs: Iterable[str], files: Iterable[str]) -> None:
     """Wrong where an output is one of the inputs, or one of the other outputs."""
-    read, taken = {key: str(it) for it in inputs for key in keys_of(it)}, {}
+    inputs = list(map(str, inputs))
+    read, taken, small = {file_of(it): it for it in inputs}, {}, {os.path.realpath(it).casefold(): it for it in inputs}
     for it in map(str, files):
         file = file_of(it)
         if file is None:
             continue
-        found = next((read[key] for key in keys_of(it) if key in read), None)
+        found, other = read.get(file), small.get(os.path.realpath(it).casefold())
+        if not found and other and os.path.exists(it) and spelled(it) == spelled(other):
+            found = other
         if found:
             raise Wrong(f"{it} is an input" + (f", {found}" if it != found else "") + ": the outputs need another name")
         if file in taken:

@@ -71,7 +71,7 @@ echo "one high" >"$room/repo/crates/high/src/lib.rt"
 for kind in "$room/repo/tools/build $room/made" "$room/repo/lqtx --unproved trace none"; do
     name="killed: $kind"
     : >plan
-    SLOW=1 TRY_SLOW=3 $kind >/dev/null 2>&1 &
+    TMPDIR=$room/here SLOW=1 TRY_SLOW=3 $kind >/dev/null 2>&1 &
     killed=$!
     case $kind in *build*) until grep -qs high "$room/rattle.log"; do sleep 0.05; done ;; *) until [ -s "$room/try.log" ]; do sleep 0.05; done ;; esac
     kill -9 "$killed"
