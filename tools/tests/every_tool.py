@@ -45,6 +45,7 @@ CALLS = [
     ("show-run", "{plan} {capture} run --marked {out}", ".pcapng", "capture plan fates"),
     ("show-run", "tap 1 4 4 {capture} run {out}", ".svg", "capture fates"),
     ("check-capture", "{capture} --ip {out}", ".pcap", "capture"),
+    ("beside-link", "{capture} 1mbit --keep {out} --program {program}", ".pcap", "capture program"),
     ("gate-cost", "--to {out} {program}", ".json", "program"),
 ]
 WAYS = [".", "link", "hard link", "link to a link", "new/..", "new/deep/../..", "way"]
