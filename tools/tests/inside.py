@@ -1,14 +1,10 @@
 """The kernel's text under every order: what is cut out of a tree, and a search over a small protocol of this test's own."""
-import argparse
-import contextlib
-import io
 import os
 import shutil
 import subprocess
-import types
 
 from inside import changes, extract, sizes
-from tests.bench import HERE, ROOM, case, expect, expect_none, fault, load, run
+from tests.bench import HERE, ROOM, case, expect, expect_none, fault, run
 
 # a letter box: who puts a letter serves it, or leaves it to the one who holds the lock
 HEADER = """/* A letter box { not a brace. */
@@ -260,6 +256,8 @@ def inside_calls_search():
     expect("inside-calls, a lost letter", said, 1, "WRONG: 1 packet is left in the box; a shortest order, of ", "seat 0  set_bit(0, flags)", "spin_trylock(the lock): held", "mailbox_post box.c:5", "then: flags 1")
     expect("inside-calls, mended", search(top, *MENDED), 0, "nothing goes wrong: ", "2 changed", "1 sizes of 1: 1 nothing goes wrong")
     expect_none("inside-calls, mended", search(top, *MENDED), "WRONG")
+    both = tree("both", **{"worlds/path.names": NAMES.replace("function mailbox_post\n", "")})
+    expect("inside-calls, a size with the change and one without", search(both, *MENDED, "--size", "bypass=0"), 0, "2 changed", "1 sizes of 2: 1 nothing goes wrong, 1 not searched")
     expect("inside-calls, stopped", search(top, *MENDED, "--most", "5"), 5, "not decided: stopped after 6 states")
     expect("inside-calls, random orders", search(top, "--walks", "200"), 1, "WRONG: 1 packet is left in the box")
     broken = tree("broken", **{"box.c": POST.replace("return 0;", "return frob();")})
@@ -276,15 +274,7 @@ def inside_calls_search():
 
 @case
 def inside_calls_changes():
-    """Of a change of the path the ring of a tap has nothing: its sizes are left out, and the others end well."""
+    """A size whose text hasn't what a change names is left out; a change of nothing is refused."""
     top = tree("path", **{"worlds/path.names": NAMES + "function mailbox_long\n"})
     expect("inside-calls, a size without the change", search(top, "--change", "mailbox_long", "a", "b"), 3, "not searched: its text has no definition that is changed", "no size has a definition")
     expect("inside-calls, a change of nothing", search(top, "--change", "mailbox_gone_too", "a", "b"), 3, "a change names mailbox_gone_too, and no definition of that name is cut")
-    tool = load("inside-calls")
-    asked = argparse.Namespace(size=["bypass=0", "tap,backs=1"])
-    of_path = types.SimpleNamespace(changes_of=lambda size: ("change",) if size.world == "path" else None)
-    said = io.StringIO()
-    with contextlib.redirect_stdout(said):
-        code = tool.search_all(of_path, asked, lambda *_: tool.HOLDS, [])
-    if code != tool.HOLDS or "1 sizes of 2: 1 nothing goes wrong, 1 not searched" not in said.getvalue():
-        fault(f"inside-calls, a change of the path and the size of a tap: {code} {said.getvalue()}")
