@@ -61,7 +61,7 @@ class Finding(NamedTuple):
 
 def share(count, total):
     """So many of all, in words."""
-    return f"{count:,} of {total:,} packets ({count / total:.0%})"
+    return f"{count:,} of {total:,} packets ({'below 1%' if 100 * count < total else f'{count / total:.0%}'})"
 
 
 class Seen:
@@ -116,7 +116,8 @@ def times_that_go_back(seen):
     back = sum(map(gt, times, times[1:]))
     if back:
         most, is_refused = max(a - b for a, b in zip(times, times[1:])), bool(seen.plan and seen.plan.wants_order)
-        said = f"{share(back, seen.count)} have an earlier time than the one before, by up to {most / 10**6:.6g} ms: {'the plan takes no such capture' if is_refused else 'a link is then too fast'}"
+        so = "a link takes no such capture" if seen.card or not seen.plan else "the plan takes no such capture" if is_refused else "the queues are then opened too often"
+        said = f"{share(back, seen.count)} have an earlier time than the one before, by up to {most / 10**6:.6g} ms: {so}"
         yield Finding(f"{said}. To sort them", f"reordercap {seen.word} {seen.new_name('.sorted' + seen.ending)}", is_refused)
 
 

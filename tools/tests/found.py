@@ -67,7 +67,7 @@ ONE_SECTION = section("<", interface("<"), enhanced("<", IPV4_FRAME, time=5), en
 BOTH_WAYS = [ether(UDP_PACKET)] * 3 + [ether(UDP_PACKET, source=THERE_MAC, to=HERE_MAC)] * 2
 # of each capture its name, its bytes, a plan or none, what is said of it, and how many packets what its command makes has: None where there is no command
 FOUND = [
-    ("back", classic([START, START + 50_000, START + 20_000], [IPV4_FRAME] * 3), BY_TIME, ["1 of 3 packets (33%) have an earlier time", "up to 0.03 ms", ": reordercap "], 3),
+    ("back", classic([START, START + 50_000, START + 20_000], [IPV4_FRAME] * 3), BY_TIME, ["1 of 3 packets (33%) have an earlier time", "up to 0.03 ms: the queues are then opened too often", ": reordercap "], 3),
     ("both", at_once(BOTH_WAYS), None, ["3 packets come from 02:00:00:00:00:01, and 2 go to it", "eth.src == 02:00:00:00:00:01"], 3),
     ("both-cooked", at_once([cooked(4), cooked(0)], 113), None, ["the host sent 1 packets and got 1", "sll.pkttype == 4"], 1),
     ("both-cooked-2", at_once([cooked_2(4), cooked_2(4), cooked_2(0)], 276), None, ["the host sent 2 packets and got 1"], 2),

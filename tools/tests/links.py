@@ -107,7 +107,7 @@ def shown_of_a_link():
     (room / "o.times").write_text("0 0 1500000\n", encoding="utf-8")
     expect("show-run, times of another run", show(), 1, "o.times hasn't the times of this plan over this capture")
     (room / "c.pcap").write_bytes(capture_at([0, 10, 9], [76] * 3).data)
-    expect("show-run, a time that goes back", show(), 1, "the plan takes no such capture", "c.pcap has no run of this plan")
+    expect("show-run, a time that goes back", show(), 1, "a link takes no such capture", "c.pcap has no run of this plan")
 
 
 @case

@@ -47,7 +47,7 @@ def at_rate():
     expect("at-rate, an empty capture", of([], "100mbit"), 1, "no packets")
     expect("at-rate, without times", of([(5, 60), (5, 60)], "100mbit"), 1, "no times")
     said = of([(5, 60), (4, 60)], "100mbit")
-    expect("at-rate, a time that goes back", said, 1, "the plan takes no such capture. To sort them", ": reordercap ")
+    expect("at-rate, a time that goes back", said, 1, "a link takes no such capture. To sort them", ": reordercap ")
     is_equal("at-rate, a time that goes back: what is printed", said[1], "")
     # frames that come as the link carries them, and some that come four times as quickly
     expect("at-rate, a capture of the link", of([(124 * it, 1514) for it in range(150)], "100mbit"), 0, "it seems to be taken on the link itself, behind its queue")
