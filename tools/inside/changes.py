@@ -91,7 +91,7 @@ ORDERS = [
     Order("the whole text", (), tuple((model, values) for model in ("x86", "weak") for values in IN_MODELS)),
     Order("with a barrier behind clear_bit(SCHED) of net_tx_action", (ADDED,), (("weak", BUSY_ONLY), ("weak", {"busy": 1}), ("weak", STOP_ONLY))),
     _without("without smp_mb of qdisc_run_end", ("qdisc_run_end", r"smp_mb\(\);", ";"), NO_BYPASS),
-    Order("smp_mb of qdisc_run_end before the unlock", (Change("qdisc_run_end", r"smp_mb\(\);", ";"), Change("qdisc_run_end", r"spin_unlock\(", "smp_mb(); spin_unlock(")), (("x86", NO_BYPASS), ("weak", NO_BYPASS))),
+    Order("smp_mb of qdisc_run_end before the unlock", (Change("qdisc_run_end", r"smp_mb\(\);", ";"), Change("qdisc_run_end", r"spin_unlock\(&", "smp_mb(); spin_unlock(&")), (("x86", NO_BYPASS), ("weak", NO_BYPASS))),
     _without("without smp_mb__after_atomic of pfifo_fast_dequeue", ("pfifo_fast_dequeue", _BARRIER, ";"), {}),
     _without("smp_mb__after_atomic of pfifo_fast_dequeue before the clears (and with the added one)", ("pfifo_fast_dequeue", r"(?P<clears>clear_bit.*?)smp_mb__after_atomic\(\);", r"smp_mb__after_atomic(); \g<clears>"), {}, added=True, models=("weak",)),
     # in the weak model the whole text leaves a packet where a queue is stopped; so these rows have the barrier that is added
