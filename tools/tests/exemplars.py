@@ -16,7 +16,7 @@ A file has one if it is code that names the type and has an arm with `_`, a defi
 a kind with one of the names.
 
 Each of these files has to be among the chapter's paths. A path may leave out what it shares with the path before it in its line or cell: `crates`, the
-crate, or the folder. The path of a folder names all files in it. A chapter with a table of files has to have an exemplar.
+crate, or the folder. The path of a folder names all files in it, and none for its catch-all. A chapter with a table of files has to have an exemplar.
 """
 import os
 import pathlib
@@ -111,7 +111,7 @@ def faults_of_catch_alls(top, heading, chapter, files, named):
     """The files with a catch-all that the chapter doesn't name."""
     for said in CATCH_ALL.finditer(chapter):
         for file, data in files:
-            if not named & {file, *file.parents} and has_catch_all(top, file, data.decode(errors="replace"), said[1], QUOTED.findall(said[2] or "")):
+            if file not in named and has_catch_all(top, file, data.decode(errors="replace"), said[1], QUOTED.findall(said[2] or "")):
                 yield f"{PAGE}: {heading}: a catch-all in {file.relative_to(top)} takes a new {said[1]}, and the chapter doesn't name it"
 
 

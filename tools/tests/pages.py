@@ -90,6 +90,8 @@ def catch_alls():
         for text, found in texts:
             wanted = [f"a catch-all in {path} takes a new Fate, and the chapter doesn't name it"] if found else []
             is_equal(f"{path}: {text!r}", faults_with("catch-" + path.replace("/", "-"), {"docs/CHANGING.md": page, path: text}), wanted)
+            folder = page.replace("`lq_low/proofs/`", f"`{path.rpartition('/')[0]}/`, `lq_low/proofs/`")
+            is_equal(f"{path}, by its folder: {text!r}", faults_with("catch-" + path.replace("/", "-"), {"docs/CHANGING.md": folder, path: text}), wanted)
 
 
 @case
