@@ -68,7 +68,7 @@ refused_by_gate() { find "$room/repo" -path "$room/repo/crates" -prune -o \( -na
 printf 'lqtx: high\nhigh: low\nlow:\n' >"$room/repo/crates.txt"
 mkdir -p "$room/repo/crates/high/src"
 echo "one high" >"$room/repo/crates/high/src/lib.rt"
-for kind in "$room/repo/tools/build $room/made" "$room/repo/lqtx --unproved trace none"; do
+for kind in "$room/repo/tools/build $room/killed-build" "$room/repo/lqtx --unproved trace none"; do
     name="killed: $kind"
     : >plan
     TMPDIR=$room/here SLOW=1 TRY_SLOW=3 $kind >/dev/null 2>&1 &
