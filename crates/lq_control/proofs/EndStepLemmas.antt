@@ -34,11 +34,11 @@ sends_if_left k n turn info old mid new here at same made h =
       subst (λ (x : Known). SendsLeft k n turn x new) (both mid (with_turn_loaded info.owner turn old) same made ∙ ap (λ (o : ℕ). with_turn_loaded o turn old) owner) h,
     )
 
-pub serves_more : (k : Setup) (old a begun looked left woken next : Known) → ServesOn k old a → begun.view ≡ begin_control_view a.view → (found : ℕ) × (begun.steps ≡ a.steps ⊳ load_base_log found) → LooksBy k seen.Going begun looked
-    → left.view ≡ end_control_view looked.view → (found : ℕ) × (left.steps ≡ looked.steps ⊳ load_base_log found) → WakesBelow k k.queues left woken → DrainsBy k woken next → ServesOn k old next
-serves_more k old a begun looked left woken next h bv b l ev e w d =
-    one_more a looked woken next b.0 e.0 h (subst (λ (x : Known). LooksBy k seen.Going x looked) (both begun (with_control_begun b.0 a) bv b.1) l)
-    (subst (λ (x : Known). WakesBelow k k.queues x woken) (both left (with_control_ended e.0 looked) ev e.1) w) d
+pub serves_more : (k : Setup) (opened : Bool) (old a begun looked left woken next : Known) → ServesOn k old a → begun.view ≡ begin_control_view a.view → (found : ℕ) × (begun.steps ≡ a.steps ⊳ load_base_log found) → LooksBy k seen.Going begun looked
+    → left.view ≡ end_control_view looked.view → (found : ℕ) × (left.steps ≡ looked.steps ⊳ load_base_log found) → WakesBelow k k.queues opened left woken → DrainsBy k woken next → ServesOn k old next
+serves_more k opened old a begun looked left woken next h bv b l ev e w d =
+    one_more a looked woken next b.0 e.0 opened h (subst (λ (x : Known). LooksBy k seen.Going x looked) (both begun (with_control_begun b.0 a) bv b.1) l)
+    (subst (λ (x : Known). WakesBelow k k.queues opened x woken) (both left (with_control_ended e.0 looked) ev e.1) w) d
 
 pub serves_to_end : (k : Setup) (answer is : Seen) (old a begun looked : Known) → answer ≡ is → ServesOn k old a → begun.view ≡ begin_control_view a.view → (found : ℕ) × (begun.steps ≡ a.steps ⊳ load_base_log found) → LooksBy k answer begun looked
     → IsServed old.view looked.view → ServesToEnd k is old looked

@@ -88,8 +88,8 @@ LooksBy k answer old new = (lock state : ℕ)
 -- A look finds the station going on, the call of control is left, the queues are woken, and soft interrupts are done; and so on.
 pub data ServesOn (k : Setup) (old : Known) : Known → Type 0 where
   none_yet : ServesOn k old old
-  one_more : (last looked woken next : Known) (begun left : ℕ) → ServesOn k old last
-      → LooksBy k seen.Going (with_control_begun begun last) looked → WakesBelow k k.queues (with_control_ended left looked) woken → DrainsBy k woken next → ServesOn k old next
+  one_more : (last looked woken next : Known) (begun left : ℕ) (opened : Bool) → ServesOn k old last
+      → LooksBy k seen.Going (with_control_begun begun last) looked → WakesBelow k k.queues opened (with_control_ended left looked) woken → DrainsBy k woken next → ServesOn k old next
 
 -- up to a look that finds it otherwise; no event of control or the first sender came
 pub record ServesToEnd (k : Setup) (answer : Seen) (old new : Known) : Type 0 where

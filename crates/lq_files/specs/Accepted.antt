@@ -1,14 +1,13 @@
 -- What the bytes of a file are accepted as: a plan on a bench, a capture, a schedule with what it leaves; or the refusal.
-use Rattle.std.specs.Prelude.{◌≤◌, ℕ, Bool, true, false, ◌&&◌, ◌||◌, nat_le, nat_lt, if◌then◌else◌, List, length, is_some, Result, Ok, Err}
+use Rattle.std.specs.Prelude.{◌≤◌, ℕ, Bool, ◌&&◌, ◌||◌, nat_le, nat_lt, if◌then◌else◌, List, length, is_some, Result, Ok, Err}
 use Rattle.std.specs.Option.{option_map_or}
 use Rattle.std.specs.Result.{result_flatten, result_map_both}
 use Rattle.lq_model.specs.Capture.{Refusal as CaptureRefusal, first_back}
 use Rattle.lq_model.specs.Plan.{Plan, card_of, reads_times, unit_count}
 use Rattle.lq_model.specs.declared.capture.CaptureReason.TheVariants as capture
-use Rattle.lq_model.specs.declared.plan.Irq.{Irq}
-use Rattle.lq_model.specs.declared.plan.Irq.TheVariants.{Every, Period}
 use Rattle.lq_model.specs.declared.plan.PlanReason.{PlanReason}
 use Rattle.lq_model.specs.declared.plan.PlanReason.TheVariants as plan
+use Rattle.lq_plan.specs.Openings.{is_by_time}
 use Rattle.lq_plan.specs.Reading.{plan_of}
 use Rattle.lq_run_core.specs.TraceText.{schedule_text}
 use Rattle.lq_run_core.specs.declared.trace_run.TraceReason.TheVariants as reason
@@ -50,11 +49,6 @@ with_refusal read = result_map_both (λ c. c) (λ r. refusal.Capture r.reason r.
 abbrev pub limited_capture_of : Bool → List ℕ → Result CaptureFile Refusal
 limited_capture_of timed bytes =
     if nat_lt 67108864 (length bytes) then Err (refusal.Capture capture.TooLong 67108864) else with_refusal (capture_file_of timed bytes)
-
--- whether queues are opened by the times of the capture
-abbrev pub is_by_time : Irq → Bool
-is_by_time (Every packets) = false
-is_by_time (Period microseconds) = true
 
 -- whether a plan takes no capture whose times go back: from version 5 on one with a card, and one that opens queues by time
 abbrev pub wants_order : Plan → Bool

@@ -2,26 +2,16 @@
 ghost use Rattle.std.specs.Prelude.{◌≡◌, ◌≢◌, ◌<◌, ◌&&◌, nat_lt, None, Some, if◌then◌else◌, IfErr};
 ghost use Rattle.std.specs.Option.{option_or};
 ghost use Rattle.lq_model.specs.Capture.{first_back};
-ghost use Rattle.lq_files.specs.Accepted.{in_order_for, is_by_time, wants_order};
+ghost use Rattle.lq_files.specs.Accepted.{in_order_for, wants_order};
 
 use crate::refusal::Refusal;
-use lq_model::{CaptureReason, Irq};
+use lq_model::CaptureReason;
 use lq_pcap::Frames;
 use lq_pcapng::CaptureFile;
-use lq_plan::Plan;
+use lq_plan::{Plan, is_by_time};
 
 // The first version of plans that takes no capture whose times go back, where times are read.
 const FIRST_IN_ORDER: u32 = 5;
-
-// Whether queues are opened by the times of the capture.
-fn is_by_time(irq: Irq) -> bool
-    ensures { result ≡ is_by_time irq }
-{
-    match irq {
-        Irq::Every { packets: _ } => false,
-        Irq::Period { microseconds: _ } => true,
-    }
-}
 
 // Whether a plan takes no capture whose times go back.
 fn wants_order(plan: &Plan) -> bool

@@ -1,11 +1,22 @@
 -- How often the stopped queues are opened after each packet, as a run looks it up.
-use Rattle.std.specs.Prelude.{◌≡◌, ℕ, ◌+◌, ◌%◌, ◌<◌, ◌==◌, if◌then◌else◌, List, length, slice_index}
+use Rattle.std.specs.Prelude.{◌≡◌, ℕ, ◌+◌, ◌%◌, ◌<◌, Bool, true, false, ◌&&◌, nat_le, ◌==◌, if◌then◌else◌, List, length, slice_index}
 use Rattle.lq_model.specs.Capture.{Packets}
 use Rattle.lq_model.specs.Openings.{number_among_own, openings_by}
 use Rattle.lq_model.specs.Plan.{Plan}
+use Rattle.lq_model.specs.declared.plan.Irq.{Irq}
+use Rattle.lq_model.specs.declared.plan.Irq.TheVariants as irq
 use Rattle.lq_model.specs.declared.plan.Irq.TheVariants.{Period}
 use Rattle.lq_plan.specs.declared.openings.Openings.{Openings}
 use Rattle.lq_plan.specs.declared.openings.Openings.TheVariants.{Every, Listed, Wired}
+
+-- whether they are opened by the times of the capture
+abbrev pub is_by_time : Irq → Bool
+is_by_time (irq.Every packets) = false
+is_by_time (irq.Period microseconds) = true
+
+-- whether that is only while one is stopped, so often at most
+abbrev pub opens_while_stopped : Plan → Bool
+opens_while_stopped plan = nat_le 5 plan.version && is_by_time plan.irq
 
 -- what is looked up for packet n, before which its owner sent so many
 abbrev pub opens_after : Openings → ℕ → ℕ → ℕ

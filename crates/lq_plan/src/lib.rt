@@ -28,7 +28,7 @@ pub use laws::{
     accepts_within_limits, version_1_stays, version_2_stays, version_3_stays, version_4_stays,
 };
 pub use lq_model::{EventKind, EventPlan, Irq, Params, PlanReason, Split, Spread, StationPlan};
-pub use openings::Openings;
+pub use openings::{Openings, is_by_time};
 pub use order::is_at;
 pub use packets::infos;
 pub use plan::{MAX_STATIONS, Plan};

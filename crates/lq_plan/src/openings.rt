@@ -1,7 +1,7 @@
 //! How often the stopped queues are opened after each packet.
 ghost use Rattle.std.specs.Prelude.{◌≡◌, ◌<◌, IfOk, min, replicate};
 ghost use Rattle.lq_model.specs.Openings.{multiples_between, openings_by};
-ghost use Rattle.lq_plan.specs.Openings.{AreTimes, IsOpenings, opens_after, opens_within};
+ghost use Rattle.lq_plan.specs.Openings.{AreTimes, IsOpenings, is_by_time, opens_after, opens_within};
 
 use crate::plan::Plan;
 use lq_model::{Irq, NoMemory};
@@ -50,6 +50,16 @@ impl Openings {
             Openings::Listed { times } => u32::from(times[n as usize]),
             Openings::Wired { times } => times[n as usize],
         }
+    }
+}
+
+/// Whether the stopped queues are opened by the times of the capture.
+pub fn is_by_time(irq: Irq) -> bool
+    ensures { result ≡ is_by_time irq }
+{
+    match irq {
+        Irq::Every { packets: _ } => false,
+        Irq::Period { microseconds: _ } => true,
     }
 }
 

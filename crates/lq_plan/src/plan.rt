@@ -1,8 +1,10 @@
 //! A plan that was read.
 ghost use Rattle.std.specs.Prelude.{◌≡◌, ◌<◌, ◌≤◌, ◌+◌, Some, length, slice_get, sum};
 ghost use Rattle.lq_model.specs.Plan.{first_at, is_swap, mq_at, reads_times, unit_count};
+ghost use Rattle.lq_plan.specs.Openings.{opens_while_stopped};
 ghost use Rattle.lq_plan.specs.Limits.{IsWithinLimits, IsIrqWithin, IsStationWithin, IsEventWithin};
 
+use crate::openings::is_by_time;
 use lq_model::{Classify, EventKind, EventPlan, Irq, Split, Spread, StationPlan};
 use std::marker::Model;
 
@@ -58,6 +60,13 @@ impl Plan {
         ensures { result ≡ reads_times self.now }
     {
         self.version >= 4
+    }
+
+    /// Whether the stopped queues are opened only while one is stopped: by the times of the capture, from version 5 on.
+    pub fn opens_while_stopped(&self) -> bool
+        ensures { result ≡ opens_while_stopped self.now }
+    {
+        self.version >= 5 && is_by_time(self.irq)
     }
 
     /// How many threads send.

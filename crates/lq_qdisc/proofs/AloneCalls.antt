@@ -374,24 +374,24 @@ module _ (k : Setup) (infos : List Info) (queue : ℕ) (old new : View) (about :
     sym (ap (λ (a : Account). with_account a (running (first_account k) (solo old))) (cond-false _ _ _ (ne_eqb _ _ other))),
   )
 
-  wake_alone : (k' : Setup) (steps steps' : List Made) → Wakes k' queue (record { view = old; steps = steps }) (record { view = new; steps = steps' }) → Opens (solo new)
-  wake_alone k' steps steps' (inl w) = woken_alone w.0 w.2 (w.3 h.sender.sole) (sym stop-at ∙ w.4 h.sender.sole)
-  wake_alone k' steps steps' (inr w) = still_alone w.0 (λ z. w.1 h.sender.sole (stop-at ∙ z))
+  wake_alone : (k' : Setup) (one : Bool) (steps steps' : List Made) → Wakes k' queue one (record { view = old; steps = steps }) (record { view = new; steps = steps' }) → Opens (solo new)
+  wake_alone k' true steps steps' w = woken_alone w.0 w.2 (w.3 h.sender.sole) (sym stop-at ∙ w.4 h.sender.sole)
+  wake_alone k' false steps steps' w = still_alone w.0 (λ z. w.1 h.sender.sole (stop-at ∙ z))
 
-wake_about : (k : Setup) (queue : ℕ) (old new : Known) → Wakes k queue old new → new.view.share.about ≡ old.view.share.about
-wake_about k queue old new (inl w) = ap (λ (v : View). v.share.about) w.1
-wake_about k queue old new (inr w) = ap (λ (v : View). v.share.about) w.0
+wake_about : (k : Setup) (queue : ℕ) (one : Bool) (old new : Known) → Wakes k queue one old new → new.view.share.about ≡ old.view.share.about
+wake_about k queue true old new w = ap (λ (v : View). v.share.about) w.1
+wake_about k queue false old new w = ap (λ (v : View). v.share.about) w.0
 
-wakes_alone : (k : Setup) (infos : List Info) (queues : ℕ) (old new : Known) → old.view.share.about ≡ k → IsAlone infos (first_account k) (solo old.view) → WakesBelow k queues old new
+wakes_alone : (k : Setup) (infos : List Info) (queues : ℕ) (one : Bool) (old new : Known) → old.view.share.about ≡ k → IsAlone infos (first_account k) (solo old.view) → WakesBelow k queues one old new
     → (new.view.share.about ≡ k) × (IsAlone infos (first_account k) (solo new.view) × (running (first_account k) (solo new.view) ≡ with_account (opened_up_to queues (account_in (first_account k) (solo old.view))) (running (first_account k) (solo old.view))))
-wakes_alone k infos zero old new about h w =
+wakes_alone k infos zero one old new about h (none, w) =
     (ap (λ (v : Known). v.view.share.about) w ∙ about, (subst (λ (v : Known). IsAlone infos (first_account k) (solo v.view)) (sym w) h, ap (λ (v : Known). running (first_account k) (solo v.view)) w))
-wakes_alone k infos (suc queue) old new about h w =
-    let below = wakes_alone k infos queue old w.0 about h w.1 in
-    let here = wake_alone k infos queue w.0.view new.view below.0 below.1.0 k w.0.steps new.steps w.2 in
-    (wake_about k queue w.0 new w.2 ∙ below.0, (here.0, here.1 ∙ ap (λ (s : RunningStation). with_account (opened_queue queue s.account) s) below.1.1))
+wakes_alone k infos (suc queue) one old new about h (mid, before, now, first, wakes, is) =
+    let below = wakes_alone k infos queue before old mid about h first in
+    let here = wake_alone k infos queue mid.view new.view below.0 below.1.0 k now mid.steps new.steps wakes in
+    (wake_about k queue now mid new wakes ∙ below.0, (here.0, here.1 ∙ ap (λ (s : RunningStation). with_account (opened_queue queue s.account) s) below.1.1))
 
-pub irq_alone : (k : Setup) (infos : List Info) (old new : Known) → old.view.share.about ≡ k → WakesBelow k k.queues old new → Does infos (first_account k) opened (solo old.view) (solo new.view)
-irq_alone k infos old new about w h =
-    let all = wakes_alone k infos k.queues old new about h w in
+pub irq_alone : (k : Setup) (infos : List Info) (one : Bool) (old new : Known) → old.view.share.about ≡ k → WakesBelow k k.queues one old new → Does infos (first_account k) opened (solo old.view) (solo new.view)
+irq_alone k infos one old new about w h =
+    let all = wakes_alone k infos k.queues one old new about h w in
     (all.1.0, all.1.1 ∙ ap (λ (n : ℕ). with_account (opened_up_to n (account_in (first_account k) (solo old.view))) (running (first_account k) (solo old.view))) (sym (count_of k (solo old.view))))

@@ -1,5 +1,5 @@
 -- One more queue, and one more band.
-use Rattle.std.proofs.Common.{◌≡◌, ℕ, suc, ◌+◌, List, subst, arith, ap, ⊎_elim, Bool, true, false, refl, ◌∙◌}
+use Rattle.std.proofs.Common.{◌≡◌, ℕ, zero, suc, ◌+◌, List, subst, arith, ap, Bool, true, false, ◌||◌, refl, ◌∙◌}
 use Rattle.lq_table.specs.Views.{View, Setup, Known}
 use Rattle.lq_table.specs.Moves.{is_set, pass_view}
 use Rattle.lq_table.specs.States.{load_state_view, set_sched_view, clear_draining_log, clear_missed_log, load_state_log}
@@ -14,11 +14,19 @@ pub bands_more : (k : Setup) (band : ℕ) (old mid new : Known) → EmptyBelow k
 bands_more k band old mid new h e = let one : suc band ≡ band + 1 = omega arith in subst (λ (n : ℕ). EmptyBelow k n old new) one (mid, h, e)
 
 -- what a wake leaves as it was
-pub wake_keeps : {X : Type 0} (part : View → X) (k : Setup) (queue : ℕ) (old new : Known) → ((was : Bool) → part (set_sched_view was (wake_view queue old.view)) ≡ part old.view) → Wakes k queue old new → part new.view ≡ part old.view
-wake_keeps part k queue old new kept w = ⊎_elim (λ o. ap part o.1 ∙ kept o.0) (λ o. ap part o.0) w
+pub wake_keeps : {X : Type 0} (part : View → X) (k : Setup) (queue : ℕ) (old new : Known) → ((was : Bool) → part (set_sched_view was (wake_view queue old.view)) ≡ part old.view) → (opened : Bool) → Wakes k queue opened old new → part new.view ≡ part old.view
+wake_keeps part k queue old new kept true w = ap part w.1 ∙ kept w.0
+wake_keeps part k queue old new kept false w = ap part w.0
 
-pub wakes_more : (k : Setup) (queue : ℕ) (old mid new : Known) → WakesBelow k queue old mid → Wakes k queue mid new → WakesBelow k (queue + 1) old new
-wakes_more k queue old mid new h w = let one : suc queue ≡ queue + 1 = omega arith in subst (λ (n : ℕ). WakesBelow k n old new) one (mid, h, w)
+pub wakes_more : (k : Setup) (queue : ℕ) (before here opened : Bool) (old mid new : Known) → opened ≡ (before || here) → WakesBelow k queue before old mid → Wakes k queue here mid new → WakesBelow k (queue + 1) opened old new
+wakes_more k queue before here opened old mid new is h w = let one : suc queue ≡ queue + 1 = omega arith in subst (λ (n : ℕ). WakesBelow k n opened old new) one (mid, before, here, h, w, is)
+
+-- where none was opened, a seat knows what it knew
+pub none_opened : (k : Setup) (count : ℕ) (old new : Known) → WakesBelow k count false old new → new.view ≡ old.view
+none_opened k zero old new w = ap (λ (v : Known). v.view) w.1
+none_opened k (suc queue) old new (mid, false, false, below, here, is) = here.0 ∙ none_opened k queue old mid below
+none_opened k (suc queue) old new (mid, false, true, below, wakes, is) = absurd cc
+none_opened k (suc queue) old new (mid, true, here, below, wakes, is) = absurd cc
 
 pub hung_one_more : (k : Setup) (queue : ℕ) (steps : List Made) → hung_stored k queue steps ⊳ store_xoff_log k queue 2 ≡ hung_stored k (queue + 1) steps
 hung_one_more k queue steps = let one : suc queue ≡ queue + 1 = omega arith in ap (λ (n : ℕ). hung_stored k n steps) one

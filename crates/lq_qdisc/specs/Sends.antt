@@ -1,5 +1,5 @@
 -- What a transmit and a soft interrupt leave of what a seat knows.
-use Rattle.std.specs.Prelude.{◌≡◌, ◌≢◌, ◌⊎◌, ℕ, zero, suc, slice_index, ◌+◌, ◌*◌, ◌<◌, Bool, true, false, not, is_some, length, List, Option, Some, None}
+use Rattle.std.specs.Prelude.{◌≡◌, ◌≢◌, ◌⊎◌, ℕ, zero, suc, slice_index, ◌+◌, ◌*◌, ◌<◌, Bool, true, false, not, ◌||◌, is_some, length, List, Option, Some, None}
 use Rattle.lq_model.specs.Account.{Event, Join, Full, Refuse, Direct, Wake}
 use Rattle.lq_model.specs.Plan.{band_in, owner_in, rank_in}
 use Rattle.lq_model.specs.declared.fate.Fate.TheVariants as fate
@@ -134,14 +134,16 @@ FindsOpen k queue old new =
     ((found : ℕ) × (found ≢ 1) × (new ≡ old ⊳ load_xoff_log k queue found))
     ⊎ (new ≡ old ⊳ load_xoff_log k queue 1 ⊳ wake_log k queue false)
 
--- A queue was looked at: its stop word was 1 and was exchanged for 0, and the table is scheduled, or it wasn't 1.
-abbrev pub Wakes : Setup → ℕ → Known → Known → Type 0
-Wakes k queue old new =
-    ((was : Bool) × (new.view ≡ set_sched_view was (wake_view queue old.view)) × (solo new.view ≡ set_sched_alone was (heard (Wake queue) (solo old.view))) × (IsSole old.view → was ≡ old.view.whole.qdisc.sched) × (IsSole old.view → slice_index (account_of old.view).stops queue ≡ 1)
-    × (new.steps ≡ old.steps ⊳ load_xoff_log k queue 1 ⊳ wake_log k queue true ⊳ set_sched_log was))
-    ⊎ ((new.view ≡ old.view) × (IsSole old.view → slice_index (account_of old.view).stops queue ≢ 1) × FindsOpen k queue old.steps new.steps)
+-- A queue was looked at: its stop word was 1 and was exchanged for 0, and the table is scheduled, or it wasn't 1. The truth value says whether
+-- it was opened.
+abbrev pub Wakes : Setup → ℕ → Bool → Known → Known → Type 0
+Wakes k queue true old new =
+    (was : Bool) × (new.view ≡ set_sched_view was (wake_view queue old.view)) × (solo new.view ≡ set_sched_alone was (heard (Wake queue) (solo old.view))) × (IsSole old.view → was ≡ old.view.whole.qdisc.sched) × (IsSole old.view → slice_index (account_of old.view).stops queue ≡ 1)
+    × (new.steps ≡ old.steps ⊳ load_xoff_log k queue 1 ⊳ wake_log k queue true ⊳ set_sched_log was)
+Wakes k queue false old new = (new.view ≡ old.view) × (IsSole old.view → slice_index (account_of old.view).stops queue ≢ 1) × FindsOpen k queue old.steps new.steps
 
--- those of the first so many queues
-abbrev pub WakesBelow : Setup → ℕ → Known → Known → Type 0
-WakesBelow k zero old new = new ≡ old
-WakesBelow k (suc queue) old new = (between : Known) × WakesBelow k queue old between × Wakes k queue between new
+-- those of the first so many queues; the truth value says whether one was opened
+abbrev pub WakesBelow : Setup → ℕ → Bool → Known → Known → Type 0
+WakesBelow k zero opened old new = (opened ≡ false) × (new ≡ old)
+WakesBelow k (suc queue) opened old new =
+    (between : Known) × (before : Bool) × (here : Bool) × WakesBelow k queue before old between × Wakes k queue here between new × (opened ≡ (before || here))

@@ -47,29 +47,34 @@ fn begin_softirq<'a, D: TxDevice>(shared: &Shared<'a, D>, cpu: &mut Cpu<D>) -> b
 
 /// A driver's interrupt: each queue that is stopped is opened, and the table scheduled, as `netif_tx_wake_queue` of
 /// include/linux/netdevice.h does. The stop word of each queue is looked at in this call, and exchanged where it is 1; a hung
-/// queue stays hung.
-pub fn irq<'a, D: TxDevice>(shared: &Shared<'a, D>, cpu: &mut Cpu<D>)
+/// queue stays hung. Whether one was opened.
+pub fn irq<'a, D: TxDevice>(shared: &Shared<'a, D>, cpu: &mut Cpu<D>) -> bool
     requires seat { IsSeatOf shared.now cpu.old }
     requires at { position cpu.old ≡ Idle }
     requires ready { IsReadyToSend cpu.old }
-    ensures { InterruptsAs (λ v w. w.settled ≡ v.settled) (WakesBelow (setup shared.now) shared.now.queues)
+    ensures { InterruptsAs (λ v w. w.settled ≡ v.settled) (WakesBelow (setup shared.now) shared.now.queues result)
         (OpensStation shared.now) cpu.old cpu.new }
 {
+    let mut opened = false;
     for queue in 0..shared.queues() {
-        wake_queue(shared, cpu, queue);
+        let here = wake_queue(shared, cpu, queue);
+        opened = opened || here;
     }
+    opened
 }
 
-/// Opens a queue that is stopped, and schedules.
-fn wake_queue<'a, D: TxDevice>(shared: &Shared<'a, D>, cpu: &mut Cpu<D>, queue: u32)
+/// Opens a queue that is stopped, and schedules. Whether it was opened.
+fn wake_queue<'a, D: TxDevice>(shared: &Shared<'a, D>, cpu: &mut Cpu<D>, queue: u32) -> bool
     requires seat { IsSeatOf shared.now cpu.old }
     requires queue { queue < shared.now.queues }
     requires at { position cpu.old ≡ Idle }
     ensures same { IsElseSame cpu.old cpu.new }
     ensures at { position cpu.new ≡ Idle }
-    ensures wakes { Wakes (setup shared.now) queue (known cpu.old) (known cpu.new) }
+    ensures wakes { Wakes (setup shared.now) queue result (known cpu.old) (known cpu.new) }
 {
     if shared.look_stop(cpu, queue) && shared.wake(cpu, queue) {
         schedule(shared, cpu);
+        return true;
     }
+    false
 }

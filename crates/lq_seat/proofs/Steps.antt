@@ -19,9 +19,10 @@ use Rattle.lq_model.specs.declared.plan.EventKind.TheVariants as kind
 use Rattle.lq_control.specs.Steps.{not_yet}
 use Rattle.lq_control.proofs.Served.{served_none}
 use Rattle.lq_qdisc.proofs.AloneRests.{rests_served}
+use Rattle.lq_qdisc.proofs.StepLemmas.{none_opened}
 use Rattle.lq_qdisc.specs.Alone.{BringsAlone, Does}
 use Rattle.lq_model.specs.declared.machine.Position.TheVariants.{Idle}
-use Rattle.lq_qdisc.specs.Sends.{IsCallKept, IsReadyToSend, IsStill, came_as, trail_with}
+use Rattle.lq_qdisc.specs.Sends.{IsCallKept, IsReadyToSend, IsStill, WakesBelow, came_as, trail_with}
 use Rattle.lq_qdisc.specs.Steps.{TransmitsBy}
 use Rattle.lq_qdisc.specs.declared.answers.Sending.{Sending}
 use Rattle.lq_qdisc.specs.declared.answers.Sending.TheVariants as sending
@@ -183,9 +184,9 @@ module _ {D : Type 0} (sh : Shared D) (c c' : Cpu D) (made : (view c).share.abou
   }
 
   -- the queues were woken
-  pub woken-by : IsCallKept c c' → IsStill (view c) (view c') → LooksAtStops (setup sh) (known c) (known c')
-      → Does sh.infos.now (first_account (setup sh)) opened (solo (view c)) (solo (view c')) → WakesQueues (seat_seen c) (seat_seen c')
-  woken-by kept still looks alone = record {
+  pub woken-by : (one_opened : Bool) → IsCallKept c c' → IsStill (view c) (view c') → LooksAtStops one_opened (setup sh) (known c) (known c')
+      → Does sh.infos.now (first_account (setup sh)) opened (solo (view c)) (solo (view c')) → WakesQueues one_opened (seat_seen c) (seat_seen c')
+  woken-by one_opened kept still looks alone = record {
     is = λ i. record (seat_seen c') {
       table = kept.seat.0 i;
       made = (kept.share i).about;
@@ -198,7 +199,9 @@ module _ {D : Type 0} (sh : Shared D) (c c' : Cpu D) (made : (view c).share.abou
       gone = (kept.control i).gone;
       told = kept.told i;
     };
-    by = call-made LooksAtStops kept.seat.0 looks;
+    by = call-made (LooksAtStops one_opened) kept.seat.0 looks;
+    none = λ none. λ i. let same = none_opened (setup sh) (setup sh).queues (known c) (known c') (subst (λ (o : Bool). WakesBelow (setup sh) (setup sh).queues o (known c) (known c')) none looks) in
+        seat_state (kept.seat.0 i) (record { view = same i; steps = (known c').steps });
     alone = does-here (λ k. opened) alone;
   }
 

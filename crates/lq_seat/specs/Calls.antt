@@ -1,5 +1,5 @@
 -- What a sender's calls make of its seat at a station.
-use Rattle.std.specs.Prelude.{◌≡◌, ℕ, ◌+◌, ◌-◌, ◌*◌, ◌<◌, ◌≤◌, true, false, List, [], ◌∷◌, ◌++◌, length, slice_index, slice_set, Option, Some, None}
+use Rattle.std.specs.Prelude.{◌≡◌, ℕ, ◌+◌, ◌-◌, ◌*◌, ◌<◌, ◌≤◌, Bool, true, false, List, [], ◌∷◌, ◌++◌, length, slice_index, slice_set, Option, Some, None}
 use Rattle.lq_account_laws.specs.Controls.{with_control}
 use Rattle.lq_account_laws.specs.Trail.{down_of}
 use Rattle.lq_control.specs.Control.{IsAfterUnits}
@@ -55,10 +55,11 @@ pub record SendsPacket (n : ℕ) (old new : SeatState) : Type 0 where
 
 -- WAKES AND SOFT INTERRUPTS
 
--- the queues were woken, and the seat may owe a soft interrupt
-pub record WakesQueues (old new : SeatState) : Type 0 where
+-- the queues were woken, and the seat may owe a soft interrupt; where none of them was opened, it knows what it knew
+pub record WakesQueues (one_opened : Bool) (old new : SeatState) : Type 0 where
   pub is : new ≡ record old { raised = new.raised; whole = new.whole; steps = new.steps }
-  pub by : Makes LooksAtStops old new
+  pub by : Makes (LooksAtStops one_opened) old new
+  pub none : one_opened ≡ false → new ≡ record old { steps = new.steps }
   pub alone : DoesAlone opened old new
 
 -- soft interrupts were done until none was owed

@@ -1,5 +1,5 @@
 -- What a sender's calls at its seat do: the steps of the calls of the crates below, in the order in which they are made.
-use Rattle.std.specs.Prelude.{◌≡◌, ℕ}
+use Rattle.std.specs.Prelude.{◌≡◌, ℕ, Bool}
 use Rattle.lq_control.specs.EndSteps.{FinishesBy}
 use Rattle.lq_control.specs.Steps.{ChangesLength, Downs, DrainsBy, ResizesLive, Swaps, Ups}
 use Rattle.lq_model.specs.Device.{DeviceState}
@@ -19,9 +19,9 @@ Makes call old new = (before : Known) × (after : Known) × (seat_state old.tabl
 abbrev pub Transmits : ℕ → Setup → Known → Known → Type 0
 Transmits n k old new = (answer : Sending) × TransmitsBy k n answer old new
 
--- the stop word of each queue is looked at, and exchanged where it is 1
-abbrev pub LooksAtStops : Setup → Known → Known → Type 0
-LooksAtStops k old new = WakesBelow k k.queues old new
+-- the stop word of each queue is looked at, and exchanged where it is 1; the truth value says whether one was
+abbrev pub LooksAtStops : Bool → Setup → Known → Known → Type 0
+LooksAtStops opened k old new = WakesBelow k k.queues opened old new
 
 -- soft interrupts are done, one after the other
 abbrev pub DoesInterrupts : Setup → Known → Known → Type 0

@@ -56,12 +56,12 @@ impl<D: TxDevice> Seat<D> {
     }
 
     /// Wakes the station's queues, as a driver's interrupt does: the stop word of each is looked at in this call, and exchanged
-    /// where it is 1.
-    pub fn wake<'a>(&mut self, table: &Table<'a, D>)
+    /// where it is 1. Whether one was opened.
+    pub fn wake<'a>(&mut self, table: &Table<'a, D>) -> bool
         requires here { IsHere table.now self.old }
-        ensures { WakesQueues self.old self.new }
+        ensures { WakesQueues result self.old self.new }
     {
-        irq(&table.shared, &mut self.cpu);
+        irq(&table.shared, &mut self.cpu)
     }
 
     /// Does soft interrupts as long as the seat owes one.

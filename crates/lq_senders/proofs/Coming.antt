@@ -15,7 +15,7 @@ use Rattle.lq_senders.specs.Lanes.{AreRunAlone, IsSendable, IsSending, KeepAll, 
 use Rattle.lq_senders.specs.Way.{IsSplitAt, StandAfter, StandBefore, StandEarlier}
 use Rattle.lq_senders.proofs.Calls.{called-keep}
 use Rattle.lq_senders.proofs.Devices.{devices-kept}
-use Rattle.lq_senders.proofs.OpenedTimes.{AreOpenedTimes, turn-ended}
+use Rattle.lq_senders.proofs.OpenedTimes.{AreOpenedAfter, turn-ended}
 use Rattle.lq_senders.proofs.Seats.{all-at, keep-set, made-of, seat-at, seats-kept, sends-keep, table-at}
 use Rattle.lq_senders.proofs.Sending.{sending-own}
 use Rattle.lq_senders.proofs.Sent.{lane-sent, owner-is, rank-is, runs-sent, station-is}
@@ -128,15 +128,15 @@ module _ (plan : Plan) (infos : List Info) (sendable : IsSendable plan infos) (t
 -- the events before packet n were done, the packet sent, and the queues opened as often as they are after it
 pub sending-on : (plan : Plan) (infos : List Info) (opens : ℕ → ℕ) (tables : List TableState) (sender n k next e : ℕ) (start : List SeatState) (brought : List DeviceState) (old : List SeatState) (were : List DeviceState)
     (ready : List SeatState) (spares : List DeviceState) (sent new : List SeatState) (info : Info) → slice_get infos n ≡ Some info → info.owner ≡ sender
-    → EventsDone plan infos tables sender next n e old were ready spares → PacketSent plan infos tables sender e n ready sent → AreOpenedTimes plan infos tables (opens n) sent new
+    → EventsDone plan infos tables sender next n e old were ready spares → PacketSent plan infos tables sender e n ready sent → AreOpenedAfter plan infos tables (opens n) sent new
     → IsSending plan infos opens tables sender n k next start brought old were → IsSending plan infos opens tables sender (n + 1) (k + 1) e start brought new spares
 sending-on plan infos opens tables sender n k next e start brought old were ready spares sent new info there own events packet opened was =
-    let keeps = keep-on ready sent new packet.keeps opened.keeps in
+    let keeps = keep-on ready sent new packet.keeps opened.leaves.keeps in
     sending-own plan infos opens tables sender n k next e start brought old were new spares events.order events.within
     (all-before plan infos tables sender next n e old were ready spares was.earlier events) events.left
-    (opened.stands sender e (n + 1) packet.stands)
+    (opened.leaves.stands sender e (n + 1) packet.stands)
     (seats-on old ready new (called-keep old ready events.first.calls) (seats-kept ready new keeps)) info there own
     (record { ready = ready; sent = sent; events = (events.first.calls, events.others); packet = packet.packet; opened = opened.opened })
     (λ units stand. devices-kept plan infos units e ready new spares keeps (events.first.devices units stand))
-    (λ units stand tell stations runs. turn-ended plan infos tables sender e (n + 1) (opens n) sent new packet.stands opened _ (packet.runs _ (events.first.runs units stand tell stations runs)))
+    (λ units stand tell stations runs. turn-ended plan infos tables sender e (n + 1) (opens n) sent new packet.stands opened.leaves _ (packet.runs _ (events.first.runs units stand tell stations runs)))
     was

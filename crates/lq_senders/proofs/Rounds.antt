@@ -1,11 +1,12 @@
 -- All seats did something in turn.
-use Rattle.std.proofs.Common.{◌≡◌, ℕ, ◌+◌, ◌<◌, ◌≤◌, List, length, Some, refl, sym, ap, ◌∙◌, subst, slice_get, arith, length-set}
+use Rattle.std.proofs.Common.{◌≡◌, ℕ, ◌+◌, ◌<◌, ◌≤◌, Bool, true, false, ◌||◌, List, length, Some, refl, sym, ap, ◌∙◌, subst, slice_get, arith, length-set}
 use Rattle.std.specs.Prelude.{slice_index_or, slice_set}
 use Rattle.std.proofs.lemmas.Option.{same_Some, slice_get_within}
 use mathlib.Core.Logic.{dite}
 use native.Mathlib.Decide.{ℕ_discrete}
+use Rattle.lq_seat.specs.Calls.{WakesQueues}
 use Rattle.lq_seat.specs.State.{SeatState, TableState, IsHere}
-use Rattle.lq_senders.specs.Lanes.{FirstDid, AllDid, AreSeats}
+use Rattle.lq_senders.specs.Lanes.{FirstDid, AllDid, AreSeats, WasOpened}
 use Rattle.lq_senders.proofs.Seats.{read-at, set-here, set-apart}
 
 module _ (R : SeatState → SeatState → Type 0) where
@@ -38,6 +39,7 @@ module _ (R : SeatState → SeatState → Type 0) where
   -- The seat that is next is one of its table, and one more seat did something once it has.
   pub record IsNext (count : ℕ) (old new : List SeatState) (t : TableState) (c : SeatState) : Type 0 where
     pub here : IsHere t c
+    pub at : slice_get new count ≡ Some c
     pub once_done : (c' : SeatState) → R c c' → FirstDid R (count + 1) old (slice_set new count c')
 
   -- the seat that is next, as it is read beside its table
@@ -48,5 +50,26 @@ module _ (R : SeatState → SeatState → Type 0) where
       let same = seats.long in let long = first.long in let there = read-at new count c (omega arith) at-c in
       record {
         here = next-seat count tables old new t c seats first (read-at tables count t below at-t) there;
+        at = there;
         once_done = λ c' did. one-more-did count old new c c' there did first;
       }
+
+-- WHETHER A QUEUE WAS OPENED
+
+-- whether a queue of the first so many seats was, as all of these were woken
+abbrev pub FirstOpened : Bool → ℕ → List SeatState → List SeatState → Type 0
+FirstOpened true count old new =
+    (j : ℕ) × (c : SeatState) × (c' : SeatState) × (j < count) × (slice_get old j ≡ Some c) × (slice_get new j ≡ Some c') × WakesQueues true c c'
+FirstOpened false count old new = FirstDid (WakesQueues false) count old new
+
+pub one-more-woken : (before here : Bool) (count : ℕ) (old new : List SeatState) (c c' : SeatState) → slice_get new count ≡ Some c → WakesQueues here c c'
+    → FirstOpened before count old new → FirstOpened (before || here) (count + 1) old (slice_set new count c')
+one-more-woken true here count old new c c' at wakes (j, d, d', below, at-old, at-new, opened) =
+    (j, d, d', omega arith, at-old, set-apart new count j c' (λ same. absurd (omega arith)) ∙ at-new, opened)
+one-more-woken false true count old new c c' at wakes first =
+    (count, c, c', omega arith, sym (first.rest count (omega arith)) ∙ at, set-here new count c' (slice_get_within new count c at), wakes)
+one-more-woken false false count old new c c' at wakes first = one-more-did (WakesQueues false) count old new c c' at wakes first
+
+pub was-opened : (opened : Bool) (count : ℕ) (old new : List SeatState) → length old ≤ count → FirstOpened opened count old new → WasOpened opened old new
+was-opened true count old new enough (j, c, c', below, at-old, at-new, opened) = (j, c, c', at-old, at-new, opened)
+was-opened false count old new enough first = all-did (WakesQueues false) count old new enough first

@@ -20,10 +20,10 @@ use Rattle.lq_model.specs.declared.plan.EventPlan.{EventPlan}
 use Rattle.lq_plan.specs.Limits.{is_out_of_order}
 use Rattle.lq_qdisc.specs.Alone.{Does, IsAlone, running}
 use Rattle.lq_account_laws.specs.Controls.{with_control}
-use Rattle.lq_seat.specs.Calls.{DoesAlone, DoesEvent, DoesSwap, Drains, SendsPacket, WakesQueues}
+use Rattle.lq_seat.specs.Calls.{DoesAlone, DoesEvent, DoesSwap, Drains, SendsPacket}
 use Rattle.lq_seat.specs.State.{SeatState, TableState, IsTableOf, setup_of, IsHere, solo_of, Setup, first_account, times}
 use Rattle.lq_senders.specs.Seats.{Keeps, KeepsSeat}
-use Rattle.lq_senders.specs.Lanes.{StandsInRun, StandsAt, LaneStands, KeepAll, KeepSeats, AreRunAlone}
+use Rattle.lq_senders.specs.Lanes.{IsWoken, StandsInRun, StandsAt, LaneStands, KeepAll, KeepSeats, AreRunAlone}
 use Rattle.lq_senders.specs.Way.{IsOnWay}
 use Rattle.lq_senders.proofs.Orders.{may-do-next}
 use Rattle.lq_senders.proofs.Ways.{way-event, way-elsewhere}
@@ -107,8 +107,8 @@ here-kept t v w keeps here = record { table = ap (λ (s : SeatState). s.table) k
 pub sends-keep : (n : ℕ) (v w : SeatState) → SendsPacket n v w → Keeps v w
 sends-keep n v w sends = subst (Keeps v) (sym sends.is) refl
 
-pub wakes-keep : (v w : SeatState) → WakesQueues v w → Keeps v w
-wakes-keep v w wakes = subst (Keeps v) (sym wakes.is) refl
+pub wakes-keep : (v w : SeatState) → IsWoken v w → Keeps v w
+wakes-keep v w wakes = subst (Keeps v) (sym wakes.1.is) refl
 
 pub drains-keep : (v w : SeatState) → Drains v w → Keeps v w
 drains-keep v w drains = subst (Keeps v) (sym drains.is) refl

@@ -12,6 +12,7 @@ use Rattle.lq_model.specs.Numbers.{first_numbers}
 use Rattle.lq_model.specs.Plan.{Plan}
 use Rattle.lq_model.specs.declared.fate.Info.{Info}
 use Rattle.lq_model.specs.declared.plan.EventPlan.{EventPlan}
+use Rattle.lq_plan.specs.Openings.{opens_while_stopped}
 use Rattle.lq_seat.specs.State.{SeatState, TableState}
 use Rattle.lq_senders.specs.Lanes.{LaneStands, KeepSeats, AreRunAlone, ComesPast, IsSending, SendsAndOpens}
 use Rattle.lq_senders.specs.Units.{DevicesStand, DoTell}
@@ -92,7 +93,7 @@ pub sending-own : (plan : Plan) (infos : List Info) (opens : ℕ → ℕ) (table
     → ((j : ℕ) (event : EventPlan) → j < last → slice_get plan.events j ≡ Some event → event.before ≤ n)
     → (sender ≡ 0 → (j : ℕ) (event : EventPlan) → last ≤ j → slice_get plan.events j ≡ Some event → n < event.before)
     → LaneStands plan infos sender last (n + 1) tables new → KeepSeats now new → (info : Info) → slice_get infos n ≡ Some info → info.owner ≡ sender
-    → SendsAndOpens infos sender n (opens n) now new
+    → SendsAndOpens infos (opens_while_stopped plan) sender n (opens n) now new
     → ((units : List DeviceState) → DevicesStand plan infos units next now spares → DevicesStand plan infos units last new left_over)
     → ((units : List DeviceState) → DevicesStand plan infos units next now spares → DoTell plan units → (stations : List RunningStation) → AreRunAlone plan infos now stations
     → AreRunAlone plan infos new (turn_ended infos (opens n) (with_packet plan infos n (with_events plan infos (numbers_from next (last - next)) stations))))
@@ -101,7 +102,7 @@ sending-own plan infos opens tables sender n k next last start brought now spare
   within = within;
   few = let few = was.few in omega arith;
   sent = ap (λ i. i + 1) was.sent ∙ sym (count-sent-own infos sender n info there own);
-  came = let more : suc n ≡ n + 1 = omega arith in subst (λ m. ComesPast infos opens sender m start new) more
+  came = let more : suc n ≡ n + 1 = omega arith in subst (λ m. ComesPast infos (opens_while_stopped plan) opens sender m start new) more
       (now, (was.came, ((λ _. calls), (λ other. absurd (other (owner-is infos n info there ∙ own))))));
   stands = stands;
   earlier = λ j event below there. let le = done j event below there in omega arith;
@@ -124,7 +125,7 @@ sending-past plan infos opens tables sender n k next start brought now spares in
   within = was.within;
   few = let few = was.few in omega arith;
   sent = was.sent ∙ sym (count-sent-other infos sender n info there other);
-  came = let more : suc n ≡ n + 1 = omega arith in subst (λ m. ComesPast infos opens sender m start now) more
+  came = let more : suc n ≡ n + 1 = omega arith in subst (λ m. ComesPast infos (opens_while_stopped plan) opens sender m start now) more
       (now, (was.came, ((λ same. absurd (other (sym (owner-is infos n info there) ∙ same))), (λ _. refl))));
   stands = lane-past plan infos sender next n tables now info there other was.stands;
   earlier = λ j event below at. let lt = was.earlier j event below at in omega arith;

@@ -3,17 +3,18 @@ use Rattle.std.proofs.Common.{◌≡◌, ℕ, zero, suc, ◌+◌, ◌<◌, ◌�
 use Rattle.std.specs.Prelude.{slice_index}
 use Rattle.std.proofs.lemmas.Option.{same_Some, slice_get_within, slice_get-get_or}
 use Rattle.lq_account_laws.specs.Progress.{start_of}
-use Rattle.lq_model.specs.Alone.{RunningStation, opened, served, with_event, with_events}
+use Rattle.lq_model.specs.Alone.{RunningStation, opened, opened_and_served, served, with_event, with_events}
 use Rattle.lq_model.specs.Device.{DeviceState}
 use Rattle.lq_model.specs.Plan.{Plan}
 use Rattle.lq_model.specs.declared.fate.Info.{Info}
 use Rattle.lq_model.specs.declared.plan.EventPlan.{EventPlan}
 use Rattle.lq_qdisc.proofs.AloneRests.{rests_served}
-use Rattle.lq_qdisc.specs.Alone.{Does}
-use Rattle.lq_seat.specs.Calls.{DoesAlone, WakesQueues, Drains}
+use Rattle.lq_qdisc.specs.Alone.{Does, IsAlone, running}
+use Rattle.lq_seat.specs.Calls.{DoesAlone, Drains, WakesQueues}
 use Rattle.lq_seat.specs.State.{SeatState, Setup, TableState, setup_of, solo_of}
+use Rattle.lq_table.specs.Sees.{Solo}
 use Rattle.lq_senders.specs.Seats.{Keeps}
-use Rattle.lq_senders.specs.Lanes.{AllDid, AreOthers, AreSeats, KeepAll, KeepSeats, LaneStands, AreRunAlone, StandsInRun}
+use Rattle.lq_senders.specs.Lanes.{AllDid, AreOthers, IsWoken, AllOpened, AreSeats, KeepAll, KeepSeats, LaneStands, AreRunAlone, StandsInRun}
 use Rattle.lq_senders.specs.Units.{DevicesStand, DoTell}
 use Rattle.lq_senders.specs.Way.{IsOnWay, numbers_from}
 use Rattle.lq_senders.specs.Woken.{PlanCalls}
@@ -72,18 +73,18 @@ seats-still tables old new seats keeps = record {
 pub keep-did : (R : SeatState → SeatState → Type 0) → ((v w : SeatState) → R v w → Keeps v w) → (old new : List SeatState) → AllDid R old new → KeepAll old new
 keep-did R keeps old new did = record { long = did.long; each = λ j c c' at at'. keeps c c' (did.each j c c' at at') }
 
-pub seats-woken : (tables : List TableState) (old new : List SeatState) → AreSeats tables old → AllDid WakesQueues old new → AreSeats tables new
-seats-woken tables old new seats woken = seats-still tables old new seats (keep-did WakesQueues wakes-keep old new woken)
+pub seats-woken : (tables : List TableState) (old new : List SeatState) → AreSeats tables old → AllDid IsWoken old new → AreSeats tables new
+seats-woken tables old new seats woken = seats-still tables old new seats (keep-did IsWoken wakes-keep old new woken)
 
 pub keep-drained : (old new : List SeatState) → AllDid Drains old new → KeepAll old new
 keep-drained old new drained = keep-did Drains drains-keep old new drained
 
-pub keep-opened : (old mid new : List SeatState) → AllDid WakesQueues old mid → AllDid Drains mid new → KeepAll old new
-keep-opened old mid new woken drained = keep-on old mid new (keep-did WakesQueues wakes-keep old mid woken) (keep-drained mid new drained)
+pub keep-opened : (old mid new : List SeatState) → AllDid IsWoken old mid → AllDid Drains mid new → KeepAll old new
+keep-opened old mid new woken drained = keep-on old mid new (keep-did IsWoken wakes-keep old mid woken) (keep-drained mid new drained)
 
 -- the lane stands as before
 pub lane-opened : (plan : Plan) (infos : List Info) (sender count n : ℕ) (tables : List TableState) (old mid new : List SeatState) → LaneStands plan infos sender count n tables old
-    → AllDid WakesQueues old mid → AllDid Drains mid new → LaneStands plan infos sender count n tables new
+    → AllDid IsWoken old mid → AllDid Drains mid new → LaneStands plan infos sender count n tables new
 lane-opened plan infos sender count n tables old mid new lane woken did = record {
   long = did.long ∙ (woken.long ∙ lane.long);
   all = lane.all;
@@ -94,8 +95,8 @@ lane-opened plan infos sender count n tables old mid new lane woken did = record
       record {
         table = before.table;
         seat = here-kept t was.0 c (seat-kept was.0 c keeps) before.seat;
-        stands = stands-still plan infos sender j count n was.0 c keeps (ap (λ (s : SeatState). s.turns) two.is ∙ ap (λ (s : SeatState). s.turns) one.is)
-            (ap (λ (s : SeatState). s.trail) two.is ∙ ap (λ (s : SeatState). s.trail) one.is) (ap (λ (s : SeatState). s.raised) two.is) before.stands;
+        stands = stands-still plan infos sender j count n was.0 c keeps (ap (λ (s : SeatState). s.turns) two.is ∙ ap (λ (s : SeatState). s.turns) one.1.is)
+            (ap (λ (s : SeatState). s.trail) two.is ∙ ap (λ (s : SeatState). s.trail) one.1.is) (ap (λ (s : SeatState). s.raised) two.is) before.stands;
       };
 }
 
@@ -136,11 +137,58 @@ runs-rested plan infos sender count n tables seats stations lane runs j c at =
 
 pub runs-opened : (plan : Plan) (infos : List Info) (old mid new : List SeatState) (stations : List RunningStation)
     → ((j : ℕ) (c : SeatState) → slice_get old j ≡ Some c → c.made ≡ setup_of plan infos j)
-    → AllDid WakesQueues old mid → AllDid Drains mid new → AreRunAlone plan infos old stations → AreRunAlone plan infos new (map (served infos) (map opened stations))
+    → AllDid IsWoken old mid → AllDid Drains mid new → AreRunAlone plan infos old stations → AreRunAlone plan infos new (map (served infos) (map opened stations))
 runs-opened plan infos old mid new stations made woken did runs =
     runs-drained plan infos mid new (map opened stations)
-    (λ j c at. let was = some-there old mid j c (sym woken.long) at in ap (λ (s : SeatState). s.made) (woken.each j was.0 c was.1 at).is ∙ made j was.0 was.1) did
-    (all-step plan infos (λ k. opened) opened WakesQueues (λ j. refl) (λ v w wakes. wakes.alone) old mid stations made woken runs)
+    (λ j c at. let was = some-there old mid j c (sym woken.long) at in ap (λ (s : SeatState). s.made) (woken.each j was.0 c was.1 at).1.is ∙ made j was.0 was.1) did
+    (all-step plan infos (λ k. opened) opened IsWoken (λ j. refl) (λ v w wakes. wakes.1.alone) old mid stations made woken runs)
+
+-- AN OPENING THAT OPENS NO QUEUE
+
+-- seats of the same stations as others
+runs-other : (plan : Plan) (infos : List Info) (old new : List SeatState) (a b : List RunningStation) → length new ≡ length old
+    → AreRunAlone plan infos old a → AreRunAlone plan infos old b → AreRunAlone plan infos new b → AreRunAlone plan infos new a
+runs-other plan infos old new a b long is-a is-b now j c at =
+    let was = some-there old new j c (sym long) at in ((now j c at).0, (is-a j was.0 was.1).1 ∙ (sym (is-b j was.0 was.1).1 ∙ (now j c at).1))
+
+runs-unopened : (plan : Plan) (infos : List Info) (old new : List SeatState) (stations : List RunningStation) → AllDid (WakesQueues false) old new
+    → AreRunAlone plan infos old stations → AreRunAlone plan infos new stations
+runs-unopened plan infos old new stations did runs j c at =
+    let was = some-there old new j c (sym did.long) at in
+    let same = ap (λ (s : SeatState). solo_of s) ((did.each j was.0 c was.1 at).none refl) in
+    subst (λ (s : Solo). IsAlone infos (start_of plan j) s × (slice_get stations j ≡ Some (running (start_of plan j) s))) (sym same) (runs j was.0 was.1)
+
+-- it leaves the stations of the run of one sender as they were
+pub runs-idle : (plan : Plan) (infos : List Info) (sender count n : ℕ) (tables : List TableState) (old new : List SeatState) (stations : List RunningStation)
+    → LaneStands plan infos sender count n tables old → AllOpened false old new → AreRunAlone plan infos old stations → AreRunAlone plan infos new stations
+runs-idle plan infos sender count n tables old new stations lane opening runs =
+    let woken = runs-unopened plan infos old opening.woken stations opening.was runs in
+    runs-other plan infos opening.woken new stations (map (served infos) stations) opening.drains.long woken
+    (λ j c at.
+    let was = some-there old opening.woken j c (sym opening.was.long) at in
+    let t = some-there tables old j was.0 (sym lane.long) was.1 in
+    let low = ap (λ (s : SeatState). s.raised) ((opening.was.each j was.0 c was.1 at).none refl) ∙ (lane.each j t.0 was.0 t.1 was.1).stands.raised in
+    let now = woken j c at in (now.0, mapped-at (served infos) stations j _ now.1 ∙ ap Some (rests_served infos (start_of plan j) (solo_of c) now.0 low)))
+    (runs-drained plan infos opening.woken new stations
+    (λ j c at. let was = some-there old opening.woken j c (sym opening.was.long) at in
+    ap (λ (s : SeatState). s.made) ((opening.was.each j was.0 c was.1 at).none refl) ∙ lane-made plan infos sender count n tables old lane j was.0 was.1)
+    opening.drains woken)
+
+-- and so would all that follow
+pub runs-idle-on : (plan : Plan) (infos : List Info) (sender count n : ℕ) (tables : List TableState) (old new : List SeatState) (more times : ℕ) (stations : List RunningStation)
+    → LaneStands plan infos sender count n tables old → AllOpened false old new
+    → AreRunAlone plan infos old (opened_and_served infos times stations) → AreRunAlone plan infos old (opened_and_served infos (more + times) stations)
+runs-idle-on plan infos sender count n tables old new zero times stations lane opening runs =
+    let none : times ≡ 0 + times = omega arith in subst (λ (k : ℕ). AreRunAlone plan infos old (opened_and_served infos k stations)) none runs
+runs-idle-on plan infos sender count n tables old new (suc more) times stations lane opening runs =
+    let before = opened_and_served infos (more + times) stations in
+    let was = runs-idle-on plan infos sender count n tables old new more times stations lane opening runs in
+    let long = keep-opened old opening.woken new opening.wakes opening.drains in
+    let one : suc (more + times) ≡ suc more + times = omega arith in
+    subst (λ (k : ℕ). AreRunAlone plan infos old (opened_and_served infos k stations)) one
+    (runs-other plan infos new old (map (served infos) (map opened before)) before (sym long.long)
+    (runs-opened plan infos old opening.woken new before (lane-made plan infos sender count n tables old lane) opening.wakes opening.drains was)
+    (runs-idle plan infos sender count n tables old new before lane opening was) was)
 
 -- EVENTS ONE BY ONE
 

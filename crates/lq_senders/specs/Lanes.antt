@@ -1,5 +1,5 @@
 -- A sender's lane: its seats, one at each station.
-use Rattle.std.specs.Prelude.{◌≡◌, ◌≢◌, ◌<◌, ◌≤◌, ℕ, zero, suc, ◌+◌, ◌*◌, ◌⊎◌, All, true, false, List, [], ◌∷◌, length, slice_get, slice_index, slice_set, Some}
+use Rattle.std.specs.Prelude.{◌≡◌, ◌≢◌, ◌<◌, ◌≤◌, ℕ, zero, suc, ◌+◌, ◌*◌, ◌⊎◌, All, Bool, true, false, List, [], ◌∷◌, length, slice_get, slice_index, slice_set, Some}
 use Rattle.lq_account_laws.specs.Progress.{start_of}
 use Rattle.lq_control.specs.Finish.{AreRanks, count_below}
 use Rattle.lq_model.specs.Alone.{RunningStation, after_packets, events_after, with_events}
@@ -7,6 +7,7 @@ use Rattle.lq_model.specs.Device.{DeviceState}
 use Rattle.lq_model.specs.Plan.{Plan, is_at, owner_in, queues_at, station_in}
 use Rattle.lq_model.specs.declared.fate.Info.{Info}
 use Rattle.lq_model.specs.declared.plan.EventPlan.{EventPlan}
+use Rattle.lq_plan.specs.Openings.{opens_while_stopped}
 use Rattle.lq_plan.specs.Packets.{IsInfoWithin}
 use Rattle.lq_qdisc.specs.Alone.{IsAlone, running}
 use Rattle.lq_seat.specs.Calls.{DoesEvent, Drains, SendsPacket, WakesQueues}
@@ -76,14 +77,35 @@ pub record AllDid (R : SeatState → SeatState → Type 0) (old new : List SeatS
   pub long : length new ≡ length old
   pub each : (j : ℕ) (c c' : SeatState) → slice_get old j ≡ Some c → slice_get new j ≡ Some c' → R c c'
 
--- the stopped queues of all were opened, and then soft interrupts done
-abbrev pub AllOpened : List SeatState → List SeatState → Type 0
-AllOpened old new = (woken : List SeatState) × (AllDid WakesQueues old woken × AllDid Drains woken new)
+-- OPENINGS
 
--- this was done so many times, one after the other
-abbrev pub OpenedTimes : ℕ → List SeatState → List SeatState → Type 0
-OpenedTimes zero old new = new ≡ old
-OpenedTimes (suc count) old new = (now : List SeatState) × (OpenedTimes count old now × AllOpened now new)
+-- the queues of a seat's station were woken, whether or not one was opened
+abbrev pub IsWoken : SeatState → SeatState → Type 0
+IsWoken old new = (opened : Bool) × WakesQueues opened old new
+
+-- whether a queue of one of them was opened
+abbrev pub WasOpened : Bool → List SeatState → List SeatState → Type 0
+WasOpened true old new = (j : ℕ) × (c : SeatState) × (c' : SeatState) × (slice_get old j ≡ Some c) × (slice_get new j ≡ Some c') × WakesQueues true c c'
+WasOpened false old new = AllDid (WakesQueues false) old new
+
+-- an opening: the stopped queues of all were opened, if there were any, and then soft interrupts done
+pub record AllOpened (opened : Bool) (old new : List SeatState) : Type 0 where
+  pub woken : List SeatState
+  pub wakes : AllDid IsWoken old woken
+  pub was : WasOpened opened old woken
+  pub drains : AllDid Drains woken new
+
+-- so many openings, one after the other; if they are made only while a queue is stopped, each opened one
+abbrev pub OpenedTimes : Bool → ℕ → List SeatState → List SeatState → Type 0
+OpenedTimes only zero old new = new ≡ old
+OpenedTimes only (suc count) old new =
+    (now : List SeatState) × (opened : Bool) × OpenedTimes only count old now × AllOpened opened now new × (only ≡ true → opened ≡ true)
+
+-- the openings after a packet: so many; or, if they are made only while a queue is stopped, fewer, of which the last opened none
+abbrev pub OpenedAfter : Bool → ℕ → List SeatState → List SeatState → Type 0
+OpenedAfter only times old new =
+    OpenedTimes only times old new
+    ⊎ ((only ≡ true) × (count : ℕ) × (now : List SeatState) × (count < times) × OpenedTimes only count old now × AllOpened false now new)
 
 -- an event of the plan was done, if it is one of the seat's station
 abbrev pub DoesEventAt : ℕ → EventPlan → SeatState → SeatState → Type 0
@@ -103,23 +125,23 @@ pub record SentPacket (infos : List Info) (n : ℕ) (old new : List SeatState) :
   pub sends : SendsPacket n before after
   pub laid : new ≡ slice_set old (station_in infos n) after
 
--- A sender's own packet n: the events before it, the packet, and then so many openings, each with its soft interrupts.
-pub record SendsAndOpens (infos : List Info) (sender n times : ℕ) (old new : List SeatState) : Type 0 where
+-- A sender's own packet n: the events before it, the packet, and then the openings after it.
+pub record SendsAndOpens (infos : List Info) (only : Bool) (sender n times : ℕ) (old new : List SeatState) : Type 0 where
   pub ready : List SeatState
   pub sent : List SeatState
   pub events : DidEvents sender old ready
   pub packet : SentPacket infos n ready sent
-  pub opened : OpenedTimes times sent new
+  pub opened : OpenedAfter only times sent new
 
 -- So it came past the packets below n: past each of its own in this way, and past another's without a call.
-abbrev pub ComesPast : List Info → (ℕ → ℕ) → ℕ → ℕ → List SeatState → List SeatState → Type 0
-ComesPast infos opens sender zero old new = new ≡ old
-ComesPast infos opens sender (suc n) old new = (now : List SeatState) × (ComesPast infos opens sender n old now
-    × ((owner_in infos n ≡ sender → SendsAndOpens infos sender n (opens n) now new) × (owner_in infos n ≢ sender → new ≡ now)))
+abbrev pub ComesPast : List Info → Bool → (ℕ → ℕ) → ℕ → ℕ → List SeatState → List SeatState → Type 0
+ComesPast infos only opens sender zero old new = new ≡ old
+ComesPast infos only opens sender (suc n) old new = (now : List SeatState) × (ComesPast infos only opens sender n old now
+    × ((owner_in infos n ≡ sender → SendsAndOpens infos only sender n (opens n) now new) × (owner_in infos n ≢ sender → new ≡ now)))
 
 -- past all packets, and then through the events that are left
-abbrev pub SendsAll : List Info → (ℕ → ℕ) → ℕ → List SeatState → List SeatState → Type 0
-SendsAll infos opens sender old new = (now : List SeatState) × (ComesPast infos opens sender (length infos) old now × DidEvents sender now new)
+abbrev pub SendsAll : List Info → Bool → (ℕ → ℕ) → ℕ → List SeatState → List SeatState → Type 0
+SendsAll infos only opens sender old new = (now : List SeatState) × (ComesPast infos only opens sender (length infos) old now × DidEvents sender now new)
 
 -- ON THE WAY THROUGH THE PACKETS
 
@@ -129,7 +151,7 @@ pub record IsSending (plan : Plan) (infos : List Info) (opens : ℕ → ℕ) (ta
   pub within : next ≤ length plan.events
   pub few : k ≤ n
   pub sent : k ≡ count_sent infos sender n
-  pub came : ComesPast infos opens sender n start now
+  pub came : ComesPast infos (opens_while_stopped plan) opens sender n start now
   pub stands : LaneStands plan infos sender next n tables now
   pub earlier : StandEarlier plan next n
   pub keeps : KeepSeats start now
@@ -167,8 +189,8 @@ abbrev pub AreDoneLanes : {D : Type 0} → Plan → List Info → List TableStat
 AreDoneLanes {D} plan infos tables lanes = (i : ℕ) (l : Sender D) → slice_get lanes i ≡ Some l → IsDoneLane plan infos tables i l.owner l.seats.items
 
 -- the sender at each place sent all its packets, and opened the queues after each
-abbrev pub EachSendsAll : {D : Type 0} → List Info → (ℕ → ℕ) → List (Sender D) → List (Sender D) → Type 0
-EachSendsAll {D} infos opens old new = (i : ℕ) (l l' : Sender D) → slice_get old i ≡ Some l → slice_get new i ≡ Some l' → SendsAll infos opens l.owner l.seats.items l'.seats.items
+abbrev pub EachSendsAll : {D : Type 0} → List Info → Bool → (ℕ → ℕ) → List (Sender D) → List (Sender D) → Type 0
+EachSendsAll {D} infos only opens old new = (i : ℕ) (l l' : Sender D) → slice_get old i ≡ Some l → slice_get new i ≡ Some l' → SendsAll infos only opens l.owner l.seats.items l'.seats.items
 
 -- packets of the plan's stations and senders, numbered by rank
 pub record IsSendable (plan : Plan) (infos : List Info) : Type 0 where

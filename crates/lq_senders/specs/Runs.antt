@@ -2,6 +2,7 @@
 use Rattle.std.specs.Prelude.{ℕ, List, map}
 use Rattle.lq_model.specs.Alone.{RunningStation, finished, with_events}
 use Rattle.lq_model.specs.Device.{DeviceState}
+use Rattle.lq_plan.specs.Openings.{opens_while_stopped}
 use Rattle.lq_seat.specs.State.{SeatState}
 use Rattle.lq_senders.specs.Ends.{HaveFatesAlone}
 use Rattle.lq_senders.specs.Joins.{LaneJoined}
@@ -33,9 +34,9 @@ module _ {D G : Type 0} where
   abbrev pub SeatsDone : Run D G → ℕ → List SeatState → Type 0
   SeatsDone run sender seats = LaneDone run.plan.now run.infos.now sender run.tables.now seats
 
-  -- the sender sent each of its packets, and then opened the queues as often as the run has it, before its next packet
+  -- the sender sent each of its packets, and then made the openings that the run has after it, before its next packet
   abbrev pub SeatsSendAll : Run D G → ℕ → List SeatState → List SeatState → Type 0
-  SeatsSendAll run sender old new = SendsAll run.infos.now (opens_in run) sender old new
+  SeatsSendAll run sender old new = SendsAll run.infos.now (opens_while_stopped run.plan.now) (opens_in run) sender old new
 
   -- those of the senders from `next` on are still to be split off the first sender's
   abbrev pub SeatsSplit : Run D G → ℕ → List SeatState → Type 0
@@ -100,4 +101,4 @@ module _ {D G : Type 0} where
   LanesAreDone run lanes = AreDoneLanes run.plan.now run.infos.now run.tables.now lanes
 
   abbrev pub LanesSendAll : Run D G → List (Sender D) → List (Sender D) → Type 0
-  LanesSendAll run old new = EachSendsAll run.infos.now (opens_in run) old new
+  LanesSendAll run old new = EachSendsAll run.infos.now (opens_while_stopped run.plan.now) (opens_in run) old new

@@ -1,8 +1,9 @@
 //! What a sender does at its seats.
 ghost use Rattle.std.specs.Prelude.{◌≡◌, ℕ, ◌+◌, ◌<◌, ◌≤◌, ◌-◌, true, false, List, length, slice_get};
-ghost use Rattle.lq_seat.specs.Calls.{WakesQueues, Drains};
+ghost use Rattle.lq_plan.specs.Openings.{opens_while_stopped};
+ghost use Rattle.lq_seat.specs.Calls.{Drains};
 ghost use Rattle.lq_seat.specs.State.{SeatState};
-ghost use Rattle.lq_senders.specs.Lanes.{AllDid, AllOpened, AreSeats, KeepAll, OpenedTimes};
+ghost use Rattle.lq_senders.specs.Lanes.{AllDid, AreSeats, IsWoken, KeepAll, OpenedAfter, AllOpened, WasOpened};
 ghost use Rattle.lq_senders.specs.Runs.{ComesTo, DevicesGoOn, HasDevices, RunsAs, SeatsDone, SeatsGoOn, SeatsRunAs, SeatsStand, events_on};
 ghost use Rattle.lq_senders.specs.Way.{IsSplitAt, StandAfter};
 ghost use Rattle.lq_senders.specs.Woken.{CountsDown, PlanCalls, count_sent};
@@ -20,14 +21,18 @@ use lq_plan::Plan;
 use lq_seat::{Seat, Table};
 use std::sync::Wait;
 
-/// Wakes the queues of each station.
-fn wake_all<'a, D: TxDevice>(tables: &[Table<'a, D>], seats: &mut Vec<Seat<D>>)
+/// Wakes the queues of each station. Whether one was opened.
+fn wake_all<'a, D: TxDevice>(tables: &[Table<'a, D>], seats: &mut Vec<Seat<D>>) -> bool
     requires seats { AreSeats tables.now seats.old.items }
-    ensures { AllDid WakesQueues seats.old.items seats.new.items }
+    ensures wakes { AllDid IsWoken seats.old.items seats.new.items }
+    ensures was { WasOpened result seats.old.items seats.new.items }
 {
+    let mut opened = false;
     for j in 0..tables.len() {
-        seats[j].wake(&tables[j]);
+        let here = seats[j].wake(&tables[j]);
+        opened = opened || here;
     }
+    opened
 }
 
 /// Does the soft interrupts of each seat.
@@ -40,16 +45,23 @@ fn drain_all<'a, R: Wait, D: TxDevice>(rt: &R, tables: &[Table<'a, D>], seats: &
     }
 }
 
-/// Opens the stopped queues of all stations, and does the soft interrupts of each seat.
-fn open_once<'a, R: Wait, D: TxDevice>(rt: &R, tables: &[Table<'a, D>], seats: &mut Vec<Seat<D>>)
+/// Opens the stopped queues of all stations, and does the soft interrupts of each seat. Whether a queue was opened.
+fn open_once<'a, R: Wait, D: TxDevice>(
+    rt: &R,
+    tables: &[Table<'a, D>],
+    seats: &mut Vec<Seat<D>>,
+) -> bool
     requires seats { AreSeats tables.now seats.old.items }
-    ensures { AllOpened seats.old.items seats.new.items }
+    ensures { AllOpened result seats.old.items seats.new.items }
 {
-    wake_all(tables, seats);
+    let opened = wake_all(tables, seats);
     drain_all(rt, tables, seats);
+    opened
 }
 
-/// Opens the stopped queues of all stations so many times, and does the soft interrupts of each seat after each of them.
+/// Opens the stopped queues of all stations so many times, and does the soft interrupts of each seat after each of them. Where the plan
+/// has that only while a queue is stopped, the first opening that opens none is the last. For a seat that has its table alone, those that
+/// are left would change nothing.
 fn open_times<'r, 'a, R: Wait, D: TxDevice, G: Gate>(
     rt: &R,
     run: &Run<'r, 'a, D, G>,
@@ -60,10 +72,14 @@ fn open_times<'r, 'a, R: Wait, D: TxDevice, G: Gate>(
     ensures stands { (sender count : ℕ) → SeatsGoOn run.now sender count count seats.old.items seats.new.items }
     ensures keeps { KeepAll seats.old.items seats.new.items }
     ensures runs { SeatsRunAs run.now (opened_and_served run.now.infos.now times) seats.old.items seats.new.items }
-    ensures opened { OpenedTimes times seats.old.items seats.new.items }
+    ensures opened { OpenedAfter (opens_while_stopped run.now.plan.now) times seats.old.items seats.new.items }
 {
+    let only_while_stopped = run.plan.opens_while_stopped();
     for _time in 0..times {
-        open_once(rt, run.tables, seats);
+        let opened = open_once(rt, run.tables, seats);
+        if only_while_stopped && !opened {
+            return;
+        }
     }
 }
 

@@ -91,7 +91,7 @@ loop-preserved g c =
       low = d.steps.1;
       served = served_then v0 v1 v6 i.served more;
       alike = λ h. alike_further infos start (solo v0) (solo v4) (subst (λ (s : Solo). IsEndedAlike infos start (solo v0) s) (sym same4) (i.alike h)) (ap (λ (s : Solo). s.raised) same4 ∙ i.low) (solo v5) (solo v6) active n.alone d.alone;
-      on = serves_more k (known c.args.cpu.now) (known c.loop.cpu) (known c.begin_control.new.cpu) (known c.look.new.cpu) (known c.end_control.new.cpu) (known c.irq.new.cpu) (known c.drain.new.cpu)
+      on = serves_more k c.irq.result (known c.args.cpu.now) (known c.loop.cpu) (known c.begin_control.new.cpu) (known c.look.new.cpu) (known c.end_control.new.cpu) (known c.irq.new.cpu) (known c.drain.new.cpu)
           i.on b.view b.made (subst (λ (x : Seen). LooksBy k x (known c.begin_control.new.cpu) (known c.look.new.cpu)) c.in-Going.is l.looks) e.view e.made n.steps d.steps;
     }
 

@@ -12,5 +12,5 @@ invariant-loop-queue g l = record {
   ready : IsReadyToSend l.cpu;
   still : IsStill (view l.fn.cpu) (view l.cpu);
   settled : (view l.cpu).settled ≡ (view l.fn.cpu).settled;
-  wakes : WakesBelow (setup l.shared) l.queue (known l.fn.cpu) (known l.cpu);
+  wakes : WakesBelow (setup l.shared) l.queue l.opened (known l.fn.cpu) (known l.cpu);
 }

@@ -10,7 +10,7 @@ use Rattle.lq_senders.specs.Lanes.{LaneStands}
 use Rattle.lq_senders.specs.Runs.{opens_in}
 use Rattle.lq_senders.specs.Woken.{count_sent}
 use Rattle.lq_senders.proofs.Coming.{EventsDone, PacketSent, SeatOfPacket, all-before, none-done, seat-of-packet, sending-on, some-done}
-use Rattle.lq_senders.proofs.OpenedTimes.{AreOpenedTimes, not-opened}
+use Rattle.lq_senders.proofs.OpenedTimes.{AreOpenedAfter, all-opened, not-opened}
 use Rattle.lq_senders.proofs.Sending.{sending-past}
 use Rattle.lq_senders.proofs.Sent.{owner-is}
 use Rattle.lq_senders.proofs.lane.come_to.Given as given
@@ -121,13 +121,14 @@ returns-clause-sending g c start brought was =
     elim c.if-times-gt0.branch [
       | then-times-gt0 w ↦
           (let e = w.open_times.ensures in let new = w.open_times.new.seats.items in
-          let opened : AreOpenedTimes run.plan.now run.infos.now run.tables.now c.opened_after-times.result sent new = record { stands = e.stands; keeps = e.keeps; runs = e.runs; opened = e.opened } in
+          let opened : AreOpenedAfter run.plan.now run.infos.now run.tables.now c.opened_after-times.result sent new = record { leaves = record { stands = e.stands; keeps = e.keeps; runs = e.runs }; opened = e.opened } in
           rw w.sender-is (sending-on run.plan.now run.infos.now (opens_in run) run.tables.now old.owner c.args.n c.args.at.sent c.args.at.next c.if-has_events_before.next start brought old.seats.items (states old.spares.items)
           ready.seats.items (states ready.spares.items) sent new info there c.if-info-sender.false (events g at) (packet g at c.send.new.self c.send.ensures)
-          (subst (λ (k : ℕ). AreOpenedTimes run.plan.now run.infos.now run.tables.now k sent new) times opened) was))
+          (subst (λ (k : ℕ). AreOpenedAfter run.plan.now run.infos.now run.tables.now k sent new) times opened) was))
       | else-times-gt0 w ↦
           (let test = w.if-times-gt0.false in let none : 0 ≡ c.opened_after-times.result = omega arith in
           rw w.sender-is (sending-on run.plan.now run.infos.now (opens_in run) run.tables.now old.owner c.args.n c.args.at.sent c.args.at.next c.if-has_events_before.next start brought old.seats.items (states old.spares.items)
           ready.seats.items (states ready.spares.items) sent sent info there c.if-info-sender.false (events g at) (packet g at c.send.new.self c.send.ensures)
-          (subst (λ (k : ℕ). AreOpenedTimes run.plan.now run.infos.now run.tables.now k sent sent) (none ∙ times) (not-opened run.plan.now run.infos.now run.tables.now sent)) was))
+          (subst (λ (k : ℕ). AreOpenedAfter run.plan.now run.infos.now run.tables.now k sent sent) (none ∙ times)
+          (all-opened run.plan.now run.infos.now run.tables.now 0 sent sent (not-opened run.plan.now run.infos.now run.tables.now sent))) was))
     ]

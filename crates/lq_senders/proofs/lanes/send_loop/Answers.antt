@@ -1,5 +1,6 @@
 use Rattle.std.proofs.Common.{◌≡◌, ℕ, ◌+◌, true, ap, length, map, refl, sym, ◌∙◌, subst, arith}
 use Rattle.lq_model.specs.Alone.{with_events, after_packets}
+use Rattle.lq_plan.specs.Openings.{opens_while_stopped}
 use Rattle.lq_senders.specs.Lanes.{IsSending, LaneDone, LaneStands, AreRunAlone, ComesPast, SendsAll}
 use Rattle.lq_senders.proofs.Calls.{called-keep}
 use Rattle.lq_senders.proofs.Turns.{seats-on}
@@ -76,11 +77,11 @@ pub returns-clause-course : goal.returns-clause-course
 returns-clause-course g c =
     let own = c.loop-n.invariant in let test = c.loop-n-test.false in let stop = c.loop-n.auto.n-end in let few = c.args.run.now.sendable.few in
     let same : c.loop-n.n ≡ length c.args.run.now.infos.now = omega arith in
-    let infos = c.args.run.now.infos.now in let opens = opens_in c.args.run.now in let start = c.args.sender.now.seats.items in
-    subst (λ (s : ℕ). SendsAll infos opens s start c.events_left.new.sender.seats.items) own.owner (
+    let infos = c.args.run.now.infos.now in let opens = opens_in c.args.run.now in let only = opens_while_stopped c.args.run.now.plan.now in let start = c.args.sender.now.seats.items in
+    subst (λ (s : ℕ). SendsAll infos only opens s start c.events_left.new.sender.seats.items) own.owner (
       c.loop-n.sender.seats.items,
       (
-        subst (λ (n : ℕ). ComesPast infos opens c.loop-n.sender.owner n start c.loop-n.sender.seats.items) same own.sending.came,
+        subst (λ (n : ℕ). ComesPast infos only opens c.loop-n.sender.owner n start c.loop-n.sender.seats.items) same own.sending.came,
         c.events_left.ensures.calls,
       ),
     )

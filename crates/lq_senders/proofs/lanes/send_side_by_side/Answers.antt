@@ -1,5 +1,6 @@
 use Rattle.std.proofs.Common.{◌≡◌, ◌<◌, ◌∙◌, Some, ap, length, rules, subst, sym}
 use Rattle.std.proofs.lemmas.Option.{get_or_from_slice_get, slice_get-get_or, slice_get_within}
+use Rattle.lq_plan.specs.Openings.{opens_while_stopped}
 use Rattle.lq_senders.specs.Lanes.{IsDoneLane, SendsAll}
 use Rattle.lq_senders.specs.Runs.{opens_in}
 use Rattle.lq_senders.specs.declared.sender.Sender.{Sender}
@@ -21,6 +22,6 @@ pub returns-then-threads-gt0-clause-course : goal.returns-then-threads-gt0-claus
 returns-then-threads-gt0-clause-course g c i old l was there =
     let run = c.args.run.now in
     let changed = (c.for_each_mut.ensures i l (slice_get_within c.args.senders.now i old was)).1 in
-    subst (λ (x : Sender g.row.D.Denot). SendsAll run.infos.now (opens_in run) old.owner old.seats.items x.seats.items) (changed.left ∙ get_or_from_slice_get c.for_each_mut.new.s i l l there)
-    (subst (λ (x : Sender g.row.D.Denot). SendsAll run.infos.now (opens_in run) x.owner x.seats.items changed.after_call.now.seats.items)
+    subst (λ (x : Sender g.row.D.Denot). SendsAll run.infos.now (opens_while_stopped run.plan.now) (opens_in run) old.owner old.seats.items x.seats.items) (changed.left ∙ get_or_from_slice_get c.for_each_mut.new.s i l l there)
+    (subst (λ (x : Sender g.row.D.Denot). SendsAll run.infos.now (opens_while_stopped run.plan.now) (opens_in run) x.owner x.seats.items changed.after_call.now.seats.items)
     (changed.argument_is ∙ get_or_from_slice_get c.args.senders.now i old l was) changed.call.1)

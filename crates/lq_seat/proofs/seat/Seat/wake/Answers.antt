@@ -13,4 +13,4 @@ pub returns : goal.returns
 returns g c =
     let sh = c.table.inside.shared in let cpu = c.self.inside.cpu in let now = c.irq.new.cpu in let e = c.irq.ensures in
     let made = made-is sh cpu c.args.table.now c.args.self.now c.table.view_is c.self.view_is c.requires.here in
-    subst (λ (s : SeatState). WakesQueues s (seat_seen now)) c.self.view_is (woken-by sh cpu now made e.kept e.still e.steps e.alone)
+    subst (λ (s : SeatState). WakesQueues c.irq.result s (seat_seen now)) c.self.view_is (woken-by sh cpu now made c.irq.result e.kept e.still e.steps e.alone)
