@@ -15,8 +15,8 @@ Where a new case goes without a word into a catch-all, no file has the exemplar'
 A file has one if it is code that names the type and has an arm with `_`, a definition with `_` in the place of an argument of the type, or a tool that compares
 a kind with one of the names.
 
-Each of these files has to be among the chapter's paths. A path may leave out what it shares with the path before it in its line or cell: `crates`, the
-crate, or the folder. The path of a folder names all files in it, and none for its catch-all. A chapter with a table of files has to have an exemplar.
+Each of these files has to be among the chapter's paths. A path may leave out what it shares with the path before it in its item: `crates`, the
+crate, or the folder. The path of a folder names all files in it, and none for its catch-all. A chapter with a list of files has to have an exemplar.
 """
 import os
 import pathlib
@@ -26,7 +26,7 @@ EXEMPLAR = re.compile(r"^Exemplar: (.+?); some (\d+) files\.", re.M | re.S)
 BESIDE = re.compile(r", in any spelling beside `(\w+)`")
 CATCH_ALL = re.compile(r"^A catch-all takes a new `(\w+)`(?:, in tools beside (.+?))?\.$", re.M | re.S)
 ARM = re.compile(r"^ *(?:_|\(.*\b_\b.*\)) =>", re.M)
-TABLE = "| File | What |"
+LISTED = re.compile(r"^- .*`: ", re.M)
 QUOTED = re.compile(r"`([^`\s]+)`")
 # folders that are made, and the page itself
 LEFT_OUT = {".git", "out", "build", "__pycache__"}
@@ -40,8 +40,8 @@ def chapters_of(text):
 
 
 def lines_of(chapter):
-    """The rows of a chapter's tables and its paragraphs, each as one line."""
-    return re.sub(r"\n(?![|\n])", " ", chapter).splitlines()
+    """The items of a chapter's lists and its paragraphs, each as one line."""
+    return re.sub(r"\n(?![-\n])", " ", chapter).splitlines()
 
 
 def paths_of(top, line):
@@ -119,8 +119,8 @@ def faults_of_chapter(top, heading, chapter, files):
     """The files that name a chapter's exemplar and that the chapter doesn't name, and a wrong number of files."""
     said = EXEMPLAR.search(chapter)
     if not said:
-        if TABLE in chapter:
-            yield f"{PAGE}: {heading}: it has a table of files, and no line 'Exemplar: `NAME`; some N files.'"
+        if LISTED.search(chapter):
+            yield f"{PAGE}: {heading}: it has a list of files, and no line 'Exemplar: `NAME`; some N files.'"
         return
     beside = BESIDE.search(said[1])
     names = QUOTED.findall(BESIDE.sub("", said[1]))

@@ -11,11 +11,10 @@ CHAPTER = """# Changing it
 
 Exemplar: `Gone`, in texts and tools `gone`; some 6 files. Not tried yet.
 
-| File | What |
-|---|---|
-| `lq_low/src/fate.rt`, `words.rt`, `specs/Words.antt` | the variant, and its word |
-| `lq_low/proofs/` | a case in each |
-| `tools/draw` | its colour |
+- `lq_low/src/fate.rt`, `words.rt`, `specs/Words.antt`: the variant, and
+  its word
+- `lq_low/proofs/`: a case in each
+- `tools/draw`: its colour
 
 Left alone: `docs/HISTORY.md`
 (it tells what was).
@@ -60,9 +59,9 @@ def files_that_a_chapter_leaves_out():
 def chapters_without_an_exemplar():
     """A chapter that lists files has an exemplar, and one that lists none needs none."""
     without = CHAPTER.replace("Exemplar: ", "It goes by ")
-    wanted = ["it has a table of files, and no line 'Exemplar: `NAME`; some N files.'"]
-    is_equal("a table without an exemplar", faults_with("no-exemplar", {"docs/CHANGING.md": without}), wanted)
-    is_equal("neither", faults_with("no-table", {"docs/CHANGING.md": without.replace("| File | What |", "| Name | What |")}), [])
+    wanted = ["it has a list of files, and no line 'Exemplar: `NAME`; some N files.'"]
+    is_equal("a list without an exemplar", faults_with("no-exemplar", {"docs/CHANGING.md": without}), wanted)
+    is_equal("neither", faults_with("no-list", {"docs/CHANGING.md": without.replace("`: ", "`, ")}), [])
 
 
 @case
