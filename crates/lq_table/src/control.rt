@@ -1,5 +1,5 @@
 //! The steps of control, which the first seat alone does.
-ghost use Rattle.std.specs.Prelude.{◌≡◌, ◌<◌, ℕ, Bool, true, false, Some, None, is_some, ◌∷◌, ◌+◌};
+ghost use Rattle.std.specs.Prelude.{◌≡◌, ◌<◌, ℕ, Bool, true, false, Some, None, is_some, ◌∷◌, ◌+◌, []};
 ghost use Rattle.lq_model.specs.declared.machine.Phase.TheVariants.{Purged};
 ghost use Rattle.lq_model.specs.declared.machine.Position.TheVariants.{Idle as AtIdle, Control as AtControl};
 ghost use Rattle.lq_table.specs.Rule.{HasServed, latest_unit};
@@ -13,6 +13,7 @@ ghost use Rattle.lq_table.specs.Locks.{load_lock_log};
 ghost use Rattle.lq_table.specs.Stops.{store_xoff_log};
 ghost use Rattle.lq_table.specs.States.{clear_draining_log, clear_missed_log};
 ghost use Rattle.lq_table.specs.Made.{load_base_log};
+ghost use Rattle.lq_table.specs.Step.{BeginControl, ClearDeactivated, EndControl, LoadInside, LoadLock, MakesSteps, OpenXoff, ResetDraining, ResetMissed, SetDeactivated, SwapDevice};
 
 use crate::places::{BASE, INSIDE, LOCK, STATE, XOFF};
 use crate::shared::{Cpu, Shared};
@@ -28,6 +29,7 @@ impl<'a, D: TxDevice> Shared<'a, D> {
         ensures same { IsElseSame cpu.old cpu.new }
         ensures view { view cpu.new ≡ begin_control_view (view cpu.old) }
         ensures made { (found : ℕ) × (steps cpu.new ≡ load_base_log found ∷ steps cpu.old) }
+        ensures makes { (found : ℕ) × MakesSteps (BeginControl found ∷ []) cpu.old cpu.new }
     {
         self.load_word::<Brand, _>(&mut cpu.known.seat, BASE, &());
     }
@@ -39,6 +41,7 @@ impl<'a, D: TxDevice> Shared<'a, D> {
         ensures same { IsElseSame cpu.old cpu.new }
         ensures view { view cpu.new ≡ end_control_view (view cpu.old) }
         ensures made { (found : ℕ) × (steps cpu.new ≡ load_base_log found ∷ steps cpu.old) }
+        ensures makes { (found : ℕ) × MakesSteps (EndControl found ∷ []) cpu.old cpu.new }
     {
         self.load_word::<Brand, _>(&mut cpu.known.seat, BASE, &());
     }
@@ -52,6 +55,7 @@ impl<'a, D: TxDevice> Shared<'a, D> {
         ensures same { IsElseSame cpu.old cpu.new }
         ensures view { view cpu.new ≡ set_deactivated_view event (view cpu.old) }
         ensures made { (was : Bool) × (steps cpu.new ≡ set_deactivated_log event was ∷ steps cpu.old) }
+        ensures makes { (was : Bool) × MakesSteps (SetDeactivated event was ∷ []) cpu.old cpu.new }
     {
         self.fetch_or_word::<Brand, _>(
             &mut cpu.known.seat,
@@ -69,6 +73,7 @@ impl<'a, D: TxDevice> Shared<'a, D> {
         ensures same { IsElseSame cpu.old cpu.new }
         ensures view { view cpu.new ≡ load_inside_view result (view cpu.old) }
         ensures made { steps cpu.new ≡ load_inside_log result ∷ steps cpu.old }
+        ensures makes { MakesSteps (LoadInside result ∷ []) cpu.old cpu.new }
     {
         self.load_word::<Brand, _>(&mut cpu.known.seat, INSIDE, &())
     }
@@ -81,6 +86,7 @@ impl<'a, D: TxDevice> Shared<'a, D> {
         ensures view { view cpu.new ≡ view cpu.old }
         ensures alone { IsSoleAtRest (view cpu.old) → KnowsRest (view cpu.old) }
         ensures made { steps cpu.new ≡ load_lock_log result ∷ steps cpu.old }
+        ensures makes { MakesSteps (LoadLock result ∷ []) cpu.old cpu.new }
     {
         self.load_word::<Brand, _>(&mut cpu.known.seat, LOCK, &())
     }
@@ -93,6 +99,7 @@ impl<'a, D: TxDevice> Shared<'a, D> {
         ensures same { IsElseSame cpu.old cpu.new }
         ensures view { view cpu.new ≡ clear_deactivated_view (view cpu.old) }
         ensures made { steps cpu.new ≡ clear_deactivated_log ∷ steps cpu.old }
+        ensures makes { MakesSteps (ClearDeactivated ∷ []) cpu.old cpu.new }
     {
         self.fetch_and_word::<Brand, _>(&mut cpu.known.seat, STATE, ACTIVE_BITS, &());
     }
@@ -106,6 +113,7 @@ impl<'a, D: TxDevice> Shared<'a, D> {
         ensures same { IsElseSame cpu.old cpu.new }
         ensures view { view cpu.new ≡ reset_missed_view (view cpu.old) }
         ensures made { steps cpu.new ≡ clear_missed_log ∷ steps cpu.old }
+        ensures makes { MakesSteps (ResetMissed ∷ []) cpu.old cpu.new }
     {
         self.fetch_and_word::<Brand, _>(&mut cpu.known.seat, STATE, ALL_BUT_MISSED, &());
     }
@@ -119,6 +127,7 @@ impl<'a, D: TxDevice> Shared<'a, D> {
         ensures same { IsElseSame cpu.old cpu.new }
         ensures view { view cpu.new ≡ reset_draining_view (view cpu.old) }
         ensures made { steps cpu.new ≡ clear_draining_log ∷ steps cpu.old }
+        ensures makes { MakesSteps (ResetDraining ∷ []) cpu.old cpu.new }
     {
         self.fetch_and_word::<Brand, _>(&mut cpu.known.seat, STATE, ALL_BUT_DRAINING, &());
     }
@@ -137,6 +146,7 @@ impl<'a, D: TxDevice> Shared<'a, D> {
         ensures served { HasServed self.now.infos.now self.now.station (view cpu.old).control.origin (view cpu.old).holder.station.device }
         ensures unit { (view cpu.old).holder.station.unit ≡ latest_unit self.now.station (view cpu.old).holder.units }
         ensures made { steps cpu.new ≡ store_xoff_log (setup self.now) 0 0 ∷ steps cpu.old }
+        ensures makes { MakesSteps (SwapDevice ∷ []) cpu.old cpu.new }
     {
         self.store_word::<Brand, _>(&mut cpu.known.seat, XOFF, 0, &cpu.station);
     }
@@ -151,6 +161,7 @@ impl<'a, D: TxDevice> Shared<'a, D> {
         ensures same { IsElseSame cpu.old cpu.new }
         ensures view { view cpu.new ≡ open_xoff_view queue (view cpu.old) }
         ensures made { steps cpu.new ≡ store_xoff_log (setup self.now) queue 0 ∷ steps cpu.old }
+        ensures makes { MakesSteps (OpenXoff queue ∷ []) cpu.old cpu.new }
     {
         let word = self.stop_word(queue);
         self.store_word::<Brand, _>(&mut cpu.known.seat, word, 0, &queue);

@@ -1,6 +1,6 @@
 //! The steps of a purge by control: `qdisc_reset` of net/sched/sch_generic.c, with `pfifo_fast_reset`, on a station that
 //! is deactivated or whose device hangs. It takes the packets out of the requeue slot and the rings, whose fate is Purged.
-ghost use Rattle.std.specs.Prelude.{◌≡◌, ◌≢◌, ℕ, ◌-◌, ◌<◌, ◌≤◌, true, Some, None, ◌∷◌};
+ghost use Rattle.std.specs.Prelude.{◌≡◌, ◌≢◌, ℕ, ◌-◌, ◌<◌, ◌≤◌, true, Some, None, ◌∷◌, []};
 ghost use Rattle.lq_account_laws.specs.Trail.{down_of};
 ghost use Rattle.lq_model.specs.Control.{is_quiet};
 ghost use Rattle.lq_model.specs.declared.fate.Cause.TheVariants as cause;
@@ -11,6 +11,9 @@ ghost use Rattle.lq_table.specs.Consumers.{CarriesHead, IsBetweenTakes};
 ghost use Rattle.lq_table.specs.Purges.{IsPurgingBand, MayPurgeHung, PassesEmptyBand, TakesFirstLeft, BeginsPurge, OfPurge};
 ghost use Rattle.lq_table.specs.Producers.{load_slot_log};
 ghost use Rattle.lq_table.specs.States.{load_state_log};
+ghost use Rattle.lq_band_laws.specs.Three.{Three as Of};
+ghost use Rattle.lq_model.specs.Band.{Band};
+ghost use Rattle.lq_table.specs.Step.{BeginHungPurge, BeginPurge, MakesSteps, PurgeSlot};
 
 use crate::places::STATE;
 use crate::shared::{Cpu, Shared};
@@ -31,6 +34,7 @@ impl<'a, D: TxDevice> Shared<'a, D> {
         ensures begun { BeginsPurge (cause.Event result) (view cpu.old) (view cpu.new) }
         ensures event { down_of (view cpu.old).trail ≡ Some result }
         ensures made { (found : ℕ) × (steps cpu.new ≡ load_state_log found ∷ steps cpu.old) }
+        ensures makes { (bands : Of Band) × (found : ℕ) × MakesSteps (BeginPurge result bands found ∷ []) cpu.old cpu.new }
     {
         let word = self.load_word::<Brand, _>(&mut cpu.known.seat, STATE, &());
         (word / 256 - 1) as u32
@@ -46,6 +50,7 @@ impl<'a, D: TxDevice> Shared<'a, D> {
         ensures same { IsElseSame cpu.old cpu.new }
         ensures begun { BeginsPurge (cause.Hung (view cpu.old).holder.station.unit) (view cpu.old) (view cpu.new) }
         ensures made { (found : ℕ) × (steps cpu.new ≡ load_state_log found ∷ steps cpu.old) }
+        ensures makes { (bands : Of Band) × (found : ℕ) × MakesSteps (BeginHungPurge bands found ∷ []) cpu.old cpu.new }
     {
         self.load_word::<Brand, _>(&mut cpu.known.seat, STATE, &());
     }
@@ -66,6 +71,7 @@ impl<'a, D: TxDevice> Shared<'a, D> {
         ensures taken { (l : Left) → (view cpu.old).holder.left ≡ Some l → result ≢ 0
             → TakesFirstLeft band (result - 1) l cpu.old cpu.new }
         ensures made { steps cpu.new ≡ load_slot_log (setup self.now) band (ends_at band cpu.old).head result ∷ steps cpu.old }
+        ensures makes { MakesSteps (PurgeSlot band result ∷ []) cpu.old cpu.new }
     {
         let head = cpu.station().head(band);
         let word = self.slot_word(band, head);

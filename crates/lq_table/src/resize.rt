@@ -1,7 +1,7 @@
 //! The steps of a resize: `ptr_ring_resize_multiple` of include/linux/ptr_ring.h, which
 //! `pfifo_fast_change_tx_queue_len` of net/sched/sch_generic.c calls. Control holds the run lock and the three producer
 //! locks. There the kernel moves the packets into new arrays; here control moves them in place, one step a call.
-ghost use Rattle.std.specs.Prelude.{◌≡◌, ℕ, ◌+◌, ◌*◌, ◌<◌, ◌≤◌, ◌∷◌, true, false, Some};
+ghost use Rattle.std.specs.Prelude.{◌≡◌, ℕ, ◌+◌, ◌*◌, ◌<◌, ◌≤◌, ◌∷◌, true, false, Some, [], List};
 ghost use Rattle.lq_model.specs.Positions.{holds_lock};
 ghost use Rattle.lq_model.specs.declared.machine.Position.TheVariants.{Control};
 ghost use Rattle.lq_band_laws.specs.Three.{at};
@@ -10,6 +10,8 @@ ghost use Rattle.lq_table.specs.Views.{HalfResize};
 ghost use Rattle.lq_table.specs.Sees.{view, position, lock_at, IsSeatOf, IsElseSame, steps, setup};
 ghost use Rattle.lq_table.specs.Resizes.{AreRefilled, ClearsSlot, FillsSlot, may_resize, store_size_view, BeginsResize, HasNothingHalfDone, HasHalfResize, MayFill, set_producer_log, store_size_log, clear_slot_log};
 ghost use Rattle.lq_table.specs.Producers.{with_lock_at, load_size_log, store_slot_log};
+ghost use Rattle.lq_band_laws.specs.Three.{Three as Of};
+ghost use Rattle.lq_table.specs.Step.{BeginResize, ClearSlot, FillSlot, MakesSteps, SetProducer, StoreSize};
 
 use crate::places::{SIZE, producer_word};
 use crate::shared::{Cpu, Shared};
@@ -31,6 +33,7 @@ impl<'a, D: TxDevice> Shared<'a, D> {
         ensures same { IsElseSame cpu.old cpu.new }
         ensures begun { BeginsResize self.now.infos.now self.now.max_len len event (view cpu.old) (view cpu.new) }
         ensures made { (found : ℕ) × (steps cpu.new ≡ load_size_log found ∷ steps cpu.old) }
+        ensures makes { (held : ℕ → List ℕ) × (slots : Of (List ℕ)) × (found : ℕ) × MakesSteps (BeginResize len event held slots found ∷ []) cpu.old cpu.new }
     {
         self.load_word::<Brand, _>(&mut cpu.known.seat, SIZE, &(len, event));
     }
@@ -44,6 +47,7 @@ impl<'a, D: TxDevice> Shared<'a, D> {
         ensures same { IsElseSame cpu.old cpu.new }
         ensures cleared { (t : HalfResize) → (view cpu.old).holder.resizing ≡ Some t → ClearsSlot band i t result cpu.old cpu.new }
         ensures made { steps cpu.new ≡ clear_slot_log (setup self.now) band i result ∷ steps cpu.old }
+        ensures makes { MakesSteps (ClearSlot band i result ∷ []) cpu.old cpu.new }
     {
         let word = self.slot_word(band, i);
         self.swap_word::<Brand, _>(&mut cpu.known.seat, word, 0, &(band, i))
@@ -59,6 +63,7 @@ impl<'a, D: TxDevice> Shared<'a, D> {
         ensures same { IsElseSame cpu.old cpu.new }
         ensures filled { FillsSlot band i n cpu.old cpu.new }
         ensures made { steps cpu.new ≡ store_slot_log (setup self.now) band i (n + 1) ∷ steps cpu.old }
+        ensures makes { MakesSteps (FillSlot band i n ∷ []) cpu.old cpu.new }
     {
         let word = self.slot_word(band, i);
         self.store_word::<Brand, _>(&mut cpu.known.seat, word, n as u64 + 1, &(band, i, n));
@@ -73,6 +78,7 @@ impl<'a, D: TxDevice> Shared<'a, D> {
         ensures same { IsElseSame cpu.old cpu.new }
         ensures set { view cpu.new ≡ with_lock_at band (locked_at index) (view cpu.old) }
         ensures made { steps cpu.new ≡ set_producer_log band index ∷ steps cpu.old }
+        ensures makes { MakesSteps (SetProducer band index ∷ []) cpu.old cpu.new }
     {
         let word = producer_word(band);
         self.store_word::<Brand, _>(
@@ -93,6 +99,7 @@ impl<'a, D: TxDevice> Shared<'a, D> {
         ensures same { IsElseSame cpu.old cpu.new }
         ensures restarted { (t : HalfResize) → (view cpu.old).holder.resizing ≡ Some t → view cpu.new ≡ store_size_view t (view cpu.old) }
         ensures made { steps cpu.new ≡ store_size_log len ∷ steps cpu.old }
+        ensures makes { MakesSteps (StoreSize len ∷ []) cpu.old cpu.new }
     {
         self.store_word::<Brand, _>(&mut cpu.known.seat, SIZE, len as u64, &());
     }

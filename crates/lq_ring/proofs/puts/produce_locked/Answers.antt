@@ -48,7 +48,14 @@ returns-then-found-ne0 g c = record {
       let found = c.producer_slot-found.result in let some_ = c.if-found-ne0.true in
       let back : found ≡ found - 1 + 1 = omega arith in
       subst (λ (y : View × ℕ). SeesEnd c.args.band y.0 y.1) (λ j. (c.load_size-size.ensures.size.0 j, back j)) c.producer_slot-found.ensures.sole;
-  made = search rules;
+  made =
+      let b = c.args.band in let l = c.load_size-size in let z = l.result in let k = setup c.args.shared.now in let i = c.args.index in let found = c.producer_slot-found.result in let some_ = c.if-found-ne0.true in
+      let back : found ≡ found - 1 + 1 = omega arith in
+      let at1 : (at b (view l.new.cpu).locks).index ≡ i = ap (λ (x : Lock). x.index) (lock1 b z i c.args.n (view c.args.cpu.now) (view l.new.cpu) c.requires.may.locked.0 l.ensures.size.0) in (
+        z,
+        c.give_producer.ensures.made
+            ∙ ((λ j. c.producer_slot-found.ensures.made j ⊳ give_producer_log b i) ∙ (λ j. l.ensures.made j ⊳ load_slot_log k b (at1 j) (back j) ⊳ give_producer_log b i)),
+      );
 }
 
 pub store_slot-requires-clause-lock : goal.store_slot-requires-clause-lock

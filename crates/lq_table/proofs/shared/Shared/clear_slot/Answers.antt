@@ -1,5 +1,5 @@
 mod Kept
-use Rattle.std.proofs.Common.{◌≡◌, ℕ, ◌<◌, ◌≤◌, arith, sym, subst, ap, length, List, Option}
+use Rattle.std.proofs.Common.{◌≡◌, ℕ, ◌<◌, ◌≤◌, arith, sym, subst, ap, length, List, Option, refl, ◌∷◌, ◌∙◌}
 use mathlib.Core.Option.{none}
 use Rattle.lq_model.specs.declared.fate.Info.{Info}
 use Rattle.atomic_table.specs.Table.{step, Allows}
@@ -10,7 +10,9 @@ use Rattle.std.specs.Option.{unwrap_or}
 use Rattle.lq_table.specs.Views.{HalfResize, no_resizing}
 use Rattle.lq_table.proofs.shared.Shared.clear_slot.Invariants.{clear_slot_told}
 use Rattle.lq_table.proofs.shared.Shared.clear_slot.Answers.Kept.{clears_slot}
-use Rattle.lq_log.specs.Made.{seen}
+use Rattle.lq_log.specs.Made.{seen, swap}
+use Rattle.lq_table.proofs.StepFacts.{makes_one, slot_of_seat}
+use Rattle.lq_table.specs.Sees.{steps}
 use Rattle.lq_table.proofs.shared.Shared.clear_slot.Goals as goal
 
 pub swap_word-requires : goal.swap_word-requires
@@ -29,3 +31,7 @@ swap_word-requires g c = (
             (clears_slot k slots seat.id (seen seat.me) b i h.1.0 c.requires.place.0 inside h.0 h.1.1 c.requires.seat.1 few),
       )),
 )
+
+pub returns-clause-makes : goal.returns-clause-makes
+returns-clause-makes g c =
+    let e = c.swap_word.ensures in makes_one _ _ _ (e.0, e.1) refl refl e.2.told.1 (e.2.noted ∙ (λ j. swap (slot_of_seat c.args.self.now c.args.cpu.now c.requires.seat c.args.band c.args.i c.args.i _ c.slot_word-word.ensures refl j) 0 c.swap_word.result ∷ steps c.args.cpu.now)) (e.2.told.0, e.2.told.2)

@@ -1,5 +1,5 @@
 mod Kept
-use Rattle.std.proofs.Common.{sym, ◌≡◌, ℕ, ◌+◌, ◌<◌, arith, ap, ◌∙◌, subst, drop, List, Option}
+use Rattle.std.proofs.Common.{sym, ◌≡◌, ℕ, ◌+◌, ◌<◌, arith, ap, ◌∙◌, subst, drop, List, Option, refl, ◌∷◌}
 use mathlib.Core.Option.{none}
 use Rattle.atomic_table.specs.Table.{step, Allows}
 use Rattle.lq_table.specs.Rule.{Rule, slot_word}
@@ -10,7 +10,9 @@ use Rattle.lq_band_laws.specs.Three.{at}
 use Rattle.lq_table.specs.Views.{HalfResize, no_resizing}
 use Rattle.lq_table.specs.Resizes.{fill_slot_view}
 use Rattle.lq_table.proofs.shared.Shared.fill_slot.Answers.Kept.{fills_slot}
-use Rattle.lq_log.specs.Made.{seen, becomes}
+use Rattle.lq_log.specs.Made.{seen, becomes, store}
+use Rattle.lq_table.proofs.StepFacts.{makes_one, slot_of_seat}
+use Rattle.lq_table.specs.Sees.{steps}
 use Rattle.lq_table.proofs.shared.Shared.fill_slot.Goals as goal
 
 pub store_word-requires : goal.store_word-requires
@@ -29,3 +31,7 @@ store_word-requires g c = (
             (fills_slot k slots seat.id (seen seat.me) b i m.0 c.requires.place.0 inside h m.2 c.requires.seat.1 n m.1 m.3 m.4),
       )),
 )
+
+pub returns-clause-makes : goal.returns-clause-makes
+returns-clause-makes g c =
+    let e = c.store_word.ensures in makes_one _ _ _ (e.0, e.1) refl refl e.2.told (e.2.noted ∙ (λ j. store (slot_of_seat c.args.self.now c.args.cpu.now c.requires.seat c.args.band c.args.i c.args.i _ c.slot_word-word.ensures refl j) (c.args.n + 1) ∷ steps c.args.cpu.now)) tt

@@ -1,5 +1,5 @@
 mod Kept
-use Rattle.std.proofs.Common.{sym, ◌≡◌, ℕ, ◌*◌, ◌<◌, arith, subst}
+use Rattle.std.proofs.Common.{sym, ◌≡◌, ℕ, ◌*◌, ◌<◌, arith, subst, refl, ◌∷◌, ◌∙◌}
 use mathlib.Core.Option.{none}
 use Rattle.atomic_table.specs.Table.{step, Allows}
 use Rattle.lq_table.specs.Places.{producer_place}
@@ -7,8 +7,10 @@ use Rattle.lq_table.specs.Rule.{Rule}
 use Rattle.lq_table.specs.Keyed.{keyed_setup}
 use Rattle.lq_table.specs.Producers.{with_lock_at}
 use Rattle.lq_table.proofs.shared.Shared.give_producer.Answers.Kept.{gives_producer}
-use Rattle.lq_log.specs.Made.{seen, becomes}
+use Rattle.lq_log.specs.Made.{seen, becomes, store}
 use Rattle.lq_band_laws.specs.Ring.{unlocked}
+use Rattle.lq_table.proofs.StepFacts.{makes_one}
+use Rattle.lq_table.specs.Sees.{steps}
 use Rattle.lq_table.proofs.shared.Shared.give_producer.Goals as goal
 
 pub store_word-requires : goal.store_word-requires
@@ -24,3 +26,7 @@ store_word-requires g c = (
             (gives_producer k slots seat.id (seen seat.me) c.args.band i.0 c.args.index c.requires.band c.requires.lock.0 i.1 i.2 c.requires.seat.1 c.requires.lock.1),
       )),
 )
+
+pub returns-clause-makes : goal.returns-clause-makes
+returns-clause-makes g c =
+    let e = c.store_word.ensures in makes_one _ _ _ (e.0, e.1) refl refl e.2.told (e.2.noted ∙ (λ j. store (c.producer_word-word.ensures j) (2 * c.args.index) ∷ steps c.args.cpu.now)) tt

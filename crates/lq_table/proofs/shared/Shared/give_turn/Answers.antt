@@ -13,6 +13,8 @@ use Rattle.lq_table.specs.Sees.{view, steps}
 use Rattle.lq_table.proofs.CodeReads.{no_info, owner_read, rank_read}
 use Rattle.lq_table.proofs.shared.Shared.give_turn.Answers.Kept.{gives_turn}
 use Rattle.lq_log.specs.Made.{seen, becomes, store}
+use Rattle.lq_table.proofs.StepFacts.{makes_one}
+use Rattle.lq_table.specs.Views.{Setup}
 use Rattle.lq_table.proofs.shared.Shared.give_turn.Goals as goal
 
 pub store_word-requires : goal.store_word-requires
@@ -36,4 +38,8 @@ returns g c =
       same = ((e.0, e.1), refl, refl, ap (λ (m : Sat). m.1) e.2.told);
       given = ap (λ (m : Sat). m.0) e.2.told ∙ (λ j. give_turn_view (owner j) (rank j) (view c.args.cpu.now));
       made = e.2.noted ∙ (λ j. store (word j) (2 * rank j + 2) ∷ steps c.args.cpu.now);
+      makes =
+          let old = c.args.cpu.now in let k = sym (ap (λ (x : Setup). x.infos) c.requires.seat.2) in let o = owner ∙ ap (λ (xs : List Info). owner_in xs n) k in let r = rank ∙ ap (λ (xs : List Info). rank_in xs n) k in
+          makes_one _ _ _ (e.0, e.1) refl refl (e.2.told ∙ (λ j. (give_turn_view (o j) (r j) (view old), old.known.seat.me.1)))
+          (e.2.noted ∙ (λ j. store ((c.turn_word-word.ensures ∙ ap turn_place o) j) (2 * r j + 2) ∷ steps old)) tt;
     }

@@ -1,6 +1,6 @@
 mod Kept
 mod Marks
-use Rattle.std.proofs.Common.{rules, ◌≡◌, ℕ, ◌∷◌, ◌<◌, ◌≤◌, arith, sym, ap, ◌∙◌, subst, length, List}
+use Rattle.std.proofs.Common.{rules, ◌≡◌, ℕ, ◌∷◌, ◌<◌, ◌≤◌, arith, sym, ap, ◌∙◌, subst, length, List, refl, ◌-◌, eqb, eq-eqb, eqb-true, true≢false}
 use mathlib.Core.Option.{none}
 use Rattle.lq_model.specs.declared.fate.Info.{Info}
 use Rattle.atomic_table.specs.Table.{step, Allows}
@@ -9,11 +9,13 @@ use Rattle.lq_table.specs.Keyed.{keyed_setup}
 use Rattle.lq_table.proofs.ByName.{slot_within}
 use Rattle.lq_table.proofs.shared.Shared.head_slot.Answers.Marks.{head_marks}
 use Rattle.lq_table.proofs.shared.Shared.head_slot.Answers.Kept.{sees_head_sole}
-use Rattle.lq_log.specs.Made.{seen}
+use Rattle.lq_log.specs.Made.{seen, load}
 use Rattle.lq_table.specs.Producers.{load_slot_log}
-use Rattle.lq_table.specs.Sees.{setup, steps, ends_at}
+use Rattle.lq_table.specs.Sees.{setup, steps, ends_at, view}
 use Rattle.lq_table.proofs.shared.Shared.head_slot.Invariants.{head_slot_told_all}
 use Rattle.lq_table.proofs.CodeReads.{head_read}
+use Rattle.lq_table.proofs.StepFacts.{makes_one, slot_of_seat, decided}
+use Rattle.lq_table.specs.Consumers.{head_slot_view, head_slot_view_empty}
 use Rattle.lq_table.proofs.shared.Shared.head_slot.Goals as goal
 
 pub load_word-requires : goal.load_word-requires
@@ -44,3 +46,10 @@ returns-clause-made g c =
     let head = head_read old.station c.station.result.now c.args.band c.head-head.result (ends_at c.args.band old).head c.station.ensures c.head-head.ensures c.requires.station.1 in
     let made : c.load_word.new.seat.me.0.steps ≡ load_slot_log (setup t) c.args.band c.head-head.result found ∷ steps old = search rules in
     made ∙ ap (λ (i : ℕ). load_slot_log (setup t) c.args.band i found ∷ steps old) head
+
+pub returns-clause-makes : goal.returns-clause-makes
+returns-clause-makes g c =
+    let e = c.load_word.ensures in let x = c.load_word in let old = c.args.cpu.now in let b = c.args.band in let v = view old in
+    let to = decided (eqb x.result 0) (seen x.new.seat.me) (head_slot_view_empty b v) (head_slot_view b (x.result - 1) v) old.known.seat.me.1 (λ y. e.2.told.0.0 (eqb-true x.result 0 y)) (λ n. e.2.told.0.1 (λ y. true≢false (sym (eq-eqb x.result 0 y) ∙ n))) in
+    let head = head_read old.station c.station.result.now b c.head-head.result (ends_at b old).head c.station.ensures c.head-head.ensures c.requires.station.1 in
+    makes_one _ _ _ (e.0, e.1) refl refl to (e.2.noted ∙ (λ j. load (slot_of_seat c.args.self.now c.args.cpu.now c.requires.seat c.args.band c.head-head.result (ends_at b old).head _ c.slot_word-word.ensures head j) x.result ∷ steps c.args.cpu.now)) (e.2.told.0.2, e.2.told.1.0, e.2.told.1.1)

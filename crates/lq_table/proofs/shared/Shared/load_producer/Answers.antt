@@ -1,5 +1,5 @@
 mod Kept
-use Rattle.std.proofs.Common.{sym, ◌≡◌, ℕ, ◌<◌, arith, subst}
+use Rattle.std.proofs.Common.{sym, ◌≡◌, ℕ, ◌<◌, arith, subst, refl, ◌∷◌, ◌∙◌}
 use mathlib.Core.Option.{none}
 use Rattle.atomic_table.specs.Table.{step, Allows}
 use Rattle.lq_table.specs.Places.{producer_place}
@@ -7,7 +7,9 @@ use Rattle.lq_table.specs.Rule.{Rule}
 use Rattle.lq_table.specs.Keyed.{keyed_setup}
 use Rattle.lq_table.proofs.shared.Shared.load_producer.Invariants.{load_producer_told}
 use Rattle.lq_table.proofs.shared.Shared.load_producer.Answers.Kept.{loads_producer}
-use Rattle.lq_log.specs.Made.{seen}
+use Rattle.lq_log.specs.Made.{seen, load}
+use Rattle.lq_table.proofs.StepFacts.{makes_one}
+use Rattle.lq_table.specs.Sees.{steps}
 use Rattle.lq_table.proofs.shared.Shared.load_producer.Goals as goal
 
 pub load_word-requires : goal.load_word-requires
@@ -23,3 +25,7 @@ load_word-requires g c = (
             (loads_producer k slots seat.id (seen seat.me) b c.requires.band c.requires.seat.1),
       )),
 )
+
+pub returns-clause-makes : goal.returns-clause-makes
+returns-clause-makes g c =
+    let e = c.load_word.ensures in makes_one _ _ _ (e.0, e.1) refl refl e.2.told.0 (e.2.noted ∙ (λ j. load (c.producer_word-word.ensures j) c.load_word.result ∷ steps c.args.cpu.now)) e.2.told.1

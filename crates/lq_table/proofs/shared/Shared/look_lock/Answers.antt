@@ -1,5 +1,6 @@
 mod Alone
 mod Kept
+mod Makes
 use Rattle.std.proofs.Common.{◌≡◌, ℕ, ◌∷◌, arith, false, not, eqb, refl, sym, ap, ◌∙◌}
 use mathlib.Core.Option.{none}
 use Rattle.atomic_table.specs.Table.{step}
@@ -10,6 +11,9 @@ use Rattle.lq_table.specs.Sees.{steps}
 use Rattle.lq_table.specs.Moves.{Sat}
 use Rattle.lq_table.proofs.shared.Shared.look_lock.Answers.Alone.{look_solo, look_marks, look_slots, is_free, is_held}
 use Rattle.lq_table.proofs.shared.Shared.look_lock.Answers.Kept.{looks_lock}
+use Rattle.lq_table.proofs.shared.Shared.look_lock.Answers.Makes.{look_becomes, look_tells}
+use Rattle.lq_table.specs.Step.{standing}
+use Rattle.lq_table.proofs.StepFacts.{makes_one}
 use Rattle.lq_table.proofs.shared.Shared.look_lock.Goals as goal
 
 pub load_word-requires : goal.load_word-requires
@@ -30,4 +34,5 @@ returns g c =
       held = λ is. let n = is_held x.result is in (ap (λ (m : Sat). m.0) (t.0.1 n), (x.result, n, e.2.noted));
       free = λ no_. (ap (λ (m : Sat). m.0) (t.0.0 (free no_)), e.2.noted ∙ ap (λ (n : ℕ). load_lock_log n ∷ steps old) (free no_));
       sole = λ sole. look_solo s x.result (seen old.known.seat.me) (seen x.new.seat.me) c.requires.at t.0 (t.1 sole);
+      makes = (x.result, refl, makes_one _ _ _ (e.0, e.1) refl refl (look_becomes s x.result (seen old.known.seat.me) (seen x.new.seat.me) t.0) e.2.noted (look_tells x.result (standing old) c.requires.at t.1));
     }

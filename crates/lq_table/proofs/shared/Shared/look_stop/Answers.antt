@@ -1,5 +1,5 @@
 mod Kept
-use Rattle.std.proofs.Common.{◌≡◌, ℕ, ◌<◌, arith, sym, ap, subst}
+use Rattle.std.proofs.Common.{◌≡◌, ℕ, ◌<◌, arith, sym, ap, subst, refl, ◌∷◌, ◌∙◌}
 use Rattle.atomic_table.specs.Table.{step, Allows}
 use Rattle.lq_table.specs.Rule.{Rule}
 use Rattle.lq_table.specs.Keyed.{keyed_setup}
@@ -7,7 +7,11 @@ use Rattle.lq_table.proofs.shared.Shared.look_stop.Invariants.{look_stop_told_al
 use Rattle.lq_table.proofs.shared.Shared.look_stop.Answers.Kept.{looks_stop_sole}
 use Rattle.lq_table.proofs.ByName.{xoff_in}
 use mathlib.Core.Option.{none}
-use Rattle.lq_log.specs.Made.{seen}
+use Rattle.lq_log.specs.Made.{seen, load}
+use Rattle.lq_table.proofs.StepFacts.{makes_one}
+use Rattle.lq_table.specs.Places.{xoff_word}
+use Rattle.lq_table.specs.Views.{Setup}
+use Rattle.lq_table.specs.Sees.{steps}
 use Rattle.lq_table.proofs.shared.Shared.look_stop.Goals as goal
 
 pub load_word-requires : goal.load_word-requires
@@ -22,3 +26,7 @@ load_word-requires g c = (
             (looks_stop_sole k slots seat.id (seen seat.me) c.args.queue c.requires.at c.requires.seat.1),
       )),
 )
+
+pub returns-clause-makes : goal.returns-clause-makes
+returns-clause-makes g c =
+    let e = c.load_word.ensures in (c.load_word.result, refl, makes_one _ _ _ (e.0, e.1) refl refl e.2.told.0 (e.2.noted ∙ (λ j. load ((c.stop_word-word.ensures.named ∙ ap (λ (k : Setup). xoff_word k c.args.queue) (sym c.requires.seat.2)) j) c.load_word.result ∷ steps c.args.cpu.now)) e.2.told.1)

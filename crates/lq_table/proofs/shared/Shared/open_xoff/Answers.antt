@@ -1,5 +1,5 @@
 mod Kept
-use Rattle.std.proofs.Common.{ℕ, ◌<◌, arith, sym, ap, subst}
+use Rattle.std.proofs.Common.{ℕ, ◌<◌, arith, sym, ap, subst, refl, ◌∷◌, ◌∙◌}
 use mathlib.Core.Option.{none}
 use Rattle.atomic_table.specs.Table.{step, Allows}
 use Rattle.lq_table.specs.Rule.{Rule}
@@ -7,7 +7,11 @@ use Rattle.lq_table.specs.Keyed.{keyed_setup}
 use Rattle.lq_table.specs.Controls.{open_xoff_view}
 use Rattle.lq_table.proofs.ByName.{xoff_in}
 use Rattle.lq_table.proofs.shared.Shared.open_xoff.Answers.Kept.{opens_next}
-use Rattle.lq_log.specs.Made.{seen, becomes}
+use Rattle.lq_log.specs.Made.{seen, becomes, store}
+use Rattle.lq_table.proofs.StepFacts.{makes_one}
+use Rattle.lq_table.specs.Places.{xoff_word}
+use Rattle.lq_table.specs.Views.{Setup}
+use Rattle.lq_table.specs.Sees.{steps}
 use Rattle.lq_table.proofs.shared.Shared.open_xoff.Goals as goal
 
 pub store_word-requires : goal.store_word-requires
@@ -22,3 +26,7 @@ store_word-requires g c = (
             (opens_next k slots seat.id c.args.queue (seen seat.me) below at.1 at.0 p.0 p.1 c.requires.seat.1),
       )),
 )
+
+pub returns-clause-makes : goal.returns-clause-makes
+returns-clause-makes g c =
+    let e = c.store_word.ensures in makes_one _ _ _ (e.0, e.1) refl refl e.2.told (e.2.noted ∙ (λ j. store ((c.stop_word-word.ensures.named ∙ ap (λ (k : Setup). xoff_word k c.args.queue) (sym c.requires.seat.2)) j) 0 ∷ steps c.args.cpu.now)) tt

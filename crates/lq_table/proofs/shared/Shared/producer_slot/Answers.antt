@@ -1,6 +1,6 @@
 mod Kept
 mod Sole
-use Rattle.std.proofs.Common.{◌≡◌, ℕ, ◌<◌, ◌≤◌, arith, sym, ap, ◌∙◌, subst, length, List, Option}
+use Rattle.std.proofs.Common.{◌≡◌, ℕ, ◌<◌, ◌≤◌, arith, sym, ap, ◌∙◌, subst, length, List, Option, refl, ◌∷◌, ◌-◌, eqb, eq-eqb, eqb-true, true≢false}
 use mathlib.Core.Option.{none}
 use Rattle.std.specs.Option.{unwrap_or}
 use Rattle.lq_model.specs.declared.fate.Info.{Info}
@@ -14,7 +14,12 @@ use Rattle.lq_table.specs.Keyed.{keyed_setup}
 use Rattle.lq_table.proofs.shared.Shared.producer_slot.Invariants.{producer_slot_told_all}
 use Rattle.lq_table.proofs.ByName.{slot_within}
 use Rattle.lq_table.proofs.shared.Shared.producer_slot.Answers.Sole.{sees_slot_sole}
-use Rattle.lq_log.specs.Made.{seen}
+use Rattle.lq_log.specs.Made.{seen, load}
+use Rattle.lq_table.proofs.StepFacts.{makes_one, slot_of_seat, decided}
+use Rattle.lq_table.specs.Sees.{steps, view, lock_at}
+use Rattle.lq_band_laws.specs.Ring.{with_room}
+use Rattle.lq_table.specs.Producers.{producer_slot_view_full, with_lock_at}
+use Rattle.lq_table.specs.Step.{brought_packet}
 use Rattle.lq_table.proofs.shared.Shared.producer_slot.Goals as goal
 
 pub load_word-requires : goal.load_word-requires
@@ -37,3 +42,10 @@ load_word-requires g c = (
             (sees_slot_sole k slots seat.id (seen seat.me) b i n p.1 c.requires.band inside position lock.0.0 lock.1 is p.3.0 p.4 of_band c.requires.seat.1 few lock.0.3),
       )),
 )
+
+pub returns-clause-makes : goal.returns-clause-makes
+returns-clause-makes g c =
+    let e = c.load_word.ensures in let x = c.load_word in let old = c.args.cpu.now in let b = c.args.band in let v = view old in
+    let to = decided (eqb x.result 0) (seen x.new.seat.me) (with_lock_at b (with_room (at b v.locks)) v) (producer_slot_view_full (brought_packet v) (x.result - 1) v) old.known.seat.me.1 (λ y. e.2.told.0.0 (eqb-true x.result 0 y)) (λ n. e.2.told.0.1 (λ y. true≢false (sym (eq-eqb x.result 0 y) ∙ n))) in
+    let is = c.at-index.ensures ∙ sym c.requires.lock.0.1 in
+    makes_one _ _ _ (e.0, e.1) refl refl to (e.2.noted ∙ (λ j. load (slot_of_seat c.args.self.now c.args.cpu.now c.requires.seat c.args.band c.at-index.result (lock_at c.args.band c.args.cpu.now).index _ c.slot_word-word.ensures is j) x.result ∷ steps c.args.cpu.now)) (e.2.told.0.2, e.2.told.1)

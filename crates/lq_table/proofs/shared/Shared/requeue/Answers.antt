@@ -1,6 +1,8 @@
 mod Kept
-use Rattle.std.proofs.Common.{arith}
+use Rattle.std.proofs.Common.{arith, refl}
 use Rattle.lq_table.proofs.shared.Shared.requeue.Answers.Kept.{requeues}
+use Rattle.lq_table.proofs.StepFacts.{makes_one}
+use Rattle.lq_table.specs.Moves.{is_set}
 use Rattle.lq_table.proofs.shared.Shared.requeue.Goals as goal
 
 pub fetch_or_word-requires : goal.fetch_or_word-requires
@@ -9,3 +11,7 @@ fetch_or_word-requires g c = (
   (let at = c.requires.at in
       (c.requires.seat.0, (let wide = c.args.self.now.sized.0 in omega arith), requeues _ _ _ at.0 _ _ at.1 at.2 at.4 at.5 at.6 c.requires.seat.1)),
 )
+
+pub returns-clause-makes : goal.returns-clause-makes
+returns-clause-makes g c =
+    let e = c.fetch_or_word.ensures in (is_set 4 c.fetch_or_word.result, makes_one _ _ _ (e.0, e.1) refl refl e.2.told e.2.noted refl)

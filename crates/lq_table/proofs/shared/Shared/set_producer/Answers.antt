@@ -1,14 +1,16 @@
 mod Kept
-use Rattle.std.proofs.Common.{sym, ◌≡◌, ℕ, ◌+◌, ◌*◌, ◌<◌, arith, subst}
+use Rattle.std.proofs.Common.{sym, ◌≡◌, ℕ, ◌+◌, ◌*◌, ◌<◌, arith, subst, refl, ◌∷◌, ◌∙◌}
 use mathlib.Core.Option.{none}
 use Rattle.atomic_table.specs.Table.{step, Allows}
 use Rattle.lq_table.specs.Places.{producer_place}
 use Rattle.lq_table.specs.Rule.{Rule}
 use Rattle.lq_table.specs.Keyed.{keyed_setup}
 use Rattle.lq_table.proofs.shared.Shared.set_producer.Answers.Kept.{sets_producer}
-use Rattle.lq_log.specs.Made.{seen, becomes}
+use Rattle.lq_log.specs.Made.{seen, becomes, store}
 use Rattle.lq_band_laws.specs.Ring.{locked_at}
 use Rattle.lq_table.specs.Producers.{with_lock_at}
+use Rattle.lq_table.proofs.StepFacts.{makes_one}
+use Rattle.lq_table.specs.Sees.{steps}
 use Rattle.lq_table.proofs.shared.Shared.set_producer.Goals as goal
 
 pub store_word-requires : goal.store_word-requires
@@ -24,3 +26,7 @@ store_word-requires g c = (
             (sets_producer k slots seat.id (seen seat.me) b i h.1.0 c.requires.band h.0 h.1.1 h.2 c.requires.seat.1),
       )),
 )
+
+pub returns-clause-makes : goal.returns-clause-makes
+returns-clause-makes g c =
+    let e = c.store_word.ensures in makes_one _ _ _ (e.0, e.1) refl refl e.2.told (e.2.noted ∙ (λ j. store (c.producer_word-word.ensures j) (2 * c.args.index + 1) ∷ steps c.args.cpu.now)) tt

@@ -1,5 +1,5 @@
 mod Kept
-use Rattle.std.proofs.Common.{ℕ, ◌<◌, arith, sym, ap, subst, Option}
+use Rattle.std.proofs.Common.{ℕ, ◌<◌, arith, sym, ap, subst, Option, refl}
 use mathlib.Core.Option.{none}
 use Rattle.atomic_table.specs.Table.{step, Allows}
 use Rattle.lq_table.specs.Places.{size_place}
@@ -10,6 +10,7 @@ use Rattle.lq_table.specs.Views.{HalfResize, no_resizing}
 use Rattle.lq_table.specs.Resizes.{store_size_view}
 use Rattle.lq_table.proofs.shared.Shared.store_size.Answers.Kept.{stores_size}
 use Rattle.lq_log.specs.Made.{seen, becomes}
+use Rattle.lq_table.proofs.StepFacts.{makes_one}
 use Rattle.lq_table.proofs.shared.Shared.store_size.Goals as goal
 
 pub store_word-requires : goal.store_word-requires
@@ -24,3 +25,7 @@ store_word-requires g c = (
             (stores_size k slots seat.id (seen seat.me) r.0 h r.1 c.requires.seat.1 r.3),
       )),
 )
+
+pub returns-clause-makes : goal.returns-clause-makes
+returns-clause-makes g c =
+    let e = c.store_word.ensures in makes_one _ _ _ (e.0, e.1) refl refl e.2.told e.2.noted tt

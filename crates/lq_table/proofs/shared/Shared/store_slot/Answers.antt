@@ -1,5 +1,5 @@
 mod Kept
-use Rattle.std.proofs.Common.{◌≡◌, ℕ, ◌+◌, ◌<◌, arith, sym, ap, ◌∙◌, subst, List}
+use Rattle.std.proofs.Common.{◌≡◌, ℕ, ◌+◌, ◌<◌, arith, sym, ap, ◌∙◌, subst, List, refl, ◌∷◌}
 use mathlib.Core.Option.{none}
 use Rattle.lq_model.specs.declared.fate.Info.{Info}
 use Rattle.lq_model.specs.declared.machine.Position.TheVariants.{Put}
@@ -12,7 +12,9 @@ use Rattle.lq_table.specs.Keyed.{keyed_setup}
 use Rattle.lq_table.proofs.ByName.{slot_within}
 use Rattle.lq_table.specs.Producers.{store_slot_view}
 use Rattle.lq_table.proofs.shared.Shared.store_slot.Answers.Kept.{stores_slot}
-use Rattle.lq_log.specs.Made.{seen, becomes}
+use Rattle.lq_log.specs.Made.{seen, becomes, store}
+use Rattle.lq_table.proofs.StepFacts.{makes_one, slot_of_seat}
+use Rattle.lq_table.specs.Sees.{steps, lock_at}
 use Rattle.lq_table.proofs.shared.Shared.store_slot.Goals as goal
 
 pub store_word-requires : goal.store_word-requires
@@ -33,3 +35,7 @@ store_word-requires g c = (
             (stores_slot k slots seat.id (seen seat.me) b i n where_.0 c.requires.band inside position lock.0.0 lock.1 lock.2 is c.requires.packet.0 of_band c.requires.seat.1 lock.0.3),
       )),
 )
+
+pub returns-clause-makes : goal.returns-clause-makes
+returns-clause-makes g c =
+    let e = c.store_word.ensures in let is = c.at-index.ensures ∙ sym c.requires.lock.0.1 in makes_one _ _ _ (e.0, e.1) refl refl e.2.told (e.2.noted ∙ (λ j. store (slot_of_seat c.args.self.now c.args.cpu.now c.requires.seat c.args.band c.at-index.result (lock_at c.args.band c.args.cpu.now).index _ c.slot_word-word.ensures is j) (c.args.n + 1) ∷ steps c.args.cpu.now)) tt

@@ -1,17 +1,20 @@
 mod Alone
 mod Kept
-use Rattle.std.proofs.Common.{ℕ, ◌<◌, arith, sym, ap, ◌∙◌, subst}
+use Rattle.std.proofs.Common.{ℕ, ◌<◌, arith, sym, ap, ◌∙◌, subst, refl, ◌∷◌}
 use mathlib.Core.Option.{none}
 use Rattle.atomic_table.specs.Table.{step, Allows}
 use Rattle.lq_table.specs.Rule.{Rule}
 use Rattle.lq_table.specs.Keyed.{keyed_setup}
 use Rattle.lq_model.specs.Account.{Stop}
 use Rattle.lq_table.specs.Stops.{store_xoff_view}
-use Rattle.lq_table.specs.Sees.{solo, heard}
+use Rattle.lq_table.specs.Sees.{solo, heard, steps}
 use Rattle.lq_table.proofs.shared.Shared.store_xoff.Answers.Alone.{stores_solo}
 use Rattle.lq_table.proofs.ByName.{xoff_in}
 use Rattle.lq_table.proofs.shared.Shared.store_xoff.Answers.Kept.{stores_xoff}
-use Rattle.lq_log.specs.Made.{seen, becomes}
+use Rattle.lq_log.specs.Made.{seen, becomes, store}
+use Rattle.lq_table.proofs.StepFacts.{makes_one}
+use Rattle.lq_table.specs.Places.{xoff_word}
+use Rattle.lq_table.specs.Views.{Setup}
 use Rattle.lq_table.proofs.shared.Shared.store_xoff.Goals as goal
 
 pub store_word-requires : goal.store_word-requires
@@ -29,3 +32,7 @@ store_word-requires g c = (
 
 pub returns-clause-step : goal.returns-clause-step
 returns-clause-step g c = let at = c.requires.at in ap (λ m. solo m.0) c.store_word.ensures.2.told ∙ (stores_solo c.args.cpu.now.known.seat.me.0.view c.args.queue at.0 at.1 at.2 ∙ ap (λ (x : ℕ). heard (Stop c.args.queue x) (solo c.args.cpu.now.known.seat.me.0.view)) (sym at.3))
+
+pub returns-clause-makes : goal.returns-clause-makes
+returns-clause-makes g c =
+    let e = c.store_word.ensures in let at = c.requires.at in makes_one _ _ _ (e.0, e.1) refl refl e.2.told (e.2.noted ∙ (λ j. store ((c.stop_word-word.ensures.named ∙ ap (λ (k : Setup). xoff_word k c.args.queue) (sym c.requires.seat.2)) j) c.args.v ∷ steps c.args.cpu.now)) (stores_solo c.args.cpu.now.known.seat.me.0.view c.args.queue at.0 at.1 at.2 ∙ ap (λ (x : ℕ). heard (Stop c.args.queue x) (solo c.args.cpu.now.known.seat.me.0.view)) (sym at.3))

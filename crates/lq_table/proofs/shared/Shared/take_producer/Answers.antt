@@ -16,6 +16,8 @@ use Rattle.lq_log.specs.Made.{seen, exchange}
 use Rattle.lq_table.specs.Sees.{view, steps, IsSole}
 use Rattle.lq_table.proofs.shared.Shared.take_producer.Invariants.{take_producer_told_all}
 use Rattle.std.proofs.lemmas.Bool.{false≢true}
+use Rattle.lq_table.proofs.StepFacts.{makes_one}
+use Rattle.lq_table.specs.Views.{Setup}
 use Rattle.lq_table.proofs.shared.Shared.take_producer.Goals as goal
 
 twice : (n : ℕ) → n % 2 ≡ 0 → n ≡ 2 * (n / 2)
@@ -45,22 +47,26 @@ pub returns-then-found-seen : goal.returns-then-found-seen
 returns-then-found-seen g c =
     let old = c.args.cpu.now in let v = view old in let b = c.args.band in let seen_ = c.args.seen in
     let x = c.compare_exchange_word-found in let e = x.ensures in let is = c.if-found-seen.true in
-    let got = e.2.told.0.0 (is ∙ twice seen_ c.requires.even) in record {
+    let got = e.2.told.0.0 (is ∙ twice seen_ c.requires.even) in let longest = c.args.self.now.same.2 ∙ sym (ap (λ (k : Setup). k.max_len) c.requires.seat.2) in
+    let made = e.2.noted ∙ (λ j. exchange (c.producer_word-word.ensures j) seen_ (seen_ + 1) (eq-eqb x.result seen_ is j) ∷ steps old) in record {
       seat = ((e.0, e.1), refl, ap (λ (m : Sat). m.1) got.0);
       got = λ _. (ap (λ (m : Sat). m.0) got.0, c.put.ensures, subst (λ (l : ℕ). seen_ / 2 < l) c.args.self.now.same.2 got.1);
       missed = λ no_. absurd (true≢false no_);
       sole = λ sole. sym (eq-eqb seen_ _ (sym is ∙ e.2.told.1 sole c.requires.idle));
-      made = e.2.noted ∙ (λ j. exchange (c.producer_word-word.ensures j) seen_ (seen_ + 1) (eq-eqb x.result seen_ is j) ∷ steps old);
+      made = made;
+      makes = makes_one _ _ _ (e.0, e.1) refl c.put.ensures got.0 made (λ _. subst (λ (l : ℕ). seen_ / 2 < l) longest got.1, λ sole. sym (eq-eqb seen_ _ (sym is ∙ e.2.told.1 sole c.requires.idle)));
     }
 
 pub returns-else-found-seen : goal.returns-else-found-seen
 returns-else-found-seen g c =
     let old = c.args.cpu.now in let v = view old in let seen_ = c.args.seen in
     let x = c.compare_exchange_word-found in let e = x.ensures in let apart = c.if-found-seen.false in
-    let same = e.2.told.0.1 (λ is. apart (is ∙ sym (twice seen_ c.requires.even))) in record {
+    let same = e.2.told.0.1 (λ is. apart (is ∙ sym (twice seen_ c.requires.even))) in
+    let made = e.2.noted ∙ (λ j. exchange (c.producer_word-word.ensures j) seen_ (seen_ + 1) (ne_eqb x.result seen_ apart j) ∷ steps old) in record {
       seat = ((e.0, e.1), refl, ap (λ (m : Sat). m.1) same);
       got = λ is. absurd (false≢true is);
       missed = λ _. (ap (λ (m : Sat). m.0) same, refl);
       sole = λ (sole : IsSole v). sym (ne_eqb seen_ _ (λ y. apart (e.2.told.1 sole c.requires.idle ∙ sym y)));
-      made = e.2.noted ∙ (λ j. exchange (c.producer_word-word.ensures j) seen_ (seen_ + 1) (ne_eqb x.result seen_ apart j) ∷ steps old);
+      made = made;
+      makes = makes_one _ _ _ (e.0, e.1) refl refl same made (λ yes. absurd (false≢true yes), λ (sole : IsSole v). sym (ne_eqb seen_ _ (λ y. apart (e.2.told.1 sole c.requires.idle ∙ sym y))));
     }

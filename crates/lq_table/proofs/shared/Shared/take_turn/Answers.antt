@@ -15,6 +15,10 @@ use Rattle.lq_table.proofs.shared.Shared.take_turn.Invariants.{take_turn_told}
 use Rattle.lq_table.proofs.CodeReads.{no_info, owner_read, rank_read}
 use Rattle.lq_table.proofs.shared.Shared.take_turn.Answers.Kept.{takes_turn}
 use Rattle.lq_log.specs.Made.{seen, exchange}
+use Rattle.lq_table.proofs.StepFacts.{makes_one}
+use Rattle.lq_table.specs.Views.{Setup}
+use Rattle.lq_table.specs.Step.{due_word}
+use Rattle.std.specs.Prelude.{if◌then◌else◌}
 use Rattle.lq_table.proofs.shared.Shared.take_turn.Goals as goal
 
 pub compare_exchange_word-found-requires : goal.compare_exchange_word-found-requires
@@ -41,6 +45,14 @@ returns-then-found-free g c =
       same = ((e.0, e.1), refl, refl, ap (λ (m : Sat). m.1) (t.1 is));
       turn = (sym (t.0 ∙ ap (slice_index v.turns) owner) ∙ (is ∙ ap (λ (r : ℕ). 2 * r) rank), ap (λ (m : Sat). m.0) (t.1 is) ∙ (λ j. take_turn_view n (owner j) (rank j) v));
       made = e.2.noted ∙ (λ j. exchange (word j) (2 * rank j) (2 * rank j + 1) (eq-eqb _ _ is j) ∷ steps c.args.cpu.now);
+      makes =
+          let old = c.args.cpu.now in let k = sym (ap (λ (x : Setup). x.infos) c.requires.seat.2) in let o = owner ∙ ap (λ (xs : List Info). owner_in xs n) k in let r = rank ∙ ap (λ (xs : List Info). rank_in xs n) k in let x = c.compare_exchange_word-found in
+          let due = is ∙ ap (λ (y : ℕ). 2 * y) r in let found = eq-eqb x.result _ due in (
+            x.result,
+            due,
+            makes_one _ _ _ (e.0, e.1) refl refl (t.1 is ∙ (λ j. (if sym found j then take_turn_view n (o j) (r j) v else v, old.known.seat.me.1)))
+                (e.2.noted ∙ (λ j. exchange ((c.turn_word-word.ensures ∙ ap turn_place o) j) (2 * r j) (2 * r j + 1) ((eq-eqb _ _ is ∙ sym found) j) ∷ steps old)) (t.0 ∙ ap (slice_index v.turns) o),
+          );
     }
 
 pub returns-else-found-free : goal.returns-else-found-free
@@ -50,4 +62,12 @@ returns-else-found-free g c =
       same = ((e.0, e.1), refl, refl, ap (λ (m : Sat). m.1) (t.2 apart));
       turn = (t.0 ∙ ap (slice_index v.turns) owner, λ is. apart (is ∙ ap (λ (r : ℕ). 2 * r) (sym rank)), ap (λ (m : Sat). m.0) (t.2 apart));
       made = e.2.noted ∙ (λ j. exchange (word j) (2 * rank j) (2 * rank j + 1) (ne_eqb _ _ apart j) ∷ steps c.args.cpu.now);
+      makes =
+          let old = c.args.cpu.now in let k = sym (ap (λ (x : Setup). x.infos) c.requires.seat.2) in let o = owner ∙ ap (λ (xs : List Info). owner_in xs n) k in let r = rank ∙ ap (λ (xs : List Info). rank_in xs n) k in let x = c.compare_exchange_word-found in
+          let found = ne_eqb x.result (due_word v n) (λ due. apart (due ∙ ap (λ (y : ℕ). 2 * y) (sym r))) in (
+            x.result,
+            refl,
+            makes_one _ _ _ (e.0, e.1) refl refl (t.2 apart ∙ (λ j. (if sym found j then take_turn_view n (owner_in v.share.about.infos n) (rank_in v.share.about.infos n) v else v, old.known.seat.me.1)))
+                (e.2.noted ∙ (λ j. exchange ((c.turn_word-word.ensures ∙ ap turn_place o) j) (2 * r j) (2 * r j + 1) ((ne_eqb _ _ apart ∙ sym found) j) ∷ steps old)) (t.0 ∙ ap (slice_index v.turns) o),
+          );
     }

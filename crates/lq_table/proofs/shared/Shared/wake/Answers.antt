@@ -1,5 +1,5 @@
 mod Kept
-use Rattle.std.proofs.Common.{◌≡◌, ℕ, ◌<◌, arith, eq-eqb, eqb-true, true≢false, refl, sym, ap, ◌∙◌, subst, eqb}
+use Rattle.std.proofs.Common.{◌≡◌, ℕ, ◌<◌, arith, eq-eqb, eqb-true, true≢false, refl, sym, ap, ◌∙◌, subst, eqb, ◌∷◌}
 use mathlib.Core.Logic.{dite}
 use native.Mathlib.Decide.{ℕ_discrete}
 use Rattle.lq_table.specs.Marks.{marks_of}
@@ -12,7 +12,12 @@ use Rattle.lq_table.proofs.shared.Shared.wake.Invariants.{wake_told_all}
 use Rattle.lq_table.proofs.shared.Shared.wake.Answers.Kept.{wakes_sole}
 use Rattle.lq_table.proofs.ByName.{xoff_in}
 use mathlib.Core.Option.{none}
-use Rattle.lq_log.specs.Made.{seen}
+use Rattle.lq_log.specs.Made.{seen, exchange}
+use Rattle.lq_table.proofs.StepFacts.{makes_one, decided}
+use Rattle.lq_table.specs.Places.{xoff_word}
+use Rattle.lq_table.specs.Views.{Setup}
+use Rattle.lq_table.specs.Sees.{steps, view}
+use Rattle.lq_table.specs.Stops.{wake_view}
 use Rattle.lq_table.proofs.shared.Shared.wake.Goals as goal
 
 pub compare_exchange_word-found-requires : goal.compare_exchange_word-found-requires
@@ -51,3 +56,9 @@ returns-clause-still g c = λ no_.
 
 pub returns-clause-sole : goal.returns-clause-sole
 returns-clause-sole g c = λ sole. ap (λ (n : ℕ). eqb n 1) (c.compare_exchange_word-found.ensures.2.told.1 sole)
+
+pub returns-clause-makes : goal.returns-clause-makes
+returns-clause-makes g c =
+    let e = c.compare_exchange_word-found.ensures in let x = c.compare_exchange_word-found in let old = c.args.cpu.now in let v = view old in
+    let to = decided (eqb x.result 1) (seen x.new.seat.me) (wake_view c.args.queue v) (v) old.known.seat.me.1 (λ y. e.2.told.0.0 (eqb-true x.result 1 y)) (λ n. e.2.told.0.1 (λ y. true≢false (sym (eq-eqb x.result 1 y) ∙ n))) in
+    makes_one _ _ _ (e.0, e.1) refl refl to (e.2.noted ∙ (λ j. exchange ((c.stop_word-word.ensures.named ∙ ap (λ (k : Setup). xoff_word k c.args.queue) (sym c.requires.seat.2)) j) 1 0 (eqb x.result 1) ∷ steps old)) (λ sole. ap (λ (n : ℕ). eqb n 1) (e.2.told.1 sole))

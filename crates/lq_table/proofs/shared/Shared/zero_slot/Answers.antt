@@ -1,5 +1,5 @@
 mod Kept
-use Rattle.std.proofs.Common.{sym, ◌≡◌, ℕ, ◌<◌, arith, subst}
+use Rattle.std.proofs.Common.{sym, ◌≡◌, ℕ, ◌<◌, arith, subst, refl, ◌∷◌, ◌∙◌}
 use mathlib.Core.Option.{none}
 use Rattle.atomic_table.specs.Table.{step, Allows}
 use Rattle.lq_table.specs.Rule.{Rule, slot_word}
@@ -7,7 +7,9 @@ use Rattle.lq_table.specs.Keyed.{keyed_setup}
 use Rattle.lq_table.proofs.ByName.{slot_within}
 use Rattle.lq_table.specs.Consumers.{zero_slot_view}
 use Rattle.lq_table.proofs.shared.Shared.zero_slot.Answers.Kept.{empties_slot}
-use Rattle.lq_log.specs.Made.{seen, becomes}
+use Rattle.lq_log.specs.Made.{seen, becomes, store}
+use Rattle.lq_table.proofs.StepFacts.{makes_one, slot_of_seat}
+use Rattle.lq_table.specs.Sees.{steps}
 use Rattle.lq_table.proofs.shared.Shared.zero_slot.Goals as goal
 
 pub store_word-requires : goal.store_word-requires
@@ -25,3 +27,7 @@ store_word-requires g c = (
             (empties_slot k slots seat.id (seen seat.me) b i c.requires.band.0 inside h.0 h.1 e.0 e.1 c.requires.seat.1),
       )),
 )
+
+pub returns-clause-makes : goal.returns-clause-makes
+returns-clause-makes g c =
+    let e = c.store_word.ensures in makes_one _ _ _ (e.0, e.1) refl refl e.2.told (e.2.noted ∙ (λ j. store (slot_of_seat c.args.self.now c.args.cpu.now c.requires.seat c.args.band c.args.i c.args.i _ c.slot_word-word.ensures refl j) 0 ∷ steps c.args.cpu.now)) tt

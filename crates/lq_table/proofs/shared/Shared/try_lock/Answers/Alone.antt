@@ -20,7 +20,7 @@ use Rattle.lq_table.proofs.shared.Shared.try_lock.Invariants.{try_lock_told}
 abbrev got_at : Position → HolderPart → View → View
 got_at y d v = if is_control y then try_lock_view_in_control d v else at_lock y (seen_lock (seen_by (record v { holder = d })) false) d v
 
-gets_solo : (y : Position) → try_lock_at y ≡ true → (d : HolderPart) (v : View) → solo (got_at y d v) ≡ locked_to true (solo v)
+pub gets_solo : (y : Position) → try_lock_at y ≡ true → (d : HolderPart) (v : View) → solo (got_at y d v) ≡ locked_to true (solo v)
 gets_solo (at.Try1 a) h d v = solo_at (at.Try1 a) h (seen_lock (seen_by (record v { holder = d })) false) d v (λ e. absurd (false≢true e))
 gets_solo (at.Try2 a) h d v = solo_at (at.Try2 a) h (seen_lock (seen_by (record v { holder = d })) false) d v (λ e. absurd (false≢true e))
 gets_solo (at.Control holds) h d v = refl

@@ -1,4 +1,4 @@
--- What `miss` makes of what a seat knows that has the table alone.
+-- What `miss`, and a look that finds MISSED set, make of what a seat knows that has the table alone.
 use Rattle.std.proofs.Common.{◌≡◌, Bool, true, refl}
 use Rattle.std.proofs.lemmas.Bool.{false≢true}
 use Rattle.lq_model.specs.declared.machine.Position.{Position}
