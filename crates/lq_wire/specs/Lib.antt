@@ -4,3 +4,5 @@ pub mod Wire
 pub mod Wired
 -- the packets that were accepted, told turn by turn
 pub mod Times
+-- the line of three numbers
+pub mod Lines

@@ -5,6 +5,7 @@
 //! that a byte takes 8,000,000 and nothing is rounded.
 #![tactic(auto)]
 
+mod line;
 mod opens;
 mod pass;
 mod times;

@@ -6,13 +6,16 @@ ghost use Rattle.lq_model.specs.declared.plan.StationPlan.{StationPlan as Statio
 ghost use Rattle.lq_card_laws.specs.Laws.{FitsCard};
 ghost use Rattle.lq_wire.specs.Times.{HasGone, IsBeforePacket, lines_left};
 
+use crate::line::push_numbers;
 use crate::pass::{finish, first_time, turn};
 use crate::wired::Wired;
-use itoa::Buffer;
 use lq_model::{Card, Flight, Info};
 use lq_pcap::Frames;
 use lq_plan::Plan;
 use std::alloc::{AllocError, Global};
+
+/// The greatest number of 64 bits.
+const WORD: u128 = 0xffff_ffff_ffff_ffff;
 
 /// A pass over the packets of a plan with a card that tells the packets which the card accepted, in that order.
 #[derive(Drop)]
@@ -85,44 +88,46 @@ impl Times {
         ensures tells { OnOk result ((station : Station) → FitsCard plan.now infos.now station → IsBeforePacket self.old card plan.now (F.packets frames.now) infos.now station n
             → text.new.items ++ lines_left card plan.now (F.packets frames.now) infos.now station (n + 1) ≡ text.old.items ++ lines_left card plan.now (F.packets frames.now) infos.now station n) }
     {
+        let from = self.time.min(WORD) as u64;
         self.go_on(plan, infos, frames, n)?;
-        push_lines(text, card, &self.wired.wire.untold)?;
+        push_lines(text, card, from, &self.wired.wire.untold)?;
         self.wired.tell_all();
         Ok(())
     }
 }
 
-// A line for each of these packets.
-fn push_lines(text: &mut Vec<u8>, card: Card, flights: &[Flight]) -> Result<(), AllocError>
+// A line for each of these packets, none of which was accepted long after a time.
+fn push_lines(
+    text: &mut Vec<u8>,
+    card: Card,
+    from: u64,
+    flights: &[Flight],
+) -> Result<(), AllocError>
     ensures { OnOk result (text.new.items ≡ text.old.items ++ times_text card flights.now) }
 {
     for flight in flights {
-        push_line(text, card, flight)?;
+        push_line(text, card, from, flight)?;
     }
     Ok(())
 }
 
 // The line of a packet.
-fn push_line(text: &mut Vec<u8>, card: Card, flight: &Flight) -> Result<(), AllocError>
+fn push_line(text: &mut Vec<u8>, card: Card, from: u64, flight: &Flight) -> Result<(), AllocError>
     ensures { OnOk result (text.new.items ≡ text.old.items ++ time_line card flight.now) }
 {
-    push_number(text, u128::from(flight.number))?;
-    text.extend_from_slice(b" ")?;
-    push_number(text, nanoseconds(card, flight.accepted))?;
-    text.extend_from_slice(b" ")?;
-    push_number(text, nanoseconds(card, flight.ends))?;
-    text.extend_from_slice(b"\n")
+    let accepted = nanoseconds(card, from, flight.accepted);
+    let ends = nanoseconds(card, from, flight.ends);
+    push_numbers(text, flight.number, accepted, ends)
 }
 
-fn push_number(text: &mut Vec<u8>, number: u128) -> Result<(), AllocError>
-    ensures { OnOk result (text.new.items ≡ text.old.items ++ decimal number) }
-{
-    text.extend_from_slice(Buffer::new().format(number).as_bytes())
-}
-
-// A moment in nanoseconds, rounded down.
-fn nanoseconds(card: Card, moment: u128) -> u128
+// A moment in nanoseconds, rounded down. What lies behind a time that isn't long before it is divided in 64 bits.
+fn nanoseconds(card: Card, from: u64, moment: u128) -> u128
     ensures { result ≡ moment / card.rate_kbit }
 {
-    moment.checked_div(u128::from(card.rate_kbit)).unwrap_or(0)
+    let rate = card.rate_kbit as u64;
+    let start = from as u128 * rate as u128;
+    if rate > 0 && start <= moment && moment - start <= WORD {
+        return from as u128 + ((moment - start) as u64 / rate) as u128;
+    }
+    moment.checked_div(rate as u128).unwrap_or(0)
 }

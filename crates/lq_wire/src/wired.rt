@@ -167,6 +167,24 @@ impl Wired {
         ensures bypass { IfOk result (λ times. self.new.station.bypass ≡ self.old.station.bypass) }
         ensures card { IfOk result (λ times. self.new.wire.card ≡ self.old.wire.card) }
     {
+        if self.may_open() {
+            self.open_more(frames, now)
+        } else {
+            Ok(0)
+        }
+    }
+
+    // The same where it may be opened.
+    fn open_more<F: Frames>(&mut self, frames: &F, now: u128) -> Result<u32, AllocError>
+        requires near { now ≤ latest self.old.wire.accepted }
+        requires few { load self.old ≤ 1000000 }
+        ensures opens { IfOk result (λ times. (infos : List Info) (o : OpenedSoFar) → HaveOneQueue infos → IsWired self.old o.wired
+            → HasOpened (opened_at self.old.wire.card (F.packets frames.now) infos now o) o times self.new) }
+        ensures count { IfOk result (λ times. times + waiting (lone_state self.new.station) ≤ waiting (lone_state self.old.station) + 1) }
+        ensures load { IfOk result (λ times. load self.new ≡ load self.old) }
+        ensures bypass { IfOk result (λ times. self.new.station.bypass ≡ self.old.station.bypass) }
+        ensures card { IfOk result (λ times. self.new.wire.card ≡ self.old.wire.card) }
+    {
         let mut times = 0;
         for turn in 0..self.station.held() + 1 {
             let _ = turn;
@@ -232,6 +250,8 @@ impl Wired {
         ensures bypass { self.new.station.bypass ≡ self.old.station.bypass }
         ensures card { self.new.wire.card ≡ self.old.wire.card }
     {
-        self.wire.untold.clear();
+        if !self.wire.untold.is_empty() {
+            self.wire.untold.clear();
+        }
     }
 }

@@ -3,7 +3,7 @@ use Rattle.lq_model.specs.Wire.{OpenedSoFar, opened_at}
 use Rattle.lq_model.specs.declared.fate.Info.{Info}
 use Rattle.lq_lone.specs.Lone.{HaveOneQueue, lone_state, waiting}
 use Rattle.lq_wire.specs.Wired.{IsWired, OpensOn, load, stop_count}
-use Rattle.lq_wire.proofs.wired.Wired.open_while_room.Given as goal
+use Rattle.lq_wire.proofs.wired.Wired.open_more.Given as goal
 
 -- the openings that are left lead from here to the end
 abbrev pub invariant-loop-turn : goal.invariant-loop-turn

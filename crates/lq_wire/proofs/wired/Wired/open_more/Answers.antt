@@ -5,7 +5,7 @@ use Rattle.lq_model.specs.Wire.{ring_has_room, is_shut, opened_at}
 use Rattle.lq_model.specs.declared.plan.Card.{Card}
 use Rattle.lq_wire.specs.Wired.{StepsTo, stop_count}
 use Rattle.lq_wire.proofs.Openings.{opens-done, opens-first, opens-next, opens-stop}
-use Rattle.lq_wire.proofs.wired.Wired.open_while_room.Goals as goal
+use Rattle.lq_wire.proofs.wired.Wired.open_more.Goals as goal
 
 stops-few : (b : Bool) → cond b 1 0 ≤ 1
 stops-few true = omega arith
