@@ -38,8 +38,12 @@ impl Line {
         requires some { 0 < len }
         ensures { result ≡ is_occupied len (line_band self.now) }
     {
-        let stale = self.taken % len as usize % batch(len) as usize;
-        self.held() + stale == len as usize
+        let (held, batch) = (self.held(), batch(len));
+        if held <= (len - batch) as usize {
+            return false;
+        }
+        let stale = self.taken % len as usize % batch as usize;
+        held + stale == len as usize
     }
 
     pub fn join(&mut self, n: u32) -> Result<(), AllocError>
