@@ -1,12 +1,13 @@
 //! The run lock is tried and released, and what was missed meanwhile is scheduled.
 #![tactic(auto)]
 
-ghost use Rattle.std.specs.Prelude.{◌≡◌, ◌⊎◌, true};
+ghost use Rattle.std.specs.Prelude.{◌≡◌, ◌⊎◌, Bool, true, [], ◌∷◌};
 ghost use Rattle.lq_model.specs.declared.machine.Position.TheVariants.{Try1, Unlock as AtUnlock, Leave as AtLeave, Idle as AtIdle};
 ghost use Rattle.lq_model.specs.declared.machine.Attempt.{Attempt};
 ghost use Rattle.lq_table.specs.Sees.{position, IsSeatOf};
 ghost use Rattle.lq_table.specs.Locks.{try_lock_at};
 ghost use Rattle.lq_table.specs.States.{miss_at, set_sched_at, clear_sched_at};
+ghost use Rattle.lq_table.specs.Step.{MakesSteps, SetSched};
 ghost use Rattle.lq_run.specs.Calls.{released_to, BeginsRun, ClearsSched, MayReleaseRunLock, NotesMissed, ReleasesTo, TriesRunLock};
 ghost use Rattle.lq_run.specs.Runs.{HasNone, MayReleaseActive, SetsSched};
 
@@ -100,6 +101,7 @@ pub fn schedule<'a, D: TxDevice>(shared: &Shared<'a, D>, cpu: &mut Cpu<D>)
     requires seat { IsSeatOf shared.now cpu.old }
     requires at { set_sched_at (position cpu.old) ≡ true }
     ensures sets { SetsSched cpu.old cpu.new }
+    ensures makes { (was : Bool) × MakesSteps (SetSched was ∷ []) cpu.old cpu.new }
 {
     shared.set_sched(cpu);
 }

@@ -1,10 +1,13 @@
-use Rattle.std.proofs.Common.{rules, ◌≡◌, true, not, inl, inr, refl, sym, ap, ◌∙◌, subst}
+use Rattle.std.proofs.Common.{rules, ◌≡◌, true, not, [], ◌∷◌, ◌++◌, inl, inr, refl, sym, ap, ◌∙◌, subst}
 use Rattle.std.proofs.lemmas.Bool.{false≢true, true≢false}
 use Rattle.lq_table.specs.Sees.{view, known, Solo, IsAccounts, solo}
 use Rattle.lq_table.specs.Locks.{locked_to}
 use Rattle.lq_table.specs.States.{missed_to}
+use Rattle.lq_table.specs.Step.{MoveStation}
 use Rattle.lq_table.specs.Views.{View, Known}
+use Rattle.lq_run.specs.Steps.{AtOnce, InTheEnd, Missed, MissedBefore}
 use Rattle.lq_run.specs.Tries.{TriesOnce}
+use Rattle.lq_run.proofs.StepsThen.{makes_then}
 use Rattle.lq_run.proofs.TryLemmas.{begins_as_holder, first_got, first_leads, first_locked, kept_touched, missed_leads, missed_touches, second_got, second_leads, second_locked, sole_touched, touches_then}
 use Rattle.lq_run.proofs.begin.Goals as goal
 
@@ -25,6 +28,7 @@ returns-then-try_run_lock g c = record {
   begins =
       let m = c.move_station.ensures in let old = known c.args.cpu.now in let e : known c.move_station.new.cpu ≡ known c.try_run_lock.new.cpu = λ j. record { view = m.seat.1 j; steps = m.made j } in
       inl (refl, subst (λ (k : Known). TriesOnce true old k) (sym e) c.if-try_run_lock.ensures.tries);
+  makes = let t = c.if-try_run_lock.ensures.makes in (t.0 ++ MoveStation ∷ [], AtOnce t.1, makes_then t.2 c.move_station.ensures.makes);
 }
 
 pub returns-then-note_missed : goal.returns-then-note_missed
@@ -41,6 +45,9 @@ returns-then-note_missed g c = record {
       let s = c.try_run_lock.ensures.sole alone in
       (sym c.if-try_run_lock.false ∙ s.1, c.note_missed.ensures.step ∙ ap (λ (x : Solo). missed_to true x) s.0, λ yes. absurd (false≢true yes));
   begins = inr (known c.try_run_lock.new.cpu, c.if-try_run_lock.ensures.tries, inl (refl, c.if-note_missed.ensures.sets));
+  makes =
+      let t = c.if-try_run_lock.ensures.makes in let n = c.if-note_missed.ensures.makes in
+      (t.0 ++ n.0, MissedBefore t.1 n.1, makes_then t.2 n.2);
 }
 
 -- a seat that has the table alone and found the lock held finds it held once more
@@ -71,6 +78,9 @@ returns-then-try_run_lock-2 g c = record {
       let o = c.move_station-then-try_run_lock-2.ensures in let w = known c.note_missed.new.cpu in
       let e : known c.move_station-then-try_run_lock-2.new.cpu ≡ known c.try_run_lock-2.new.cpu = λ j. record { view = o.seat.1 j; steps = o.made j } in
       inr (known c.try_run_lock.new.cpu, c.if-try_run_lock.ensures.tries, inr (w, c.if-note_missed.ensures.sets, subst (λ (k : Known). TriesOnce true w k) (sym e) c.if-try_run_lock-2.ensures.tries));
+  makes =
+      let t = c.if-try_run_lock.ensures.makes in let n = c.if-note_missed.ensures.makes in let u = c.if-try_run_lock-2.ensures.makes in
+      (t.0 ++ n.0 ++ u.0 ++ MoveStation ∷ [], InTheEnd t.1 n.1 u.1, makes_then (makes_then (makes_then t.2 n.2) u.2) c.move_station-then-try_run_lock-2.ensures.makes);
 }
 
 pub returns : goal.returns
@@ -92,4 +102,7 @@ returns g c = record {
       (sym c.if-try_run_lock.false ∙ s.1, again.0 ∙ ap (λ (x : Solo). locked_to true x) (n.step ∙ ap (λ (x : Solo). missed_to true x) s.0), λ yes. absurd (false≢true yes));
   begins =
       inr (known c.try_run_lock.new.cpu, c.if-try_run_lock.ensures.tries, inr (known c.note_missed.new.cpu, c.if-note_missed.ensures.sets, c.if-try_run_lock-2.ensures.tries));
+  makes =
+      let t = c.if-try_run_lock.ensures.makes in let n = c.if-note_missed.ensures.makes in let u = c.if-try_run_lock-2.ensures.makes in
+      (t.0 ++ n.0 ++ u.0, Missed t.1 n.1 u.1, makes_then (makes_then t.2 n.2) u.2);
 }
