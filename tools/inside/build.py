@@ -3,6 +3,8 @@ import hashlib
 import subprocess
 from pathlib import Path
 
+from lib.words import Failed
+
 from . import extract
 
 HERE = Path(__file__).resolve().parent
@@ -18,15 +20,16 @@ OF_VERSIONS = {
 }  # fmt: skip
 
 
-class NotCompiled(Exception):
-    """A text that the compiler refuses; the text has the compiler's first lines."""
+def files(worlds=("path", "tap")):
+    """The files of a tree from which something is cut."""
+    return sorted({file for world in worlds for file in extract.read_names(HERE / f"{world}.names").files})
 
 
 def compile_with(words):
-    done = subprocess.run([str(it) for it in words], capture_output=True, text=True, check=False)
+    done = subprocess.run(list(map(str, words)), capture_output=True, text=True, check=False)
     if done.returncode:
         errors = [line for line in done.stderr.splitlines() if "error" in line or "undefined reference" in line] or done.stderr.splitlines()
-        raise NotCompiled("\n".join(errors[:8]))
+        raise Failed("\n".join(["the text isn't compiled; a kernel of another version may need more in tools/inside/stub.h", *errors[:8]]), 3)
 
 
 def checksum(*texts):

@@ -15,7 +15,7 @@ class Break(NamedTuple):
 
 
 def _break(name, values, is_found, *changes):
-    return Break(name, tuple(Change(*it) for it in changes), values, is_found)
+    return Break(name, tuple(Change(*change) for change in changes), values, is_found)
 
 
 _CLEAR_BOTH = r"clear_bit\(__QDISC_STATE_MISSED, &qdisc->state\);\s*clear_bit\(__QDISC_STATE_DRAINING, &qdisc->state\);"
@@ -87,8 +87,9 @@ def _without(text, change, values, added=False, models=("x86", "weak")):
     return Order(text, changes, tuple((model, values) for model in models))
 
 
+WHOLE = "the whole text"
 ORDERS = [
-    Order("the whole text", (), tuple((model, values) for model in ("x86", "weak") for values in IN_MODELS)),
+    Order(WHOLE, (), tuple((model, values) for model in ("x86", "weak") for values in IN_MODELS)),
     Order("with a barrier behind clear_bit(SCHED) of net_tx_action", (ADDED,), (("weak", BUSY_ONLY), ("weak", {"busy": 1}), ("weak", STOP_ONLY))),
     _without("without smp_mb of qdisc_run_end", ("qdisc_run_end", r"smp_mb\(\);", ";"), NO_BYPASS),
     Order("smp_mb of qdisc_run_end before the unlock", (Change("qdisc_run_end", r"smp_mb\(\);", ";"), Change("qdisc_run_end", r"spin_unlock\(&", "smp_mb(); spin_unlock(&")), (("x86", NO_BYPASS), ("weak", NO_BYPASS))),

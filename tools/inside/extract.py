@@ -3,11 +3,24 @@ import re
 from pathlib import Path
 from typing import NamedTuple
 
-KINDS = ("macro", "type", "variable", "function")
+from lib.words import Failed
+
+# of each kind of definition the pattern with which it begins, behind whose last brace it ends, but for a macro, which is found whole
+PATTERNS = {
+    "macro": r"^#define[ \t]+{name}\b(?:[^\n]*\\\n)*[^\n]*\n",
+    "type": r"^(?:struct|enum|union)\s+{name}\s*\{{",
+    "variable": r"^[A-Za-z_][^;{{}}()#\n]*\b{name}\b[^;{{}}()]*=\s*\{{",
+    "function": r"^[A-Za-z_][^;{{}}()#]*(?<!\w){name}\s*\([^;{{}}#]*\)\s*\{{",
+}
+# what is left out: a call, and what it comes to
+LEFT_OUT = {"nothing": "((void)0)", "zero": "0"}
 
 
-class Refused(Exception):
+class Refused(Failed):
     """A tree, a change or a list of names that can't be used; the text says why."""
+
+    def __init__(self, line):
+        super().__init__(line, 3)
 
 
 class Wanted(NamedTuple):
@@ -43,52 +56,49 @@ class Source(NamedTuple):
     bare: str
 
 
+class Names(NamedTuple):
+    """The files of a tree, what is cut out of them, and the macros of what is left out."""
+
+    files: list
+    wanted: list
+    left_out: list
+
+
 def read_names(file):
-    """The files of a tree, and what is cut out of them."""
-    files, wanted = [], []
+    found = Names([], [], [])
     for row in Path(file).read_text(encoding="utf-8").splitlines():
-        words = row.split()
-        if not words or words[0].startswith("#"):
-            continue
-        if words[0] == "file":
-            files.append(words[1])
-        elif words[0] in KINDS and len(words) == 2:
-            wanted.append(Wanted(words[0], words[1].rstrip("?"), words[1].endswith("?")))
-        else:
+        kind, *names = row.split() or "#"
+        if kind == "file":
+            found.files.extend(names)
+        elif kind in PATTERNS:
+            found.wanted.extend(Wanted(kind, name.rstrip("?"), name.endswith("?")) for name in names)
+        elif kind in LEFT_OUT:
+            found.left_out.extend(f"#define {name}(...) {LEFT_OUT[kind]}\n" for name in names)
+        elif not kind.startswith("#"):
             raise Refused(f"{file}: no kind of definition: {row}")
-    return files, wanted
+    return found
 
 
 def blank(text):
     """The text with blanks in place of comments, strings and characters."""
     pattern = r"/\*.*?\*/|//[^\n]*|\"(?:\\.|[^\"\\\n])*\"|'(?:\\.|[^'\\\n])*'"
-    return re.sub(pattern, lambda it: re.sub(r"[^\n]", " ", it.group()), text, flags=re.S)
+    return re.sub(pattern, lambda found: re.sub(r"[^\n]", " ", found.group()), text, flags=re.S)
 
 
 def closing(bare, at):
     """The place behind the brace that closes the one at a place, or None."""
     depth = 0
-    for place in range(at, len(bare)):
-        depth += {"{": 1, "}": -1}.get(bare[place], 0)
+    for brace in re.finditer("[{}]", bare[at:]):
+        depth += 1 if brace.group() == "{" else -1
         if depth == 0:
-            return place + 1
+            return at + brace.end()
     return None
-
-
-def pattern_of(kind, name):
-    word = re.escape(name)
-    return {
-        "macro": rf"^#define[ \t]+{word}\b(?:[^\n]*\\\n)*[^\n]*\n",
-        "type": rf"^(?:struct|enum|union)\s+{word}\s*\{{",
-        "variable": rf"^[A-Za-z_][^;{{}}()#\n]*\b{word}\b[^;{{}}()]*=\s*\{{",
-        "function": rf"^[A-Za-z_][^;{{}}()#]*(?<!\w){word}\s*\([^;{{}}#]*\)\s*\{{",
-    }[kind]
 
 
 def find(wanted, source):
     """Where a definition begins and ends in a file, or None."""
     # a macro's string may have what looks like a comment, and its text is a whole line
-    found = re.search(pattern_of(wanted.kind, wanted.name), source.bare, re.M)
+    found = re.search(PATTERNS[wanted.kind].format(name=re.escape(wanted.name)), source.bare, re.M)
     if not found or wanted.kind == "macro":
         return found and found.span()
     end = closing(source.bare, found.end() - 1)
@@ -113,8 +123,8 @@ def changed_text(wanted, text, changes):
             continue
         try:
             text, count = re.subn(change.regex, change.text, text, flags=re.S)
-        except (re.error, IndexError) as it:
-            raise Refused(f"{wanted.name}: no regular expression: {change.regex}: {it}") from None
+        except (re.error, IndexError) as fault:
+            raise Refused(f"{wanted.name}: no regular expression: {change.regex}: {fault}") from None
         if count != 1:
             raise Refused(f"{wanted.name}: {change.regex} matches {count} times, and not once")
     return text
@@ -122,37 +132,36 @@ def changed_text(wanted, text, changes):
 
 def of_world(names, changes):
     """The changes that name a definition of a list of names."""
-    wanted = {it.name for it in read_names(names)[1]}
-    return tuple(it for it in changes if it.name in wanted)
+    wanted = {definition.name for definition in read_names(names).wanted}
+    return tuple(change for change in changes if change.name in wanted)
 
 
 def places_of(tree, names):
-    """Each definition that is wanted, with the file that has it and where it stands there; the files, and what is missing."""
-    files, wanted = read_names(names)
-    sources = read_tree(tree, files)
-    places = [(it, next(((source, span) for source in sources for span in [find(it, source)] if span), None)) for it in wanted]
-    found = [(it, *place) for it, place in places if place]
-    return found, files, [f"{it.kind} {it.name}" for it, place in places if not place and not it.optional]
+    """Each definition that is wanted, with the file that has it and where it stands there; and what is missing."""
+    sources = read_tree(tree, names.files)
+    places = [(wanted, next(((source, span) for source in sources for span in [find(wanted, source)] if span), None)) for wanted in names.wanted]
+    found = [(wanted, *place) for wanted, place in places if place]
+    return found, [f"{wanted.kind} {wanted.name}" for wanted, place in places if not place and not wanted.optional]
 
 
 def code_of(tree, names):
     """Of each definition, by its kind and name, its text without comments and with one blank between words."""
-    found, _, _ = places_of(tree, names)
-    return {(it.kind, it.name): " ".join((source.text if it.kind == "macro" else source.bare)[start:end].split()) for it, source, (start, end) in found}
+    found, _ = places_of(tree, read_names(names))
+    return {(wanted.kind, wanted.name): " ".join((source.text if wanted.kind == "macro" else source.bare)[start:end].split()) for wanted, source, (start, end) in found}
 
 
 def cut(tree, names, changes=()):
     """All that is wanted of a tree, as one text to compile."""
-    places, files, missing = places_of(tree, names)
-    pieces, lines, found = [], 0, set()
-    for it, source, (start, end) in places:
-        text = source.text[start:end]
-        pieces.append(f'#line {source.text.count(chr(10), 0, start) + 1} "{source.path}"\n{changed_text(it, text, changes)}\n')
-        lines += text.count("\n") + 1
-        found.add(it.name)
+    names = read_names(names)
+    places, missing = places_of(tree, names)
     if missing:
-        raise Refused(f"{tree} has no " + ", ".join(missing) + f" (looked for in {', '.join(files)})")
-    unknown = [change.name for change in changes if change.name not in found]
+        raise Refused(f"{tree} has no " + ", ".join(missing) + f" (looked for in {', '.join(names.files)})")
+    unknown = [change.name for change in changes if change.name not in {wanted.name for wanted, *_ in places}]
     if unknown:
         raise Refused(f"a change names {unknown[0]}, and no definition of that name is cut")
-    return Cut("".join(pieces), len(pieces), lines, len(changes))
+    pieces, lines = list(names.left_out), 0
+    for wanted, source, (start, end) in places:
+        text = source.text[start:end]
+        pieces.append(f'#line {source.text.count(chr(10), 0, start) + 1} "{source.path}"\n{changed_text(wanted, text, changes)}\n')
+        lines += text.count("\n") + 1
+    return Cut("".join(pieces), len(places), lines, len(changes))

@@ -20,9 +20,6 @@ typedef _Bool bool;
 #define __always_inline inline
 #define ____cacheline_aligned
 #define ____cacheline_aligned_in_smp
-#define __acquire(x) ((void)0)
-#define __release(x) ((void)0)
-#define IS_ENABLED(x) 0
 #define SMP_CACHE_BYTES 64
 #define ENOSPC 28
 #define EINVAL 22
@@ -70,15 +67,10 @@ typedef long u64_stats_t;
 #define atomic_long_inc_return(x) (++(x)->v)
 #define atomic_long_set(x, n) ((x)->v = (n))
 #define try_cmpxchg(p, o, n) (*(p) == *(o) ? (*(p) = (n), 1) : (*(o) = *(p), 0))
-#define prefetch(x) ((void)0)
-#define tcf_set_qdisc_drop_reason(skb, r) ((void)0)
 #define tcf_kfree_skb_list(l, q, t, d) kfree_skb_list_reason(l, 0)
 #define rtnl_kfree_skbs(head, tail) kfree_skb_list_reason(head, 0)
-#define dev_nit_active_rcu(d) 0
 #define qdisc_qlen_inc(q) ((q)->q.qlen++)
 #define qdisc_qlen_dec(q) ((q)->q.qlen--)
-#define netdev_watchdog_down(d) ((void)0)
-#define netdev_watchdog_up(d) ((void)0)
 
 /* types */
 struct rcu_head {}; struct hlist_node {}; struct lock_class_key {}; struct tc_stats {}; struct list_head {};
@@ -101,38 +93,8 @@ enum skb_drop_reason { SKB_DROP_REASON_NOT_SPECIFIED, SKB_DROP_REASON_QDISC_DROP
 
 /* left out: statistics, tracing, validation and segmentation, encryption, freeing, byte queue limits, taps, RCU and interrupts off */
 #define qdisc_pkt_len(skb) ((skb)->len)
-#define qdisc_calculate_pkt_len(skb, q) ((void)0)
-#define qdisc_update_stats_at_enqueue(q, n) ((void)(n))
-#define qdisc_update_stats_at_dequeue(q, skb) ((void)0)
-#define qdisc_bstats_cpu_update(q, skb) ((void)0)
-#define qdisc_bstats_update(q, skb) ((void)0)
-#define qdisc_qstats_drop(q) ((void)0)
-#define qdisc_qstats_cpu_drop(q) ((void)0)
-#define qdisc_qstats_cpu_requeues_inc(q) ((void)0)
-#define qdisc_qstats_cpu_backlog_inc(q, skb) ((void)0)
-#define qdisc_qstats_cpu_backlog_dec(q, skb) ((void)0)
-#define qdisc_qstats_cpu_qlen_inc(q) ((void)0)
-#define qdisc_qstats_cpu_qlen_dec(q) ((void)0)
-#define qdisc_qstats_backlog_inc(q, skb) ((void)0)
-#define qdisc_qstats_backlog_dec(q, skb) ((void)0)
-#define qdisc_qlen(q) 0
-#define trace_qdisc_dequeue(q, t, n, skb) ((void)0)
-#define trace_qdisc_enqueue(q, t, skb) ((void)0)
-#define trace_qdisc_reset(q) ((void)0)
-#define trace_net_dev_start_xmit(skb, d) ((void)0)
-#define trace_net_dev_xmit(skb, r, d, n) ((void)(n))
-#define trace_consume_skb(...) ((void)0)
-#define trace_kfree_skb(...) ((void)0)
 #define net_warn_ratelimited(...) wrong("the text warns where no order should come to (net_warn_ratelimited)")
-#define WARN_ON(x) ((void)0)
-#define WARN_ON_ONCE(x) ((void)0)
-#define DEBUG_NET_WARN_ON_ONCE(x) ((void)0)
-#define BUILD_BUG_ON(x) ((void)0)
-#define dev_nit_active(d) 0
-#define dev_queue_xmit_nit(skb, d) ((void)0)
 #define validate_xmit_skb_list(skb, d, again) ((void)(again), (skb))
-#define xfrm_offload(skb) 0
-#define xfrm_dev_backlog(sd) ((void)0)
 #define refcount_read(r) ((r)->refs)
 #define kfree_skb_reason(skb, r) kfree_skb(skb)
 #define __kfree_skb(skb) wrong("the completion queue is used, which this world hasn't")
@@ -141,33 +103,19 @@ enum skb_drop_reason { SKB_DROP_REASON_NOT_SPECIFIED, SKB_DROP_REASON_QDISC_DROP
 #define get_kfree_skb_cb(skb) ((struct kfree_cb *)(skb))
 #define SKB_REASON_CONSUMED 0
 #define SKB_CONSUMED 0
-#define tcf_set_drop_reason(skb, r) ((void)0)
-#define tcf_get_drop_reason(skb) 0
 #define SKB_FCLONE_UNAVAILABLE 0
 #define this_cpu_ptr(p) ((__typeof__(p))processor(smp_processor_id()))
 #define jiffies 0
-#define rcu_read_lock() ((void)0)
-#define rcu_read_unlock() ((void)0)
 #define rcu_dereference(p) (p)
 #define rtnl_dereference(p) (p)
 #define rcu_assign_pointer(p, v) WRITE_ONCE(p, v)
-#define local_irq_save(f) ((void)((f) = 0))
-#define local_irq_restore(f) ((void)(f))
-#define local_irq_disable() ((void)0)
-#define local_irq_enable() ((void)0)
-#define raise_softirq_irqoff(n) ((void)0)
 #define for_each_possible_cpu(i) for ((i) = 0; (i) < 0; (i)++)
 #define per_cpu_ptr(p, i) (p)
 
 /* of control: one device, without ingress queue and watchdog; waits are questions of the search */
 #define LIST_HEAD(name) struct list_head name
-#define list_add(it, head) ((void)(it), (void)(head))
-#define list_del(head) ((void)(head))
 #define list_for_each_entry(it, head, member) for ((void)(head), (it) = the_device(); (it); (it) = NULL)
 #define dev_ingress_queue(d) ((struct netdev_queue *)NULL)
-#define dev_watchdog_down(d) ((void)0)
-#define dev_watchdog_up(d) ((void)0)
-#define netif_trans_update(d) ((void)0)
 #define netif_carrier_ok(d) 1
 #define attach_default_qdiscs(d) wrong("attach_default_qdiscs is called")
 #define synchronize_net() wait_for(GRACE)
@@ -176,7 +124,6 @@ enum skb_drop_reason { SKB_DROP_REASON_NOT_SPECIFIED, SKB_DROP_REASON_QDISC_DROP
 #define kmalloc_array_noprof kmalloc_array
 #define kvmalloc_array(n, size, gfp) new_queue()
 #define kvmalloc_array_noprof kvmalloc_array
-#define kvfree(p) ((void)(p))
 #define kfree(p) end_resize()
 #define alloc_hooks(call) call
 #define skb_array_resize_multiple_bh skb_array_resize_multiple_bh_noprof

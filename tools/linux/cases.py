@@ -1,6 +1,6 @@
 """A plan as a case: the lines that the guest works through, the answers that the rules expect, and what the guest answered."""
 import re
-from collections import namedtuple
+from typing import NamedTuple
 
 from lib import alone
 from lib.places import steps_of
@@ -10,23 +10,19 @@ from lib.wire import Wire
 
 # what a sender is answered of a packet, by the kind of its fate
 EXPECTED_ERRORS = {FULL: 105, REFUSED: 100}
-WORDS = namedtuple("WORDS", "device place state lock stops requeued other_queue accepted dropped softirqs bands")
+RING_WORDS = ("producer", "head", "tail", "size", "batch", "held", "total", "marks")
 
 
-def params_of(it):
-    return " ".join(str(getattr(it, key.name)) for key in PARAMS)
+def params_of(device):
+    return " ".join(str(getattr(device, key.name)) for key in PARAMS)
 
 
-def new_line(plan, j, room, params=None):
-    it = plan.station[j]
-    queues, shared = max(it.queues, it.mq), int(it.mq == 1)
-    return f"new {j} {it.len} {queues} {shared} {max(room, 1)} {params or params_of(it)} {int(it.bypass)}"
-
-
-def new_card(plan, j, room):
-    """A station with a card, whose driver stops the queue where no room is left."""
-    card = plan.station[j].card
-    return [new_line(plan, j, room, "0 0 0 0"), f"card {j} {card.ring or 0} {card.bql or 0}"]
+def new_line(plan, j, room):
+    """A station; where it has a card the driver stops the queue where no room is left."""
+    station, card = plan.station[j], plan.station[j].card
+    queues, is_shared = max(station.queues, station.mq), int(station.mq == 1)
+    limits = f"{card.ring or 0} {card.bql or 0}" if card else "0 0"
+    return f"new {j} {station.len} {queues} {is_shared} {max(room, 1)} {'0 0 0 0' if card else params_of(station)} {int(station.bypass)} {limits}"
 
 
 def event_line(event):
@@ -38,24 +34,21 @@ def event_line(event):
 def send_line(n, packets):
     """A packet's mark has its queue in the upper byte."""
     device, child = packets.device(n)
-    return f"send {n | packets.queues[n] + child << 24} {device} {packets.priorities[n]} {packets.frames[n].hex()}"
+    return f"send {device} {n | packets.queues[n] + child << 24} {packets.priorities[n]} {packets.frames[n].hex()}"
 
 
 def case_of(name, packets):
     """The lines of a case."""
     plan = packets.plan
+    lines = {
+        "send": lambda n: send_line(n, packets),
+        "wake": lambda number: f"wake {number % 2}",
+        "ended": lambda frames: f"ended {frames}",
+        "event": lambda number: event_line(plan.event[number]),
+    }
     yield f"case {name}"
-    for j in range(len(plan.station)):
-        yield from new_card(plan, j, len(packets)) if packets.card else [new_line(plan, j, len(packets))]
-    for what, number in moves_of(packets):
-        if what == "send":
-            yield send_line(number, packets)
-        elif what == "wake":
-            yield f"wake {number % 2}"
-        elif what == "ended":
-            yield f"ended {number}"
-        else:
-            yield event_line(plan.event[number])
+    yield from (new_line(plan, j, len(packets)) for j in range(len(plan.station)))
+    yield from (lines[what](number) for what, number in moves_of(packets))
     yield f"finish {len(packets) + 2}"
     yield "end"
 
@@ -79,21 +72,22 @@ def ring_words(ring, marks):
 
 def device_words(number, device, marks):
     """A line for each station of a device; with `marks` the packets of its rings too."""
-    dropped = sum(it.dropped for it in device.stations)
-    for place, it in enumerate(device.stations):
-        stops = "".join(map(str, it.stops))
-        lists = " ".join(",".join(map(str, waiting)) or "-" for waiting in (it.requeued, it.other_queue))
-        rings = " ".join(ring_words(ring, marks) for ring in it.rings)
-        yield f"W {number} {place} {it.state} 0 {stops} {lists} {len(it.accepted)} {dropped} {0 if place else device.softirqs} {rings}"
+    dropped = sum(station.dropped for station in device.stations)
+    for place, station in enumerate(device.stations):
+        stops = "".join(map(str, station.stops))
+        lists = " ".join(",".join(map(str, waiting)) or "-" for waiting in (station.requeued, station.other_queue))
+        rings = " ".join(ring_words(ring, marks) for ring in station.rings)
+        softirqs = 0 if place else device.softirqs
+        yield f"W {number} {place} {station.state} 0 {stops} {lists} {len(station.accepted)} {dropped} {softirqs} {rings}"
     device.softirqs = 0
 
 
 def unit_lines(number, device, packets):
     """A line for each station of a device, which tells what its unit accepted."""
-    for place, it in enumerate(device.stations):
-        shared = len(device.stations) == 1
-        marks = "".join(f" {n}/{packets.priorities[n]}/{packets.checksum(n):x}/{packets.queues[n] if shared else place}" for n in it.accepted)
-        yield f"L {number} {place} {it.calls} {it.busy} {len(it.accepted)} {int(it.hung)}{marks}"
+    is_shared = len(device.stations) == 1
+    for place, unit in enumerate(device.stations):
+        marks = "".join(f" {n}/{packets.priorities[n]}/{packets.checksum(n):x}/{packets.queues[n] if is_shared else place}" for n in unit.accepted)
+        yield f"L {number} {place} {unit.calls} {unit.busy} {len(unit.accepted)} {int(unit.hung)}{marks}"
 
 
 class ToldWire(Wire):
@@ -144,17 +138,15 @@ class Run(alone.Run):
 
     def step(self, what, number):
         self.moves.append((what, number))
-        if what == "send":
-            super().step(what, number)
-            if not self.wire:
-                self.sent(number)
+        event = self.plan.event[number] if what == "event" else None
+        before = list(unit_lines(event.station, self.devices[event.station], self.places)) if event and event.kind == "swap" else []
+        result = super().step(what, number)
+        if event:
+            self.tell(result, before + self.words(event.station, True))
         elif what == "wake":
-            super().step(what, number)
-            self.tell(0, [line for number in range(len(self.devices)) for line in self.words(number, False)])
-        else:
-            it = self.plan.event[number]
-            before = list(unit_lines(it.station, self.devices[it.station], self.places)) if it.kind == "swap" else []
-            self.tell(super().step(what, number), before + self.words(it.station, True))
+            self.tell(0, [line for place in range(len(self.devices)) for line in self.words(place, False)])
+        elif not self.wire:
+            self.sent(number)
 
     def open_until_done(self):
         lines = []
@@ -167,12 +159,35 @@ class Run(alone.Run):
 # WHAT A GUEST ANSWERED
 
 
+class Words(NamedTuple):
+    """A line of words: `bands` has those of each ring by name, as text."""
+
+    device: int
+    place: int
+    state: int
+    lock: int
+    stops: str
+    requeued: list
+    other_queue: list
+    accepted: int
+    dropped: int
+    softirqs: int
+    bands: list
+
+    def held(self):
+        return len(self.requeued) + len(self.other_queue) + sum(int(ring["held"]) for ring in self.bands)
+
+
 def read_words(line):
     parts = line.split(" ")
-    bands = [dict(zip(("producer", "head", "tail", "size", "batch", "held", "total", "marks"), re.split("[,:]", it, maxsplit=7)))
-             for it in parts[11:]]
-    return WORDS(*map(int, parts[1:5]), parts[5], *([] if it == "-" else [int(n) for n in it.split(",")] for it in parts[6:8]),
-                 *map(int, parts[8:11]), bands)
+    lists = ([] if part == "-" else list(map(int, part.split(","))) for part in parts[6:8])
+    bands = [dict(zip(RING_WORDS, re.split("[,:]", part, maxsplit=7))) for part in parts[11:]]
+    return Words(*map(int, parts[1:5]), parts[5], *lists, *map(int, parts[8:11]), bands)
+
+
+def marks_of(line):
+    """The packets that a line of a unit names, in order: of each its number, priority, checksum and queue."""
+    return [mark.split("/") for mark in line.split(" ")[7:]]
 
 
 def without_softirqs(line):
@@ -182,7 +197,7 @@ def without_softirqs(line):
 
 
 class Answers:
-    """What a guest answered to a case, and the fates that follow from that alone."""
+    """What a guest answered to a case: of each step its lines, at the end the units' lines and the packets that were dropped."""
 
     def __init__(self, lines, has_card=False):
         self.steps, self.faults, self.last, self.drops = [], [], [], {}
@@ -191,53 +206,46 @@ class Answers:
                 self.steps.append([line])
             elif line.startswith("!"):
                 self.faults.append(line)
-            elif line.startswith("L ") and (self.last or self.is_finished()):
+            elif line.startswith("L ") and (self.last or any(told.startswith("R ") for told in self.steps[-1])):
                 self.last.append(line)
             elif line.startswith("G "):
                 self.note_drops(line)
             else:
                 self.steps[-1].append(line)
         # both before what is held is dropped and after it
-        self.last = [line for place, line in enumerate(self.last) if line not in self.last[:place]]
-
-    def is_finished(self):
-        return any(line.startswith("R ") for line in self.steps[-1])
+        self.last = list(dict.fromkeys(self.last))
 
     def note_drops(self, line):
-        parts = line.split(" ")
-        if parts[2] != "0":
-            self.faults.append(f"! {parts[2]} packets for which a log had no room")
-        self.drops[int(parts[1])] = [(int(number), where) for number, where in (it.split("/", 1) for it in parts[4:])]
-
-    def results(self):
-        return [int(it[0][2:]) for it in self.steps]
+        _, device, overflow, _, *drops = line.split(" ")
+        if overflow != "0":
+            self.faults.append(f"! {overflow} packets for which a log had no room")
+        self.drops[int(device)] = [(int(number), where) for number, where in (drop.split("/", 1) for drop in drops)]
 
 
 class Slots:
     """Which packet was put last into each slot of a device's rings, followed by the words."""
 
     def __init__(self, words):
-        self.rings = [[dict() for _ in it.bands] for it in words]
+        self.rings = [[{} for _ in station.bands] for station in words]
         self.words = words
 
     def seen(self, place, band):
-        ring = self.words[place].bands[band]
-        return self.rings[place][band].get(int(ring["producer"]))
+        return self.rings[place][band].get(int(self.words[place].bands[band]["producer"]))
 
     def follow_send(self, n, place, band, words):
         before, after = self.words[place].bands[band], words[place].bands[band]
-        alone = before["size"] == "1" and int(after["held"]) > int(before["held"])
-        if before["producer"] != after["producer"] or alone:
+        is_put_alone = before["size"] == "1" and int(after["held"]) > int(before["held"])
+        if before["producer"] != after["producer"] or is_put_alone:
             self.rings[place][band][int(before["producer"])] = n
         self.words = words
 
     def follow_event(self, words, kind):
-        for place, it in enumerate(words):
-            for band, ring in enumerate(it.bands):
+        for place, station in enumerate(words):
+            for band, ring in enumerate(station.bands):
                 # a resize moves what it keeps to the first slots, also where the size stays
                 if kind == "resize" or ring["size"] != self.words[place].bands[band]["size"]:
-                    marks = ring.get("marks", "").split(",") if ring.get("marks") else []
-                    self.rings[place][band] = {at: int(n) for at, n in enumerate(marks)}
+                    marks = ring.get("marks")
+                    self.rings[place][band] = dict(enumerate(map(int, marks.split(",")))) if marks else {}
         self.words = words
 
 
@@ -250,53 +258,45 @@ class KernelFates:
         self.fates, self.next_unit = {}, len(plan.tables)
         # the units of each device, and how many of its drops were seen
         self.unit = list(map(list, plan.children))
-        self.told = {}
+        self.told = dict.fromkeys(range(len(plan.station)), 0)
         self.purged_bands_first = self.softirqs = 0
-        places = iter(answers.steps)
-        self.slots = [Slots(self.words_of(next(places))[j]) for j in range(len(plan.station))]
-        for (what, number), step in zip(moves_of(packets), places):
-            self.step(what, number, step)
+        steps = iter(answers.steps)
+        self.slots = [Slots(self.words_of(next(steps))[j]) for j in range(len(plan.station))]
+        follow = {"send": self.step_send, "event": self.step_event, "wake": self.step_wake, "ended": self.step_wake}
+        for (what, number), step in zip(moves_of(packets), steps):
+            follow[what](number, step)
         for line in answers.last:
             self.sent(line)
-        self.dropped_at_end()
+        for device, drops in answers.drops.items():
+            for n, where in drops[self.told[device] :]:
+                self.give(n, "purged hung" if "reset" in where else f"dropped by {where}")
 
     def words_of(self, step):
-        words = {}
-        for line in step:
-            if line.startswith("W "):
-                it = read_words(line)
-                words.setdefault(it.device, []).append(it)
-                self.softirqs += it.softirqs
-        return words
+        """The words of a step, by their device."""
+        found = {}
+        for words in (read_words(line) for line in step if line.startswith("W ")):
+            found.setdefault(words.device, []).append(words)
+            self.softirqs += words.softirqs
+        return found
 
     def give(self, n, fate):
         self.fates[n] = f"{self.fates[n]}, {fate}" if n in self.fates else fate
 
     def sent(self, line):
-        words = line.split(" ")
-        device, place = int(words[1]), int(words[2])
-        for serial, mark in enumerate(words[7:]):
-            self.give(int(mark.split("/")[0]), f"sent {self.unit[device][place]} {serial}")
+        device, place = map(int, line.split(" ")[1:3])
+        for serial, (number, *_) in enumerate(marks_of(line)):
+            self.give(int(number), f"sent {self.unit[device][place]} {serial}")
 
     def new_drops(self, words):
         device = words[0].device
-        before = self.told.get(device, 0)
-        self.told[device] = words[0].dropped
-        return self.answers.drops.get(device, [])[before:words[0].dropped]
+        before, self.told[device] = self.told[device], words[0].dropped
+        return self.answers.drops.get(device, [])[before : words[0].dropped]
 
-    def step(self, what, number, step):
-        if what == "send":
-            self.step_send(number, step)
-        elif what == "event":
-            self.step_event(number, step)
-        else:
-            for words in self.words_of(step).values():
-                self.step_wake(words)
-
-    def step_wake(self, words):
-        self.slots[words[0].device].words = words
-        for n, where in self.new_drops(words):
-            self.give(n, f"dropped by {where}")
+    def step_wake(self, _, step):
+        for words in self.words_of(step).values():
+            self.slots[words[0].device].words = words
+            for n, where in self.new_drops(words):
+                self.give(n, f"dropped by {where}")
 
     def step_send(self, n, step):
         band, result = self.packets.bands[n], int(step[0][2:])
@@ -305,32 +305,25 @@ class KernelFates:
         for m, where in self.new_drops(words):
             self.give(m, f"full {slots.seen(place, band)}" if m == n and result == 105 else f"dropped by {where}")
         if result == 100:
-            downs = [e for e, it in enumerate(self.plan.event) if it.kind == "down" and it.station == device and it.before <= n]
+            downs = [e for e, event in enumerate(self.plan.event) if event.kind == "down" and event.station == device and event.before <= n]
             self.give(n, f"refused {downs[-1]}" if downs else "refused")
         slots.follow_send(n, place, band, words)
 
     def step_event(self, e, step):
-        it = self.plan.event[e]
+        event = self.plan.event[e]
         for line in step:
             if line.startswith("L "):
                 self.sent(line)
-        if it.kind == "swap":
-            self.unit[it.station] = [self.next_unit]
+        if event.kind == "swap":
+            self.unit[event.station] = [self.next_unit]
             self.next_unit += 1
-        words = self.words_of(step)[it.station]
-        before = self.slots[it.station].words
+        slots, words = self.slots[event.station], self.words_of(step)[event.station]
         drops = self.new_drops(words)
         for n, where in drops:
             self.give(n, f"purged {e}" if "reset" in where else f"shrunk {e}")
-        waiting = {n for station in before for n in station.requeued}
-        if waiting and drops and drops[0][0] not in waiting:
-            self.purged_bands_first += 1
-        self.slots[it.station].follow_event(words, it.kind)
-
-    def dropped_at_end(self):
-        for device, drops in self.answers.drops.items():
-            for n, where in drops[self.told.get(device, 0):]:
-                self.give(n, "purged hung" if "reset" in where else f"dropped by {where}")
+        requeued = {n for station in slots.words for n in station.requeued}
+        self.purged_bands_first += bool(requeued and drops and drops[0][0] not in requeued)
+        slots.follow_event(words, event.kind)
 
     def text(self):
         return "".join(f"{n} {self.fates.get(n, 'lost')}\n" for n in range(len(self.packets)))
@@ -338,12 +331,9 @@ class KernelFates:
 
 def answers_of(text):
     """The answers of a guest's file, by the names of its cases; a case that wasn't ended is left out."""
-    name, lines, found = None, [], {}
-    for line in text.splitlines():
-        if line.startswith("case "):
-            name, lines = line[5:], []
-        elif line == "end" and name is not None:
-            found[name] = lines
-        else:
-            lines.append(line)
+    found = {}
+    for part in re.split(r"^case ", text, flags=re.M)[1:]:
+        name, *lines = part.splitlines()
+        if "end" in lines:
+            found[name] = lines[: lines.index("end")]
     return found

@@ -1,24 +1,16 @@
 """Classification: all types of service, each in four ways, and the bands of the priorities, as a kernel has them."""
 from lib.captures import BAND, PRIORITY
-from linux.cases import read_words
-from linux.plans import frame
+from linux.cases import marks_of, read_words
+from linux.plans import checksum, frame
 
 WAYS = ["IP_TOS of a socket", "IP_TOS of a message", "a forwarded packet", "a forwarded packet with IP options"]
 BATCH = 64
 
 
-def checksum(header):
-    total = sum(int.from_bytes(header[i:i + 2], "big") for i in range(0, len(header), 2))
-    while total >> 16:
-        total = (total & 0xFFFF) + (total >> 16)
-    return ~total & 0xFFFF
-
-
 def forwarded(tos, options):
     """A datagram to 10.2.0.2 that comes in on device 0."""
     extra = bytes([1, 1, 1, 0]) if options else b""
-    header = bytes([0x45 + len(extra) // 4, tos]) + (24 + len(extra) + 4).to_bytes(2, "big") + bytes(
-        [0, 1, 0, 0, 64, 17, 0, 0, 10, 1, 0, 9, 10, 2, 0, 2]) + extra
+    header = bytes([0x45 + len(extra) // 4, tos, 0, 28 + len(extra), 0, 1, 0, 0, 64, 17, 0, 0, 10, 1, 0, 9, 10, 2, 0, 2]) + extra
     header = header[:10] + checksum(header).to_bytes(2, "big") + header[12:]
     return bytes.fromhex("ffffffffffff0200000000010800") + header + bytes([0, 9, 0, 9, 0, 8, 0, 0]) + b"lqtx"
 
@@ -28,38 +20,27 @@ def case_lines():
     for way in range(len(WAYS)):
         for begin in range(0, 256, BATCH):
             yield f"case class-{way}-{begin}"
-            yield from (f"new {j} 1000 1 1 {BATCH} 0 0 0 0 0" for j in (0, 1))
+            yield from (f"new {j} 1000 1 1 {BATCH} 0 0 0 0 0 0 0" for j in (0, 1))
             yield from (f"address {j}" for j in (0, 1))
             for tos in range(begin, begin + BATCH):
                 if way < 2:
-                    yield f"datagram {tos} 1 {tos} {way}"
+                    yield f"datagram 1 {tos} {tos} {way}"
                 else:
-                    yield f"receive {tos} 0 {forwarded(tos, way == 3).hex()}"
+                    yield f"receive 0 {tos} {forwarded(tos, way == 3).hex()}"
             yield "end"
     yield "case class-priorities"
-    yield "new 0 1000 1 1 64 0 0 0 0 0"
-    yield from (f"send {priority} 0 {priority} {frame(0, 0, 0, priority).hex()}" for priority in range(64))
+    yield "new 0 1000 1 1 64 0 0 0 0 0 0 0"
+    yield from (f"send 0 {priority} {priority} {frame(0, 0, 0, priority).hex()}" for priority in range(64))
     yield "end"
 
 
 def bands_of(lines, device):
     """The band that took each packet, by which producer index moved, and each packet's priority."""
-    steps, before, bands = [], None, []
-    for line in lines:
-        if line.startswith("= "):
-            steps.append([])
-        elif line.startswith(f"W {device} "):
-            steps[-1].append(read_words(line))
-    for step in steps:
-        for words in step:
-            producers = [int(it["producer"]) for it in words.bands]
-            if before is not None:
-                moved = [band for band in range(3) if producers[band] != before[band]]
-                bands += moved
-            before = producers
-    sent = next(it for it in lines if it.startswith(f"L {device} 0 "))
-    priorities = {int(mark.split("/")[0]): int(mark.split("/")[1]) for mark in sent.split(" ")[7:]}
-    return bands, priorities
+    words = [read_words(line) for line in lines if line.startswith(f"W {device} ")]
+    producers = [[int(ring["producer"]) for ring in told.bands] for told in words]
+    bands = [band for before, after in zip(producers, producers[1:]) for band in range(3) if after[band] != before[band]]
+    sent = next(line for line in lines if line.startswith(f"L {device} 0 "))
+    return bands, {int(number): int(priority) for number, priority, *_ in marks_of(sent)}
 
 
 def judge(found):
@@ -78,7 +59,7 @@ def judge(found):
     bands, _ = bands_of(found["class-priorities"], 0)
     for priority in range(64):
         total += 1
-        fits = priority < len(bands) and bands[priority] == BAND[priority & 15]
+        fits = bands[priority : priority + 1] == [BAND[priority & 15]]
         good += fits
         if not fits:
             faults.append(f"priority {priority}: another band")

@@ -8,22 +8,22 @@ from linux.cases import KernelFates, Run, moves_of
 Cause = namedtuple("Cause", "name may_come text")
 
 CAUSES = [
-    Cause("same_length", lambda plan: any(it.kind == "tx_queue_len" for it in plan.event),
+    Cause("same_length", lambda plan: any(event.kind == "tx_queue_len" for event in plan.event),
           "same length: a change of tx_queue_len to the length that the device has already is nothing to Linux, since "
           "dev_change_tx_queue_len (net/core/dev.c) compares first; the rules deactivate, purge and activate"),
-    Cause("too_long", lambda plan: any((it.len or 0) > 32767 for it in plan.event),
+    Cause("too_long", lambda plan: any((event.len or 0) > 32767 for event in plan.event),
           "too long: a tx_queue_len above 32,767 is refused by dev_change_tx_queue_len (net/core/dev.c) since 6.1.189; the "
           "rules take it"),
-    Cause("bulk", lambda plan: any(it.queues > 1 for it in plan.station),
+    Cause("bulk", lambda plan: any(station.queues > 1 for station in plan.station),
           "bulk dequeue: where several queues share a qdisc, try_bulk_dequeue_skb_slow (net/sched/sch_generic.c) takes up to "
           "eight more packets of the same queue with one; the rules take one at a time"),
-    Cause("put_ahead", lambda plan: any(it.queues > 1 for it in plan.station),
+    Cause("put_ahead", lambda plan: any(station.queues > 1 for station in plan.station),
           "put ahead: what bulk dequeue took and the device didn't get goes back ahead of what waits in the requeue list, by "
           "dev_requeue_skb (net/sched/sch_generic.c) of 6.12.117; 6.1.192 appends it, so that a busy device is given such packets "
           "out of order"),
 ]
 
-# agrees: nothing parts. causes: the fewest that explain all that does, or None. expected: the run that was compared last.
+# agrees: nothing parts. causes: the fewest that explain all that does, or None
 Verdict = namedtuple("Verdict", "agrees causes kernel here kernel_fates first_step")
 
 
@@ -31,29 +31,26 @@ def equals(answers, fates, run):
     return not answers.faults and answers.steps == run.steps and answers.last == run.last and fates == run.trail.text()
 
 
-def kernel_fates(packets, answers):
-    try:
-        return KernelFates(packets, answers)
-    except (StopIteration, IndexError, KeyError, ValueError) as it:
-        answers.faults.append(f"! answers that can't be read: {type(it).__name__} {it}")
-        return None
+def causes_of(packets, answers, fates):
+    """The fewest known causes that explain all that parts; none where nothing does, and None where none do."""
+    may_come = [cause for cause in CAUSES if cause.may_come(packets.plan)]
+    for count in range(len(may_come) + 1):
+        for causes in combinations(may_come, count):
+            if equals(answers, fates, Run(packets, linux=Linux(**{cause.name: True for cause in causes}))):
+                return list(causes)
+    return None
 
 
 def judge(packets, answers):
     here = Run(packets)
-    ours, kernel = here.trail.text(), kernel_fates(packets, answers)
-    if kernel is None:
+    ours = here.trail.text()
+    try:
+        kernel = KernelFates(packets, answers)
+    except (StopIteration, IndexError, KeyError, ValueError) as fault:
+        answers.faults.append(f"! answers that can't be read: {type(fault).__name__} {fault}")
         return Verdict(False, None, "", ours, None, None)
-    text = kernel.text()
-    first = first_difference(packets, answers, here)
-    if equals(answers, text, here):
-        return Verdict(True, [], text, text, kernel, None)
-    may_come = [it for it in CAUSES if it.may_come(packets.plan)]
-    for count in range(1, len(may_come) + 1):
-        for causes in combinations(may_come, count):
-            if equals(answers, text, Run(packets, linux=Linux(**{it.name: True for it in causes}))):
-                return Verdict(False, list(causes), text, ours, kernel, first)
-    return Verdict(False, None, text, ours, kernel, first)
+    causes = causes_of(packets, answers, kernel.text())
+    return Verdict(causes == [], causes, kernel.text(), ours, kernel, None if causes == [] else first_difference(packets, answers, here))
 
 
 def names_of_steps(packets):

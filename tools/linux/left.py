@@ -27,7 +27,7 @@ def counts_of(console):
     """Of each order the counts of its rounds, as the guest's console has them, and whether the guest came to its end."""
     found = dict.fromkeys(ORDERS, NO_ROUND)
     lines = console.splitlines()
-    for words in (it.split() for it in lines if it.startswith("round ")):
+    for words in (line.split() for line in lines if line.startswith("round ")):
         if len(words) != 9:
             continue
         order, cure, came_about, left, _, purged, taken, _ = map(int, words[1:])
@@ -39,41 +39,34 @@ def counts_of(console):
 
 def table(results):
     """A line for each order, and for each kernel the rounds in which packets were left; then what became of the packets."""
-    names = list(results)
     width = max(map(len, ORDERS.values()))
-    yield f"{'rounds in which packets are left':{width}}  " + "  ".join(f"{it:>12}" for it in names)
+    yield f"{'rounds in which packets are left':{width}}  " + "  ".join(f"{name:>12}" for name in results)
     for order, about in ORDERS.items():
-        counts = [results[it][order] for it in names]
-        yield f"{about:{width}}  " + "  ".join(f"{f'{it.with_left} of {it.rounds}':>12}" for it in counts)
-    for name in names:
-        of = [sum(it) for it in zip(*results[name].values())]
-        yield (f"{name}: {of[0] * PACKETS} packets, {of[3]} left, of which the next transmit took {of[5]} along, {of[4]} purged, "
-               f"{of[0] * PACKETS - of[3] - of[4]} sent")  # fmt: skip
+        counts = [found[order] for found in results.values()]
+        yield f"{about:{width}}  " + "  ".join(f"{f'{count.with_left} of {count.rounds}':>12}" for count in counts)
+    for name, found in results.items():
+        all_orders = Count(*map(sum, zip(*found.values())))
+        packets, left, purged = all_orders.rounds * PACKETS, all_orders.left, all_orders.purged
+        yield f"{name}: {packets} packets, {left} left, of which the next transmit took {all_orders.taken} along, {purged} purged, {packets - left - purged} sent"
 
 
 def image_of(tools, kernel, folder):
     made = folder / f"left-{kernel.version}"
-    image = made / "image.gz"
-    sources = [guest.HERE / it for it in ("left_device.c", "left-init", "guest.py", "left.py")]
-    if image.exists() and all(it.stat().st_mtime < image.stat().st_mtime for it in sources):
-        return image
-    guest.shutil.rmtree(made, ignore_errors=True)
-    root = made / "root"
-    root.mkdir(parents=True)
-    (root / "left_device.ko").write_bytes(guest.make_module(tools, kernel, made / "module", "left_device"))
-    (root / "rounds").write_text(f"{ROUNDS}\n", encoding="utf-8")
-    guest.pack(tools, root, "left-init", image)
-    return image
+
+    def fill(root):
+        (root / "left_device.ko").write_bytes(guest.make_module(tools, kernel, made / "module", "left_device"))
+        (root / "rounds").write_text(f"{ROUNDS}\n", encoding="utf-8")
+
+    return guest.image_of(tools, made, "left-init", ("left_device.c", "left.py"), fill)
 
 
 def boot(tools, kernel, image, patience):
     """What the guest's console said in the time that a kernel has."""
     words = guest.emulator(tools, kernel, image, PROCESSORS)
     try:
-        done = subprocess.run(words, env=tools.environment(), stdin=subprocess.DEVNULL, capture_output=True, timeout=patience, check=False)
-        said = done.stdout
-    except subprocess.TimeoutExpired as it:
-        said = it.stdout or b""
+        said = subprocess.run(words, env=tools.environment(), stdin=subprocess.DEVNULL, capture_output=True, timeout=patience, check=False).stdout
+    except subprocess.TimeoutExpired as late:
+        said = late.stdout or b""
     return said.decode(errors="replace").replace("\r", "")
 
 
@@ -98,7 +91,7 @@ def compare(word, folder, tell):
     end = time.monotonic() + WHOLE
     with ThreadPoolExecutor(3) as side_by_side:
         tools = side_by_side.submit(packages.Tools, folder, tell)
-        named = [packages.named(it, folder, tell) for it in ([word] if word == CONTROL else [word, CONTROL])]
-        running = [side_by_side.submit(rounds_of, *it, tools, folder, tell, end) for it in named]
-        results = dict(it.result() for it in running)
+        named = [packages.named(kernel, folder, tell) for kernel in dict.fromkeys((word, CONTROL))]
+        running = [side_by_side.submit(rounds_of, *kernel, tools, folder, tell, end) for kernel in named]
+        results = dict(guests.result() for guests in running)
     return results, table(results)

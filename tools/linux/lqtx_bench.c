@@ -9,13 +9,13 @@
  * A queue that was stopped is opened by the command "wake" and by nothing
  * else.  After the command "card" the device is a card's: its driver stops the
  * queue where no descriptor is left, or by byte queue limits, and "ended" says
- * how many frames have left the wire.  A probe on the tracepoint kfree_skb logs each packet of these devices
- * that the kernel drops.
+ * how many frames have left the wire.  A probe on the tracepoint kfree_skb
+ * logs each packet of these devices that the kernel drops.
  *
  * A packet's mark is its number, with its transmit queue in the upper byte.
  *
- * Commands are written to /proc/lqtx_bench, one with each write; the answer is
- * read from the file's start.
+ * Commands are written to /proc/lqtx_bench, one with each write: those of the
+ * table `commands`.  The answer is read from the file's start.
  */
 #include <linux/crc32.h>
 #include <linux/etherdevice.h>
@@ -62,7 +62,6 @@ struct accepted {
 
 struct dropped {
 	u32 mark;
-	u32 reason;
 	void *where;
 };
 
@@ -78,34 +77,20 @@ struct unit {
 	struct accepted *log;
 };
 
-/**
- * struct bench - private part of a device
- * @number:	number of the device in commands and answers
- * @queues:	transmit queues
- * @room:	entries that each log has room for
- * @shared:	one qdisc and one unit for all queues
- * @waits:	how often a scheduled qdisc had to be waited for
- * @overflow:	packets for which a log had no room
- * @dropped:	packets that the kernel dropped
- * @drops:	log of these
- * @descriptors: of a card's driver; 0 is no such limit
- * @bytes:	its byte queue limit; 0 is none
- * @ended:	frames that it knows to have left the wire
- * @unit:	units; the first alone where @shared
- */
+/* The private part of a device */
 struct bench {
-	u32 number;
+	u32 number;		/* in commands and answers */
 	u32 queues;
-	u32 room;
-	bool shared;
-	u32 waits;
-	atomic_t overflow;
-	atomic_t dropped;
-	struct dropped *drops;
-	u32 descriptors;
-	u32 bytes;
-	u32 ended;
-	struct unit unit[BENCH_QUEUES];
+	u32 room;		/* entries that each log has room for */
+	bool shared;		/* one qdisc and one unit for all queues */
+	u32 waits;		/* how often a scheduled qdisc was waited for */
+	atomic_t overflow;	/* packets for which a log had no room */
+	atomic_t dropped;	/* packets that the kernel dropped */
+	struct dropped *drops;	/* log of these */
+	u32 descriptors;	/* of a card's driver; 0 is no such limit */
+	u32 bytes;		/* its byte queue limit; 0 is none */
+	u32 ended;		/* frames that it knows to have left the wire */
+	struct unit unit[BENCH_QUEUES];	/* the first alone where shared */
 };
 
 static struct net_device *devices[BENCH_DEVICES];
@@ -140,18 +125,16 @@ static struct unit *unit_of(struct bench *b, u32 queue)
 
 static void log_accepted(struct bench *b, struct unit *u, struct sk_buff *skb)
 {
-	struct accepted *entry;
-
-	if (u->accepted < b->room) {
-		entry = &u->log[u->accepted];
-		entry->mark = skb->mark;
-		entry->priority = skb->priority;
-		entry->crc = ~crc32_le(~0, skb->data, skb_headlen(skb));
-		entry->queue = skb_get_queue_mapping(skb);
-		entry->len = skb->len;
-	} else {
+	if (u->accepted < b->room)
+		u->log[u->accepted] = (struct accepted){
+			.mark = skb->mark,
+			.priority = skb->priority,
+			.crc = ~crc32_le(~0, skb->data, skb_headlen(skb)),
+			.queue = skb_get_queue_mapping(skb),
+			.len = skb->len,
+		};
+	else
 		atomic_inc(&b->overflow);
-	}
 	u->accepted++;
 }
 
@@ -219,40 +202,17 @@ static u16 bench_select_queue(struct net_device *dev, struct sk_buff *skb,
 }
 
 /* A queue stays as it is while the device goes down and up. */
-static int bench_open(struct net_device *dev)
-{
-	return 0;
-}
-
-static int bench_stop(struct net_device *dev)
+static int bench_stay(struct net_device *dev)
 {
 	return 0;
 }
 
 static const struct net_device_ops bench_ops = {
-	.ndo_open		= bench_open,
-	.ndo_stop		= bench_stop,
+	.ndo_open		= bench_stay,
+	.ndo_stop		= bench_stay,
 	.ndo_start_xmit		= bench_start_xmit,
 	.ndo_select_queue	= bench_select_queue,
 };
-
-static void note_drop(struct sk_buff *skb, void *where, u32 reason)
-{
-	struct bench *b;
-	u32 at;
-
-	if (!skb->dev || skb->dev->netdev_ops != &bench_ops)
-		return;
-	b = netdev_priv(skb->dev);
-	at = atomic_inc_return(&b->dropped) - 1;
-	if (at < b->room) {
-		b->drops[at].mark = skb->mark;
-		b->drops[at].reason = reason;
-		b->drops[at].where = where;
-	} else {
-		atomic_inc(&b->overflow);
-	}
-}
 
 #if LINUX_VERSION_CODE >= KERNEL_VERSION(6, 11, 0)
 static void probe_kfree_skb(void *data, struct sk_buff *skb, void *where,
@@ -262,7 +222,17 @@ static void probe_kfree_skb(void *data, struct sk_buff *skb, void *where,
 			    enum skb_drop_reason reason)
 #endif
 {
-	note_drop(skb, where, reason);
+	struct bench *b;
+	u32 at;
+
+	if (!skb->dev || skb->dev->netdev_ops != &bench_ops)
+		return;
+	b = netdev_priv(skb->dev);
+	at = atomic_inc_return(&b->dropped) - 1;
+	if (at < b->room)
+		b->drops[at] = (struct dropped){ skb->mark, where };
+	else
+		atomic_inc(&b->overflow);
 }
 
 /* Making and freeing */
@@ -297,7 +267,8 @@ static void unregister_retired(void)
 	retired_count = 0;
 }
 
-static void retire_devices(void)
+static int retire_devices(struct net_device *none, const u32 *n,
+			  const char *rest)
 {
 	u32 j;
 
@@ -312,18 +283,22 @@ static void retire_devices(void)
 		if (retired_count == BENCH_RETIRED)
 			unregister_retired();
 	}
+	return 0;
 }
 
-static void set_params(struct unit *u, const u32 *params)
+/* Units that have seen no packet yet */
+static void set_params(struct bench *b, const u32 *params)
 {
-	u->burst = params[0];
-	u->busy_every = params[1];
-	u->busy_limit = params[2];
-	u->hang_after = params[3];
-	u->calls = 0;
-	u->busy = 0;
-	u->accepted = 0;
-	u->hung = false;
+	u32 i;
+
+	for (i = 0; i < unit_count(b); i++)
+		b->unit[i] = (struct unit){
+			.burst = params[0],
+			.busy_every = params[1],
+			.busy_limit = params[2],
+			.hang_after = params[3],
+			.log = b->unit[i].log,
+		};
 }
 
 static bool make_logs(struct bench *b)
@@ -342,17 +317,17 @@ static bool make_logs(struct bench *b)
 	return true;
 }
 
-/* new NUMBER LEN QUEUES SHARED ROOM BURST BUSY_EVERY BUSY_LIMIT HANG_AFTER */
-static int make_device(u32 j, u32 len, u32 queues, bool shared, u32 room,
-		       const u32 *params)
+static int make_device(struct net_device *none, const u32 *n, const char *rest)
 {
+	u32 j = n[0], queues = n[2];
 	struct net_device *dev;
 	struct bench *b;
 	int err = -ENOMEM;
-	u32 i;
 
 	if (devices[j])
 		return -EEXIST;
+	if (!queues || queues > BENCH_QUEUES)
+		return -EINVAL;
 	dev = alloc_netdev_mqs(sizeof(*b), "lq%d", NET_NAME_ENUM, ether_setup,
 			       queues, 1);
 	if (!dev)
@@ -360,16 +335,15 @@ static int make_device(u32 j, u32 len, u32 queues, bool shared, u32 room,
 	b = netdev_priv(dev);
 	b->number = j;
 	b->queues = queues;
-	b->shared = shared || queues == 1;
-	b->room = room;
+	b->shared = n[3] || queues == 1;
+	b->room = n[4];
 	if (!make_logs(b))
 		goto free;
-	for (i = 0; i < unit_count(b); i++)
-		set_params(&b->unit[i], params);
+	set_params(b, n + 5);
 
 	dev->netdev_ops = &bench_ops;
 	dev->flags |= IFF_NOARP;
-	dev->tx_queue_len = len;
+	dev->tx_queue_len = n[1];
 	dev->max_mtu = ETH_MAX_MTU;
 	dev->mtu = BENCH_MTU;
 	eth_hw_addr_random(dev);
@@ -433,20 +407,26 @@ static void wake_device(struct net_device *dev, bool hard)
 	}
 }
 
+static int kick(struct net_device *dev, const u32 *n, const char *rest)
+{
+	wake_device(dev, n[1]);
+	return 0;
+}
+
 /*
- * card DESCRIPTORS BYTES: with one number as both of its bounds a byte queue
- * limit is that from the first completion on.
+ * With one number as both of its bounds a byte queue limit is that from the
+ * first completion on.
  */
-static int set_card(struct net_device *dev, u32 descriptors, u32 bytes)
+static int set_card(struct net_device *dev, const u32 *n, const char *rest)
 {
 	struct netdev_queue *txq = netdev_get_tx_queue(dev, 0);
 	struct bench *b = netdev_priv(dev);
 
-	b->descriptors = descriptors;
-	b->bytes = bytes;
-	if (bytes) {
-		txq->dql.min_limit = bytes;
-		txq->dql.max_limit = bytes;
+	b->descriptors = n[1];
+	b->bytes = n[2];
+	if (b->bytes) {
+		txq->dql.min_limit = b->bytes;
+		txq->dql.max_limit = b->bytes;
 		local_bh_disable();
 		netdev_tx_sent_queue(txq, 1);
 		netdev_tx_completed_queue(txq, 1, 1);
@@ -455,11 +435,12 @@ static int set_card(struct net_device *dev, u32 descriptors, u32 bytes)
 	return 0;
 }
 
-/* ended FRAMES: so many have left the wire; a driver's poll. */
-static int poll_card(struct net_device *dev, u32 frames)
+/* A driver's poll: so many frames have left the wire. */
+static int poll_card(struct net_device *dev, const u32 *n, const char *rest)
 {
 	struct netdev_queue *txq = netdev_get_tx_queue(dev, 0);
 	struct bench *b = netdev_priv(dev);
+	u32 frames = n[1];
 	u32 bytes = 0;
 	u32 i;
 
@@ -617,8 +598,9 @@ static void say_words(struct net_device *dev, bool marks)
 }
 
 /* L NUMBER UNIT CALLS BUSY ACCEPTED HUNG, and each packet that was accepted */
-static void say_units(struct bench *b)
+static void say_units(struct net_device *dev)
 {
+	struct bench *b = netdev_priv(dev);
 	struct accepted *entry;
 	struct unit *u;
 	u32 i, k;
@@ -636,16 +618,19 @@ static void say_units(struct bench *b)
 	}
 }
 
-/* G NUMBER OVERFLOW WAITS, and each packet that was dropped */
-static void say_drops(struct bench *b)
+/* The units, then G NUMBER OVERFLOW WAITS, and each packet that was dropped */
+static int say_logs(struct net_device *dev, const u32 *n, const char *rest)
 {
+	struct bench *b = netdev_priv(dev);
 	u32 count = atomic_read(&b->dropped);
 	u32 i;
 
+	say_units(dev);
 	say("G %u %d %u", b->number, atomic_read(&b->overflow), b->waits);
 	for (i = 0; i < min(count, b->room); i++)
 		say(" %u/%ps", NUMBER_OF(b->drops[i].mark), b->drops[i].where);
 	say("\n");
+	return 0;
 }
 
 /* Events that a kernel doesn't have as such */
@@ -654,7 +639,7 @@ static void say_drops(struct bench *b)
  * The resize that a change of tx_queue_len does, while the qdisc is active, and
  * then the end of a run.  Nothing else may use the device meanwhile.
  */
-static int resize_live(struct net_device *dev, u32 len)
+static int resize_live(struct net_device *dev, const u32 *n, const char *rest)
 {
 	struct Qdisc *q;
 	int err = 0;
@@ -663,7 +648,7 @@ static int resize_live(struct net_device *dev, u32 len)
 	rtnl_lock();
 	for (i = 0; i < unit_count(netdev_priv(dev)) && !err; i++) {
 		q = qdisc_of(dev, i);
-		err = q->ops->change_tx_queue_len(q, len);
+		err = q->ops->change_tx_queue_len(q, n[1]);
 		if (err)
 			break;
 		local_bh_disable();
@@ -672,30 +657,36 @@ static int resize_live(struct net_device *dev, u32 len)
 		local_bh_enable();
 	}
 	if (!err)
-		dev->tx_queue_len = len;
+		dev->tx_queue_len = n[1];
 	rtnl_unlock();
 	return err;
 }
 
-/* Another device in the place of this one, which is down. */
-static void swap_device(struct net_device *dev, const u32 *params)
+/* Another device in the place of this one, which goes down and up. */
+static int swap_device(struct net_device *dev, const u32 *n, const char *rest)
 {
 	struct bench *b = netdev_priv(dev);
+	int err;
 	u32 i;
 
-	say_units(b);
-	for (i = 0; i < unit_count(b); i++)
-		set_params(&b->unit[i], params);
+	rtnl_lock();
+	dev_close(dev);
+	say_units(dev);
+	set_params(b, n + 1);
 	for (i = 0; i < b->queues; i++)
 		netif_tx_start_queue(netdev_get_tx_queue(dev, i));
+	err = dev_open(dev, NULL);
+	rtnl_unlock();
+	return err;
 }
 
-static void forbid_bypass(struct net_device *dev)
+static int forbid_bypass(struct net_device *dev, const u32 *n, const char *rest)
 {
 	u32 i;
 
 	for (i = 0; i < unit_count(netdev_priv(dev)); i++)
 		qdisc_of(dev, i)->flags &= ~TCQ_F_CAN_BYPASS;
+	return 0;
 }
 
 static bool is_done(struct net_device *dev)
@@ -725,13 +716,13 @@ static bool is_done(struct net_device *dev)
 }
 
 /* Wakes until nothing is held and all is open, but where a unit hangs. */
-static int finish(struct net_device *dev, u32 rounds)
+static int finish(struct net_device *dev, const u32 *n, const char *rest)
 {
 	u32 done = 0;
 	int err = 0;
 
 	while (!err && !is_done(dev)) {
-		if (done++ == rounds)
+		if (done++ == n[1])
 			return -ELOOP;
 		wake_device(dev, false);
 		err = settle(dev);
@@ -740,8 +731,8 @@ static int finish(struct net_device *dev, u32 rounds)
 	return err;
 }
 
-/* receive NUMBER MARK HEX: a frame comes in on the device, as from a wire. */
-static int receive(struct net_device *dev, u32 mark, const char *hex)
+/* A frame comes in on the device, as from a wire. */
+static int receive(struct net_device *dev, const u32 *n, const char *hex)
 {
 	size_t len = strlen(hex) / 2;
 	struct sk_buff *skb = netdev_alloc_skb(dev, len + NET_IP_ALIGN);
@@ -753,7 +744,7 @@ static int receive(struct net_device *dev, u32 mark, const char *hex)
 		kfree_skb(skb);
 		return -EINVAL;
 	}
-	skb->mark = mark;
+	skb->mark = n[1];
 	skb->protocol = eth_type_trans(skb, dev);
 	skb->pkt_type = PACKET_HOST;
 	local_bh_disable();
@@ -764,88 +755,70 @@ static int receive(struct net_device *dev, u32 mark, const char *hex)
 
 /* Commands */
 
-/* Commands after which the words are told. */
-static int tell_after(struct net_device *dev, const char *name, u32 value)
-{
-	bool marks = !strcmp(name, "all_words") || !strcmp(name, "finish");
-	int err = 0;
+enum tells { NOTHING, WORDS, WORDS_AND_MARKS };
 
-	if (!strcmp(name, "finish"))
-		err = finish(dev, value);
-	else if (!strcmp(name, "wake"))
-		wake_device(dev, value);
-	else if (!strcmp(name, "ended"))
-		err = poll_card(dev, value);
+/*
+ * How many numbers a command has, of which the first is the device's, what it
+ * does, and whether the words are told afterwards, once all is quiet.
+ */
+static const struct command {
+	const char *name;
+	int numbers;
+	int (*run)(struct net_device *dev, const u32 *n, const char *rest);
+	enum tells tells;
+} commands[] = {
+	{ "free", 0, retire_devices },
+	/* NUMBER LEN QUEUES SHARED ROOM, and the four params */
+	{ "new", 9, make_device },
+	/* NUMBER DESCRIPTORS BYTES: 0 is no limit */
+	{ "card", 3, set_card },
+	{ "words", 1, NULL, WORDS },
+	{ "all_words", 1, NULL, WORDS_AND_MARKS },
+	/* NUMBER HARD; of several senders "kick", without waiting */
+	{ "wake", 2, kick, WORDS },
+	{ "kick", 2, kick },
+	{ "ended", 2, poll_card, WORDS },
+	{ "finish", 2, finish, WORDS_AND_MARKS },
+	{ "logs", 1, say_logs },
+	{ "no_bypass", 1, forbid_bypass },
+	{ "resize", 2, resize_live },
+	{ "swap", 5, swap_device },
+	/* NUMBER MARK HEX */
+	{ "receive", 2, receive },
+};
+
+static int run_command(const struct command *c, const char *rest)
+{
+	struct net_device *dev;
+	u32 n[9] = { 0 };
+	int err, i, len;
+
+	for (i = 0; i < c->numbers; i++, rest += len)
+		if (sscanf(rest, "%u%n", &n[i], &len) != 1)
+			return -EINVAL;
+	if (n[0] >= BENCH_DEVICES)
+		return -EINVAL;
+	dev = devices[n[0]];
+	if (!dev && c->run != make_device && c->run != retire_devices)
+		return -ENODEV;
+	err = c->run ? c->run(dev, n, skip_spaces(rest)) : 0;
+	if (c->tells == NOTHING)
+		return err;
 	err = err ?: settle(dev);
-	say_words(dev, marks);
+	say_words(dev, c->tells == WORDS_AND_MARKS);
 	return err;
 }
 
-static int on_device(struct net_device *dev, const char *name, char *rest)
+static int command(const char *text)
 {
-	u32 params[4];
-	u32 value = 0;
-	int at;
+	size_t len = strcspn(text, " ");
+	u32 i;
 
-	if (!strcmp(name, "words") || !strcmp(name, "all_words"))
-		return tell_after(dev, name, 0);
-	if ((!strcmp(name, "wake") || !strcmp(name, "finish") ||
-	     !strcmp(name, "ended")) && sscanf(rest, "%u", &value) == 1)
-		return tell_after(dev, name, value);
-	if (!strcmp(name, "card") &&
-	    sscanf(rest, "%u %u", &params[0], &params[1]) == 2)
-		return set_card(dev, params[0], params[1]);
-	/* of several senders: without waiting, and without an answer */
-	if (!strcmp(name, "kick") && sscanf(rest, "%u", &value) == 1) {
-		wake_device(dev, value);
-		return 0;
-	}
-	if (!strcmp(name, "logs")) {
-		say_units(netdev_priv(dev));
-		say_drops(netdev_priv(dev));
-		return 0;
-	}
-	if (!strcmp(name, "no_bypass")) {
-		forbid_bypass(dev);
-		return 0;
-	}
-	if (!strcmp(name, "resize") && sscanf(rest, "%u", &value) == 1)
-		return resize_live(dev, value);
-	if (!strcmp(name, "swap") &&
-	    sscanf(rest, "%u %u %u %u", &params[0], &params[1], &params[2],
-		   &params[3]) == 4) {
-		swap_device(dev, params);
-		return 0;
-	}
-	if (!strcmp(name, "receive") && sscanf(rest, "%u %n", &value, &at) == 1)
-		return receive(dev, value, rest + at);
+	for (i = 0; i < ARRAY_SIZE(commands); i++)
+		if (strlen(commands[i].name) == len &&
+		    !strncmp(commands[i].name, text, len))
+			return run_command(&commands[i], text + len);
 	return -EINVAL;
-}
-
-static int command(char *text)
-{
-	u32 j, len, queues, shared, room;
-	u32 params[4];
-	char name[16];
-	int at = 0;
-
-	if (!strcmp(text, "free")) {
-		retire_devices();
-		return 0;
-	}
-	if (sscanf(text, "%15s %u%n", name, &j, &at) != 2 || j >= BENCH_DEVICES)
-		return -EINVAL;
-	if (!strcmp(name, "new")) {
-		if (sscanf(text + at, "%u %u %u %u %u %u %u %u", &len, &queues,
-			   &shared, &room, &params[0], &params[1], &params[2],
-			   &params[3]) != 8 ||
-		    !queues || queues > BENCH_QUEUES)
-			return -EINVAL;
-		return make_device(j, len, queues, shared, room, params);
-	}
-	if (!devices[j])
-		return -ENODEV;
-	return on_device(devices[j], name, skip_spaces(text + at));
 }
 
 static ssize_t bench_write(struct file *file, const char __user *from,
@@ -906,7 +879,7 @@ free:
 static void __exit bench_exit(void)
 {
 	remove_proc_entry("lqtx_bench", NULL);
-	retire_devices();
+	retire_devices(NULL, NULL, NULL);
 	unregister_retired();
 	unregister_trace_kfree_skb(probe_kfree_skb, NULL);
 	tracepoint_synchronize_unregister();

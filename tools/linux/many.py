@@ -4,6 +4,7 @@ import shutil
 import time
 from collections import Counter
 from datetime import datetime, timezone
+from itertools import islice
 from pathlib import Path
 
 from lib import captures, plans
@@ -15,21 +16,21 @@ from linux.plans import Sent, link_plan, random_plan, small_plans, text_of, time
 from linux.wrong import NOT_SHOWN, OF_CARDS, SHOWN
 
 A_BOOT = 2000
-# How many of the plans are tried with each wrong rule.
+# how many of the plans are tried with each wrong rule
 SHARPNESS = 400
 SECONDS_A_PLAN = 3
 # the priority of a guest that works for long
 LOWEST = 19
-
-
 EXAMPLES = Path(__file__).resolve().parent.parent.parent / "examples"
+# the captures of the repository's own plans, by the stems of their names; those of examples/linux have five packets, and the others the loopback's
+CAPTURES = {"link": "link.pcap", "reordered": "linux/four.pcap"}
 
 
 def examples():
     """The repository's own plans of one sender, each over the capture that it is for."""
     for file in sorted(EXAMPLES.glob("**/*.toml")):
         plan = plans.read(file)
-        capture = "link.pcap" if file.stem == "link" else "loopback.pcap" if file.parent == EXAMPLES else "linux/four.pcap" if file.stem == "reordered" else "linux/five.pcap"
+        capture = CAPTURES.get(file.stem, "loopback.pcap" if file.parent == EXAMPLES else "linux/five.pcap")
         if plan.senders == 1:
             yield f"example-{file.stem}", Sent(plan, captures.read(EXAMPLES / capture))
 
@@ -38,13 +39,25 @@ def sent(plan, frames, times=None):
     return Sent(plan, captures.Capture(captures.ethernet(frames, times)))
 
 
+def plans_of_one_sender(seed, count, small, timed, links):
+    """Names, and the packets of a plan. Each kind of random plans begins with the seed."""
+    chance = random.Random(seed)
+    kinds = lambda: chance.choices(["one", "long", "mq", "queues"], [60, 5, 15, 20])[0]
+    yield from examples() if count else []
+    yield from ((f"small-{i}", sent(*of)) for i, of in enumerate(small_plans() if small else []))
+    yield from ((f"{kind}-{i}", sent(*random_plan(chance, kind))) for i in range(count) for kind in [kinds()])
+    for name, number, make in (("timed", timed, timed_plan), ("link", links, link_plan)):
+        chance = random.Random(seed)
+        yield from ((f"{name}-{i}", sent(*make(chance))) for i in range(number))
+
+
 class Many:
     """One series of runs on one kernel; `tell` says what goes on."""
 
     def __init__(self, tools, kernel, image, folder, seed, program, tell):
         self.tools, self.kernel, self.image = tools, kernel, image
         self.folder, self.seed, self.program, self.tell = folder, seed, program, tell
-        self.kinds, self.counts, self.totals, self.fates = {}, Counter(), Counter(), Counter()
+        self.kinds, self.counts, self.totals, self.fates = Counter(), Counter(), Counter(), Counter()
         self.noticed, self.tried = Counter(), Counter()
         self.told, self.classes, self.unexplained = None, (0, 0, []), []
         shutil.rmtree(folder, ignore_errors=True)
@@ -63,52 +76,24 @@ class Many:
         """Keeps what no known cause explains in a folder of its own."""
         folder = self.folder / name
         folder.mkdir()
-        (folder / "plan.toml").write_text(text_of(packets.plan), encoding="utf-8")
+        for file, text in (("plan.toml", text_of(packets.plan)), ("answers", "\n".join(lines) + "\n"), ("difference", "\n".join(said) + "\n")):
+            (folder / file).write_text(text, encoding="utf-8")
         (folder / "capture.pcap").write_bytes(packets.capture.data)
-        (folder / "answers").write_text("\n".join(lines) + "\n", encoding="utf-8")
-        (folder / "difference").write_text("\n".join(said) + "\n", encoding="utf-8")
         self.unexplained.append(str(folder))
 
     # One sender
 
-    def plans_of_one_sender(self, count, small, timed, links):
-        yield from examples() if count else []
-        for i, of in enumerate(small_plans() if small else []):
-            yield f"small-{i}", sent(*of)
-        chance = random.Random(self.seed)
-        for i in range(count):
-            kind = chance.choices(["one", "long", "mq", "queues"], [60, 5, 15, 20])[0]
-            yield f"{kind}-{i}", sent(*random_plan(chance, kind))
-        chance = random.Random(self.seed)
-        for i in range(timed):
-            yield f"timed-{i}", sent(*timed_plan(chance))
-        chance = random.Random(self.seed)
-        for i in range(links):
-            yield f"link-{i}", sent(*link_plan(chance))
-
     def one_sender(self, count, small=True, timed=0, links=0):
-        batch = []
-        for it in self.plans_of_one_sender(count, small, timed, links):
-            batch.append(it)
-            if len(batch) == A_BOOT:
-                self.do_batch(batch)
-                batch = []
-        if batch:
-            self.do_batch(batch)
-
-    def do_batch(self, batch):
-        cases, lines = {}, []
-        for name, packets in batch:
-            cases[name] = packets
-            lines += case_of(name, packets)
-        found = self.boot("boot", lines, len(batch))
-        for name, packets in cases.items():
-            self.judge_one(name, packets, found.get(name))
-        self.tell(f"{sum(self.kinds.values())} plans, {len(self.unexplained)} differences without a known cause")
+        named = plans_of_one_sender(self.seed, count, small, timed, links)
+        while batch := dict(islice(named, A_BOOT)):
+            found = self.boot("boot", [line for name, packets in batch.items() for line in case_of(name, packets)], len(batch))
+            for name, packets in batch.items():
+                self.judge_one(name, packets, found.get(name))
+            self.tell(f"{sum(self.kinds.values())} plans, {len(self.unexplained)} differences without a known cause")
 
     def judge_one(self, name, packets, lines):
         kind = name.split("-")[0]
-        self.kinds[kind] = self.kinds.get(kind, 0) + 1
+        self.kinds[kind] += 1
         if lines is None:
             self.keep(name, packets, [], ["the guest gave no answer"])
             return
@@ -118,7 +103,7 @@ class Many:
             self.counts[kind, "agree"] += 1
         elif verdict.causes:
             fates = "" if verdict.kernel != verdict.here else ", words alone"
-            self.counts[kind, " and ".join(it.name for it in verdict.causes) + fates] += 1
+            self.counts[kind, " and ".join(cause.name for cause in verdict.causes) + fates] += 1
         else:
             self.keep(name, packets, lines, [*answers.faults, *tell_difference(verdict)])
         if verdict.kernel_fates:
@@ -129,7 +114,7 @@ class Many:
 
     def add_totals(self, verdict, packets, lines):
         self.totals["packets"] += len(packets)
-        self.totals["words"] += sum(it.startswith("W ") for it in lines)
+        self.totals["words"] += sum(line.startswith("W ") for line in lines)
         self.totals["soft interrupts"] += verdict.kernel_fates.softirqs
         self.totals["purges that took the bands first"] += verdict.kernel_fates.purged_bands_first
         self.fates.update(line.split(" ")[1] for line in verdict.kernel.splitlines())
@@ -155,32 +140,29 @@ class Many:
     # Classes and several senders
 
     def types_of_service(self):
-        found = self.boot("classes", classes.case_lines(), 17)
-        self.classes = classes.judge(found)
+        self.classes = classes.judge(self.boot("classes", classes.case_lines(), 17))
 
     def several_senders(self, count):
-        chance, cases, lines = random.Random(self.seed), {}, []
-        for i in range(count):
-            packets = cases[f"senders-{i}"] = sent(*together.random_plan(chance))
-            lines += together.case_of(f"senders-{i}", packets)
+        chance = random.Random(self.seed)
+        cases = {f"senders-{i}": sent(*together.random_plan(chance)) for i in range(count)}
+        lines = [line for name, packets in cases.items() for line in together.case_of(name, packets)]
         found = self.boot("senders", lines, 10 * count, processors=3) if cases else {}
         for name, packets in cases.items():
-            it = together.Together(packets, found.get(name, ["! no answer"]))
-            self.kinds["senders"] = self.kinds.get("senders", 0) + 1
-            self.counts["senders", "with each property"] += not it.faults
+            of_run = together.Together(packets, found.get(name, ["! no answer"]))
+            self.kinds["senders"] += 1
+            self.counts["senders", "with each property"] += not of_run.faults
             self.totals["packets of several senders"] += len(packets)
-            self.totals["quiet queues of several senders"] += it.quiet
-            self.totals["packets sent behind one of a higher number"] += it.overtaking
-            self.totals["packets that bulk dequeue took out of their sender's order"] += it.by_bulk
-            if it.faults:
-                self.keep(name, packets, found.get(name, []), it.faults)
+            self.totals["quiet queues of several senders"] += of_run.quiet
+            self.totals["packets sent behind one of a higher number"] += of_run.overtaking
+            self.totals["packets that bulk dequeue took out of their sender's order"] += of_run.by_bulk
+            if of_run.faults:
+                self.keep(name, packets, found.get(name, []), of_run.faults)
         self.tell(f"{count} runs of several senders")
 
     # The summary
 
     def summary(self, began):
-        yield f"{self.told}, dev_weight {self.told.weight}, seed {self.seed}, {datetime.now(timezone.utc):%Y-%m-%d %H:%M} UTC, " \
-              f"{time.time() - began:.0f} s"
+        yield f"{self.told}, dev_weight {self.told.weight}, seed {self.seed}, {datetime.now(timezone.utc):%Y-%m-%d %H:%M} UTC, {time.time() - began:.0f} s"
         for kind, count in self.kinds.items():
             said = ", ".join(f"{number} {what}" for (of, what), number in sorted(self.counts.items()) if of == kind)
             yield f"{kind}: {count} plans; {said}"
@@ -193,9 +175,12 @@ class Many:
         for has_card, rules in ((False, SHOWN), (True, OF_CARDS)):
             if self.tried[has_card]:
                 yield f"wrong rules{' of a card' * has_card}, of {self.tried[has_card]} plans that agree each is noticed in:"
-                yield from (f"  {self.noticed[it]:4}  {it.__doc__}" for it in rules)
+                yield from self.noticed_in(rules)
         if self.tried[False]:
             yield "changed rules that one sender can't show:"
-            yield from (f"  {self.noticed[it]:4}  {it.__doc__}" for it in NOT_SHOWN)
+            yield from self.noticed_in(NOT_SHOWN)
         yield f"differences without a known cause: {len(self.unexplained)}"
-        yield from (f"  kept in {it}" for it in self.unexplained[:50])
+        yield from (f"  kept in {folder}" for folder in self.unexplained[:50])
+
+    def noticed_in(self, rules):
+        return (f"  {self.noticed[rule]:4}  {rule.__doc__}" for rule in rules)

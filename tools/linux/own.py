@@ -39,13 +39,13 @@ def config():
     for name, about in MUST_HAVE.items():
         if about:
             yield f"# {about}"
-        yield from (f"CONFIG_{it}=y" for it in (*BEFORE.get(name, ()), *BROUGHT_BY.get(name, (name,))))
+        yield from (f"CONFIG_{option}=y" for option in (*BEFORE.get(name, ()), *BROUGHT_BY.get(name, (name,))))
 
 
 def lacking(values):
     """What a kernel lacks whose auto.conf has this text."""
     there = {line.partition("=")[0] for line in values.splitlines()}
-    return [f"CONFIG_{it}" for it in MUST_HAVE if f"CONFIG_{it}" not in there]
+    return [f"CONFIG_{name}" for name in MUST_HAVE if f"CONFIG_{name}" not in there]
 
 
 def release_of(image):

@@ -12,20 +12,14 @@ from pathlib import Path
 
 from lib.words import Failed
 
-# A program, and the package that has it.
-PROGRAMS = {
-    "qemu-system-x86_64": "qemu-system-x86",
-    "busybox": "busybox-static",
-    "cpio": "cpio",
-    "gcc": "gcc",
-    "make": "make",
-}
-# What building needs beside programs: a file that shows that it is there, and its package.
+# programs, and the packages that have them
+PROGRAMS = {"qemu-system-x86_64": "qemu-system-x86", "busybox": "busybox-static", "cpio": "cpio", "gcc": "gcc", "make": "make"}
+# what building needs beside programs: a file that shows that it is there, and its package
 FILES = {"/usr/include/stdio.h": "libc6-dev", "/usr/lib/x86_64-linux-gnu/libelf.so.1": "libelf1"}
-# Stands in a folder into which everything was unpacked.
+# stands in a folder into which everything was unpacked
 COMPLETE = "complete"
 HERE = Path(__file__).resolve().parent
-# Where Debian has kernels that are newer than the system's own lists; these are fetched again after a day. What their programs for building need.
+# where Debian has kernels that are newer than the system's own lists; these are fetched again after a day. What their programs for building need
 NEWER = ("unstable", "trixie-backports")
 MIRROR, KEYS = "http://deb.debian.org/debian", "/usr/share/keyrings/debian-archive-keyring.gpg"
 A_DAY = 86_400
@@ -51,22 +45,26 @@ def run(words, folder=None, environment=None):
     return done.stdout
 
 
+def numbers_of(version):
+    return [int(number) for number in re.findall(r"\d+", version)]
+
+
 class Lists:
     """The package lists that apt looks at: the system's, or those of newer releases, which are kept in a folder."""
 
     def __init__(self, folder=None):
         self.words = []
         if folder:
-            room = folder / "apt"
-            for it in ("state/lists/partial", "cache/archives/partial"):
-                (room / it).mkdir(parents=True, exist_ok=True)
-            sources, text = room / "sources.list", "".join(f"deb [signed-by={KEYS}] {MIRROR} {it} main\n" for it in NEWER)
+            room = Path(folder).resolve() / "apt"
+            for part in ("state/lists/partial", "cache/archives/partial"):
+                (room / part).mkdir(parents=True, exist_ok=True)
+            sources, text = room / "sources.list", "".join(f"deb [signed-by={KEYS}] {MIRROR} {suite} main\n" for suite in NEWER)
             is_fresh = sources.exists() and sources.read_text(encoding="utf-8") == text and time.time() - sources.stat().st_mtime < A_DAY
             if not is_fresh:
                 sources.write_text(text, encoding="utf-8")
             options = (f"Dir::State={room}/state", f"Dir::Cache={room}/cache", f"Dir::Etc::sourcelist={sources}", "Dir::Etc::sourceparts=/dev/null",
                        "APT::Sandbox::User=root", "Acquire::Languages=none")  # fmt: skip
-            self.words = [word for it in options for word in ("-o", it)]
+            self.words = [word for option in options for word in ("-o", option)]
             if not is_fresh or not any((room / "state/lists").glob("*_Packages*")):
                 run(["apt-get", *self.words, "update"])
 
@@ -78,60 +76,48 @@ class Lists:
 
 
 def versions_of(line, lists):
-    """The kernels of a line among the lists, oldest first."""
-    names = lists.names(rf"^linux-image-{re.escape(line)}[.][0-9.+a-z-]*-amd64$")
-    plain = [it.removeprefix("linux-image-") for it in names if re.fullmatch(r"linux-image-\d+(\.\d+)*(\+deb\d+)?(-\d+)?-amd64", it)]
-    return sorted(plain, key=lambda it: [int(number) for number in re.findall(r"\d+", it)])
+    """The kernels of a line among the lists, or of all lines, oldest first."""
+    names = lists.names(rf"^linux-image-{re.escape(line) or '[0-9]+[.][0-9]+'}[.][0-9.+a-z-]*-amd64$")
+    plain = [name.removeprefix("linux-image-") for name in names if re.fullmatch(r"linux-image-\d+(\.\d+)*(\+deb\d+)?(-\d+)?-amd64", name)]
+    return sorted(plain, key=numbers_of)
+
+
+def find(word, lists):
+    """The version of a kernel that a word names, a line as 7.2 or a whole version, or None."""
+    whole = [word] if word.endswith("-amd64") and lists.names(f"^linux-image-{re.escape(word)}$") else []
+    return next(reversed(whole or versions_of(word.removesuffix("-amd64"), lists)), None)
 
 
 def named(word, folder, tell):
-    """The version of a kernel that a word names, a line as 7.2 or a whole version, and the lists that have it."""
+    """The version of a kernel that a word names, and the lists that have it."""
     own = Lists()
-    line = word.removesuffix("-amd64")
-    found = [word] if word.endswith("-amd64") and own.names(f"^linux-image-{re.escape(word)}$") else versions_of(line, own)
-    if found:
-        return found[-1], own
+    version = find(word, own)
+    if version:
+        return version, own
     tell(f"the system's package lists have no kernel {word}: looking at those of {' and '.join(NEWER)}")
     newer = Lists(folder)
-    found = [word] if word.endswith("-amd64") and newer.names(f"^linux-image-{re.escape(word)}$") else versions_of(line, newer)
-    if not found:
+    version = find(word, newer)
+    if not version:
         raise Missing(f"no package list has a kernel {word}: neither the system's nor those of {' and '.join(NEWER)}")
-    return found[-1], newer
-
-
-def newest(line):
-    """The newest kernel of a line, as '6.1' or '6.12': the one that the line's own package depends on."""
-    package = "linux-image-amd64" if line == "6.1" else f"linux-image-{line}-amd64"
-    text = run(["apt-cache", "depends", package])
-    found = re.search(r"Depends: linux-image-(\d[^ ]*-amd64)$", text, flags=re.M)
-    if not found or not found[1].startswith(line):
-        raise Missing(f"the package lists have no kernel {line} ({package}); `apt-get update` as root fetches new ones")
-    return found[1]
-
-
-def kernels():
-    """All kernels of the package lists, oldest first."""
-    text = run(["apt-cache", "search", "--names-only", r"^linux-image-[0-9][0-9.+a-z-]*-amd64$"])
-    names = [line.split()[0].removeprefix("linux-image-") for line in text.splitlines()]
-    plain = [it for it in names if re.fullmatch(r"\d+\.\d+\.\d[0-9.+a-z]*(-\d+)?-amd64", it)]
-    return sorted(plain, key=lambda it: [int(number) for number in re.findall(r"\d+", it)])
+    return version, newer
 
 
 def fetch(names, folder, lists=Lists()):
-    """Downloads packages and unpacks them into a folder. Where one can't be had, apt's words name it."""
+    """Downloads packages and unpacks them into a folder; answers their files' names. Where one can't be had, apt's words name it."""
     kept = folder / "packages"
     kept.mkdir(parents=True, exist_ok=True)
     run(["apt-get", *lists.words, "download", *names], folder=kept)
-    for package in sorted(kept.glob("*.deb")):
+    packages = sorted(kept.glob("*.deb"))
+    for package in packages:
         run(["dpkg-deb", "-x", str(package), str(folder / "root")])
         package.unlink()
     kept.rmdir()
+    return [package.name for package in packages]
 
 
 def not_installed(names):
     """The packages that an installation of these would bring, in apt's order."""
-    text = run(["apt-get", "install", "--simulate", "--no-install-recommends", *names])
-    return re.findall(r"^Inst (\S+)", text, flags=re.M)
+    return re.findall(r"^Inst (\S+)", run(["apt-get", "install", "--simulate", "--no-install-recommends", *names]), flags=re.M)
 
 
 PT_INTERP = 3
@@ -167,13 +153,13 @@ class Tools:
         return os.path.exists(file) or (self.root / file.lstrip("/")).exists()
 
     def _folders(self, *below):
-        return [str(self.root / it) for it in below if (self.root / it).is_dir()]
+        return [str(self.root / name) for name in below if (self.root / name).is_dir()]
 
     def _found(self, name):
         # the guest needs a static one: Debian's busybox-static, or else the one that was fetched
         if name == "busybox":
-            places = [shutil.which(name), *(f"{it}/{name}" for it in self._folders("bin", "usr/bin"))]
-            return next((it for it in places if it and os.path.exists(it) and is_static(it)), None)
+            places = [shutil.which(name), *(f"{folder}/{name}" for folder in self._folders("bin", "usr/bin"))]
+            return next((place for place in places if place and os.path.exists(place) and is_static(place)), None)
         return shutil.which(name, path=self.environment()["PATH"])
 
     def path(self, name):
@@ -208,7 +194,7 @@ class Kernel:
             tell(f"fetching the kernel {version} and its headers")
             below = re.findall(r"Depends: (linux-(?:headers|kbuild)-\S+)", self.lists.ask("depends", f"linux-headers-{version}"))
             apart = re.findall(r"Depends: (linux-(?:binary|modules)-\S+)", self.lists.ask("depends", f"linux-image-{version}"))
-            parts = [it for it in apart if not (alone and "-modules-" in it)]
+            parts = [part for part in apart if not (alone and "-modules-" in part)]
             fetch([*(parts or [f"linux-image-{version}"]), f"linux-headers-{version}", *below], self.root.parent, self.lists)
             self._mend_headers()
             self._mend_programs(tell)
@@ -229,22 +215,20 @@ class Kernel:
 
     def _mend_programs(self, tell):
         """Programs for building that need a newer C library than the system's are called with that library."""
-        programs = [it for it in (self.root / "usr/lib").glob("linux-kbuild-*/**/*") if it.is_file() and it.read_bytes()[:4] == b"\x7fELF"]
-        chosen = next((it for it in programs if it.name == "modpost.real-lsb-64"), None)
+        programs = [file for file in (self.root / "usr/lib").glob("linux-kbuild-*/**/*") if file.is_file() and file.read_bytes()[:4] == b"\x7fELF"]
+        chosen = next((file for file in programs if file.name == "modpost.real-lsb-64"), None)
         if not chosen or b"not found" not in subprocess.run([chosen], capture_output=True, check=False).stderr:
             return
         tell("its programs for building need a newer C library, which is fetched for them")
         fetch(LIBRARIES, self.root.parent / "libraries", self.lists)
         folder = self.root.parent / "libraries/root/usr/lib/x86_64-linux-gnu"
-        names = {it: it.with_name(f"{it.name}.program") for it in programs}
-        for it in programs:
-            it.rename(names[it])
-        for it in programs:
+        names = {file: file.rename(file.with_name(f"{file.name}.program")) for file in programs}
+        for file, own in names.items():
             # some only choose the one for this machine
-            chosen = [it.with_name(f"{it.name}.{kind}") for kind in ("real-x86", "real-lsb-64")]
-            real = next((names[other] for other in chosen if other in names), names[it])
-            it.write_text(f'#!/bin/sh\nexec {folder}/ld-linux-x86-64.so.2 --library-path {folder} "{real}" "$@"\n', encoding="utf-8")
-            it.chmod(0o755)
+            chosen = [file.with_name(f"{file.name}.{kind}") for kind in ("real-x86", "real-lsb-64")]
+            real = next((names[other] for other in chosen if other in names), own)
+            file.write_text(f'#!/bin/sh\nexec {folder}/ld-linux-x86-64.so.2 --library-path {folder} "{real}" "$@"\n', encoding="utf-8")
+            file.chmod(0o755)
 
     def compiler(self):
         """What kbuild is told of the compiler: a kernel that was built by another one names options that the host's may not know."""
@@ -261,4 +245,4 @@ class Kernel:
 
     def modules(self):
         # the newer packages have no folder /lib of their own
-        return next(it for it in (self.root / "lib/modules", self.root / "usr/lib/modules") if it.is_dir()) / self.version
+        return next(folder for folder in (self.root / "lib/modules", self.root / "usr/lib/modules") if folder.is_dir()) / self.version

@@ -1,4 +1,5 @@
 """What a kernel is given of a plan and its capture; and plans and captures at random."""
+import struct
 import zlib
 from itertools import product
 
@@ -36,8 +37,8 @@ class Sent(Places):
         self.frames = [bytes(capture.data[at : at + min(captured, LONGEST)]).ljust(SHORTEST, b"\0") for at, captured in zip(of.frames, of.captured)]
         if self.card:
             self.frames = list(map(of_length, self.frames, frame_lengths(capture)))
-        self.parents = [at for at, it in enumerate(plan.station) for _ in range(it.mq)]
-        self.firsts = [it[0] for it in plan.children]
+        self.parents = [at for at, station in enumerate(plan.station) for _ in range(station.mq)]
+        self.firsts = [children[0] for children in plan.children]
 
     def checksum(self, n):
         return zlib.crc32(self.frames[n])
@@ -57,16 +58,20 @@ def of_length(frame, length):
 
 def text_of(plan):
     """The text of a plan."""
-    told = lambda it: {name: value for name, value in it._asdict().items() if value != it._field_defaults[name]}  # noqa: E731
+
+
+    def told(part):
+        return {name: value for name, value in part._asdict().items() if value != part._field_defaults[name]}
+
     stations, events = list(map(told, plan.station)), list(map(told, plan.event))
-    for number, it in enumerate(plan.station):
-        stations[number]["max_len"] = max([it.len, *(event.len for event in plan.event if event.station == number and event.len)])
+    for number, station in enumerate(plan.station):
+        stations[number]["max_len"] = max([station.len, *(event.len for event in plan.event if event.station == number and event.len)])
     return plans.text_of({**told(plan), "version": least_version(plan), "station": stations, "event": events})
 
 
 def least_version(plan):
     """The least version in which a plan can be written, but for the first."""
-    if plan.classify != "tos" or any(it.card for it in plan.station):
+    if plan.classify != "tos" or any(station.card for station in plan.station):
         return 5
     if plan.irq_us is not None or "flow" in (plan.split, plan.spread):
         return 4
@@ -78,8 +83,16 @@ def least_version(plan):
 
 def frame(tos, source, route, number):
     """A frame of 34 bytes, as those that `lqtx gen` makes."""
-    return (bytes.fromhex("0200000000020200000000010800") + bytes([0x45, tos, 0, 0x14]) + (number & 0xFFFF).to_bytes(2, "big")
-            + bytes([0, 0, 0x40, 0xFD, 0, 0, 10, 0, 0, source, 10, 0, 1, route]))
+    header = bytes([0x45, tos, 0, 0x14, number >> 8 & 0xFF, number & 0xFF, 0, 0, 0x40, 0xFD, 0, 0, 10, 0, 0, source, 10, 0, 1, route])
+    return bytes.fromhex("0200000000020200000000010800") + header
+
+
+def checksum(header):
+    """Of a header of IP."""
+    total = sum(struct.unpack(f">{len(header) // 2}H", header))
+    while total >> 16:
+        total = (total & 0xFFFF) + (total >> 16)
+    return total ^ 0xFFFF
 
 
 def odd_frame(chance, frame):
@@ -90,7 +103,7 @@ def odd_frame(chance, frame):
     if kind == 1:
         return frame[:12] + chance.choice([b"\x08\x06", b"\x86\xdd", b"\x88\xa8"]) + frame[14:]
     if kind == 2:
-        return frame[:chance.randint(0, 33)]
+        return frame[: chance.randint(0, 33)]
     return frame + bytes(chance.choice([1, 100, 1466, 3000]))
 
 
@@ -116,7 +129,7 @@ def random_station(chance, kind):
 
 
 def random_events(chance, stations, count):
-    events, active, room, length = [], [True] * len(stations), 16 - sum(it.mq for it in stations), [it.len for it in stations]
+    events, active, room, length = [], [True] * len(stations), 16 - sum(station.mq for station in stations), [station.len for station in stations]
     for before in sorted(chance.randint(0, count + 1) for _ in range(chance.choice([0, 0, 1, 1, 2, 3, 5, 8]))):
         j = chance.randrange(len(stations))
         kind = chance.choice(["down", "resize", "tx_queue_len", "swap"]) if active[j] else "up"
@@ -141,7 +154,7 @@ def random_plan(chance, kind, most=160):
     tos = chance.choice([[0], [0, 8, 16], [0, 8, 16, 24], list(range(0, 256))])
     sources = chance.choice([1, 2, 4, 256])
     frames = [frame(chance.choice(tos), chance.randrange(sources), chance.randrange(256), i) for i in range(count)]
-    frames = [odd_frame(chance, it) if chance.random() < 0.03 else it for it in frames]
+    frames = [odd_frame(chance, whole) if chance.random() < 0.03 else whole for whole in frames]
     return Plan(station=stations, event=random_events(chance, stations, count), irq_every=irq_every), frames
 
 
@@ -164,7 +177,7 @@ def timed_plan(chance):
         times.append(time)
         time = max(0, time + chance.choice([0, 1, -1, 500 * period, 1000 * period, chance.randrange(3000 * period), chance.randrange(9000 * period)]))
     # bytes that would be the ports of UDP
-    frames = [it[:23] + bytes([17]) + it[24:] + chance.randbytes(4) if len(it) == 34 and chance.random() < 0.5 else it for it in frames]
+    frames = [whole[:23] + bytes([17]) + whole[24:] + chance.randbytes(4) if len(whole) == 34 and chance.random() < 0.5 else whole for whole in frames]
     return plan._replace(irq_every=1, irq_us=period, spread=chance.choice(["bytes", "flow", "flow"])), frames, times
 
 

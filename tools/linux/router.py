@@ -21,6 +21,7 @@ from lib.packets import ETHERNET_HEADER, Packets, header_of_frame
 from lib.times import moments_of
 from lib.wire import frame_lengths
 from lib.words import Failed
+from linux.plans import checksum
 
 CANT_BE_HAD, REFUSED = 3, 4
 INSIDE = "BESIDE_LINK_INSIDE"
@@ -75,20 +76,9 @@ def packets_of(capture) -> List[Sent]:
     return found
 
 
-def checksum(header):
-    total = sum(struct.unpack(f">{len(header) // 2}H", header))
-    while total >> 16:
-        total = (total & 0xFFFF) + (total >> 16)
-    return total ^ 0xFFFF
-
-
-def octets(address):
-    return bytes.fromhex(address.replace(":", ""))
-
-
 def head_of(packet, number):
     """The headers of a packet's frame as the router gets it: UDP from an address that has its number, to the sink."""
-    ethernet = octets(MACS["r0"]) + octets(MACS["s0"])
+    ethernet = bytes.fromhex((MACS["r0"] + MACS["s0"]).replace(":", ""))
     if packet.version == 6:
         source = bytes.fromhex("fd770003000000000000000000000000")[:12] + struct.pack(">I", number)
         return ethernet + b"\x86\xdd" + struct.pack(">IHBB", 6 << 28, packet.length - SHORTEST[6], 17, 64) + source + socket.inet_pton(socket.AF_INET6, "fd77:2::2")
@@ -109,7 +99,7 @@ def number_of(head):
 def capture_of(passed):
     """A capture of the heads of frames, with their lengths on the wire."""
     head = struct.pack("<IHHiIII", 0xA1B23C4D, 2, 4, 0, 0, HEAD, 1)
-    records = (struct.pack("<IIII", *divmod(it.time, 10**9), len(it.head), it.length) + it.head for it in passed)
+    records = (struct.pack("<IIII", *divmod(packet.time, 10**9), len(packet.head), packet.length) + packet.head for packet in passed)
     return captures.Capture(head + b"".join(records))
 
 
@@ -164,7 +154,7 @@ def set_queue(rate_kbit, length, longest):
 
 def counts():
     """How many packets wait in the queue, and how many it has dropped."""
-    root = next(it for it in json.loads(run("tc", "-n", "router", "-s", "-j", "qdisc", "show", "dev", "r1")) if it["kind"] == "tbf")
+    root = next(qdisc for qdisc in json.loads(run("tc", "-n", "router", "-s", "-j", "qdisc", "show", "dev", "r1")) if qdisc["kind"] == "tbf")
     return root["qlen"], root["drops"]
 
 
@@ -172,32 +162,32 @@ def counts():
 
 
 def go_into(space):
-    with open(f"/run/netns/{space}", "rb") as it:
-        if ctypes.CDLL(None, use_errno=True).setns(it.fileno(), 0):
+    with open(f"/run/netns/{space}", "rb") as file:
+        if ctypes.CDLL(None, use_errno=True).setns(file.fileno(), 0):
             raise OSError(ctypes.get_errno(), f"setns {space}")
 
 
 def packet_socket(space, device):
     go_into(space)
-    it = socket.socket(socket.AF_PACKET, socket.SOCK_RAW, socket.htons(3))
-    it.bind((device, 3))
-    return it
+    found = socket.socket(socket.AF_PACKET, socket.SOCK_RAW, socket.htons(3))
+    found.bind((device, 3))
+    return found
 
 
 def capture_into(wire, space, device):
     """Captures what comes in on a device until it is told to end; then tells it, and how many packets it hadn't room for."""
-    it = packet_socket(space, device)
+    tap = packet_socket(space, device)
     try:
-        it.setsockopt(socket.SOL_SOCKET, 33, ROOM)  # SO_RCVBUFFORCE
+        tap.setsockopt(socket.SOL_SOCKET, 33, ROOM)  # SO_RCVBUFFORCE
     except OSError:
-        it.setsockopt(socket.SOL_SOCKET, socket.SO_RCVBUF, ROOM)
-    it.setsockopt(socket.SOL_SOCKET, TIMESTAMP_NS, 1)
-    it.settimeout(0.1)
+        tap.setsockopt(socket.SOL_SOCKET, socket.SO_RCVBUF, ROOM)
+    tap.setsockopt(socket.SOL_SOCKET, TIMESTAMP_NS, 1)
+    tap.settimeout(0.1)
     found, buffer = [], bytearray(HEAD)
     wire.send("ready")
     while True:
         try:
-            length, extra, _, address = it.recvmsg_into([buffer], 64, socket.MSG_TRUNC)
+            length, extra, _, address = tap.recvmsg_into([buffer], 64, socket.MSG_TRUNC)
         except TimeoutError:
             if wire.poll():
                 break
@@ -206,13 +196,13 @@ def capture_into(wire, space, device):
         if address[2] == 0 and number is not None:
             seconds, part = struct.unpack("qq", extra[0][2])
             found.append(Passed(seconds * 10**9 + part, number, length, bytes(buffer[:length])))
-    lost = struct.unpack("II", it.getsockopt(263, 6, 8))[1]  # SOL_PACKET, PACKET_STATISTICS
+    lost = struct.unpack("II", tap.getsockopt(263, 6, 8))[1]  # SOL_PACKET, PACKET_STATISTICS
     wire.send((found, lost))
 
 
 def send_all(wire, packets):
     """Sends packets at their moments."""
-    it = packet_socket("source", "s0")
+    source = packet_socket("source", "s0")
     os.sched_setaffinity(0, {max(os.sched_getaffinity(0))})
     frames = [head_of(packet, n).ljust(packet.length, b"\0") for n, packet in enumerate(packets)]
     wire.send("ready")
@@ -221,7 +211,7 @@ def send_all(wire, packets):
         ahead = begin + packet.time - time.monotonic_ns()
         if ahead > 0:
             time.sleep(ahead / 1e9)
-        it.send(frame)
+        source.send(frame)
     wire.send("sent")
 
 
@@ -241,16 +231,16 @@ class Child:
 
 def replay(packets, rate_kbit, length):
     """Sends packets through the router; those that came in, in order, and the numbers of those that went out."""
-    set_queue(rate_kbit, length, max(it.length for it in packets))
-    into, out = (Child(capture_into, *it) for it in (("router", "r0"), ("sink", "k0")))
+    set_queue(rate_kbit, length, max(packet.length for packet in packets))
+    into, out = (Child(capture_into, *end) for end in (("router", "r0"), ("sink", "k0")))
     Child(send_all, packets).hear(60 + (packets[-1].time - packets[0].time) / 1e9 * 2)
     while counts()[0]:
         time.sleep(0.05)
     time.sleep(0.2)
-    for it in (into, out):
-        it.wire.send("end")
-    (came, lost), (went, lost_too) = (it.hear(60) for it in (into, out))
-    gone = {it.number for it in went}
+    for child in (into, out):
+        child.wire.send("end")
+    (came, lost), (went, lost_too) = (child.hear(60) for child in (into, out))
+    gone = {packet.number for packet in went}
     # a few more may be the kernel's own, which reports its multicast groups
     dropped = counts()[1]
     if lost or lost_too or len(came) != len(packets) or len(came) - len(gone) > dropped:

@@ -3,24 +3,25 @@
  * sender CASES ANSWERS: works through cases in the guest, and writes what came
  * of each step.  Frames go out through packet sockets, datagrams through UDP.
  *
- * A case is these lines; J is a device, from 0 to 7:
+ * A case is these lines; J is a device, from 0 to 7.  The steps are those of
+ * the table `forms`, which says what each answers:
  *
  *   case NAME
  *   new J LEN QUEUES SHARED ROOM BURST BUSY_EVERY BUSY_LIMIT HANG_AFTER BYPASS
- *   card J DESCRIPTORS BYTES	the device is a card's from here on
+ *       DESCRIPTORS BYTES	these two are 0 but for a card
  *   ended FRAMES		so many have left each device's wire
- *   send MARK J PRIORITY HEX	sends a frame, and tells the words
- *   wake HARD			wakes each device, and tells the words
- *   down J, up J		takes a device down or up, and tells the words
- *   tx_queue_len J LEN		changes the length, and tells the words
+ *   send J MARK PRIORITY HEX	sends a frame
+ *   wake HARD			wakes each device
+ *   down J, up J		takes a device down or up
+ *   tx_queue_len J LEN		changes the length
  *   resize J LEN		the same while it is active
  *   swap J BURST BUSY_EVERY BUSY_LIMIT HANG_AFTER
  *   finish ROUNDS		wakes each device until nothing is held
  *   address J			gives a device 10.J+1.0.1/24
- *   datagram MARK J TOS HOW	a datagram to 10.J+1.0.2
- *   receive MARK J HEX		a frame comes in on the device
- *   sender K			what follows, until "together", is for sender K
- *   kick HARD			(of several senders) wakes each device
+ *   datagram J MARK TOS HOW	a datagram to 10.J+1.0.2
+ *   receive J MARK HEX		a frame comes in on the device
+ *   sender K			what follows, until "together", is for sender K:
+ *				send, kick HARD, down, up and tx_queue_len
  *   together			the senders run, and the words are told
  *   end			tells the logs, and ends the case
  *
@@ -49,6 +50,7 @@
 #define DEVICES		8
 #define PRIORITIES	64
 #define SENDERS		64
+#define NUMBERS		12
 #define FRAME		2048
 #define LINE		(1 << 16)
 #define ANSWER		(16 << 20)
@@ -57,19 +59,14 @@ struct device {
 	int there;
 	int index;
 	char name[IFNAMSIZ];
-	int sockets[PRIORITIES];
 };
 
-enum kind { SEND, KICK, DOWN, UP, TX_QUEUE_LEN };
-
 struct step {
-	enum kind kind;
-	unsigned int mark;
-	int device;
-	int number;
+	const struct form *form;
+	const char *line;
+	int number[NUMBERS];	/* the first one is the device's, if it has one */
+	const char *hex;	/* what stands behind the numbers */
 	int result;
-	size_t len;
-	unsigned char *frame;
 };
 
 struct sender {
@@ -81,6 +78,7 @@ static struct device devices[DEVICES];
 static struct sender senders[SENDERS];
 static int sender_count;
 static pthread_barrier_t start;
+static __thread int sockets[DEVICES][PRIORITIES];	/* 0: none yet */
 static int control;
 static int plain;
 static char answer[ANSWER];
@@ -115,18 +113,20 @@ static void copy_answer(void)
 	fwrite(answer, 1, len, out);
 }
 
-static void told(int result)
+static void ask(const char *format, int j, int number)
 {
-	fprintf(out, "= %d\n", -result);
-}
-
-static void tell_words(int j, const char *name)
-{
-	int err = tell("%s %d", name, j);
+	int err = tell(format, j, number);
 
 	if (err)
-		fprintf(out, "! %s %d: %d\n", name, j, -err);
+		fprintf(out, "! %s, device %d: %d\n", format, j, -err);
 	copy_answer();
+}
+
+static void ask_each(const char *format, int number)
+{
+	for (int j = 0; j < DEVICES; j++)
+		if (devices[j].there)
+			ask(format, j, number);
 }
 
 /* Devices */
@@ -150,21 +150,31 @@ static int set_up(int j, int up)
 	return ioctl(plain, SIOCSIFFLAGS, &r) < 0 ? -errno : 0;
 }
 
-static int set_tx_queue_len(int j, int len)
+static int step_down(struct step *t)
 {
-	struct ifreq r = request(j);
+	return set_up(t->number[0], 0);
+}
 
-	r.ifr_qlen = len;
+static int step_up(struct step *t)
+{
+	return set_up(t->number[0], 1);
+}
+
+static int step_tx_queue_len(struct step *t)
+{
+	struct ifreq r = request(t->number[0]);
+
+	r.ifr_qlen = t->number[1];
 	return ioctl(plain, SIOCSIFTXQLEN, &r) < 0 ? -errno : 0;
 }
 
-static int set_address(int j)
+static int step_address(struct step *t)
 {
-	struct ifreq r = request(j);
+	struct ifreq r = request(t->number[0]);
 	struct sockaddr_in *a = (struct sockaddr_in *)&r.ifr_addr;
 
 	a->sin_family = AF_INET;
-	a->sin_addr.s_addr = htonl(0x0a000001 + ((j + 1) << 16));
+	a->sin_addr.s_addr = htonl(0x0a000001 + ((t->number[0] + 1) << 16));
 	if (ioctl(plain, SIOCSIFADDR, &r) < 0)
 		return -errno;
 	a->sin_addr.s_addr = htonl(0xffffff00);
@@ -203,16 +213,14 @@ static int set_one_root(int j)
 	return err;
 }
 
-static int make_device(int j, const char *rest)
+static int step_new(struct step *t)
 {
-	int len, queues, shared, room, bypass, at, err;
+	int j = t->number[0], queues = t->number[2], shared = t->number[3];
+	int descriptors = t->number[10], bytes = t->number[11];
+	int err = tell("%s", t->line);
 	struct device *d = &devices[j];
 	struct ifreq r;
 
-	if (sscanf(rest, "%d %d %d %d %*d %*d %*d %*d%n %d", &len, &queues,
-		   &shared, &room, &at, &bypass) != 5)
-		return -EINVAL;
-	err = tell("new %d %.*s", j, at, rest);
 	if (err)
 		return err;
 	if (pread(control, answer, sizeof(answer), 0) < 0 ||
@@ -226,9 +234,12 @@ static int make_device(int j, const char *rest)
 	err = set_up(j, 1);
 	if (!err && shared && queues > 1)
 		err = set_one_root(j);
-	if (!err && !bypass)
+	if (!err && !t->number[9])
 		err = tell("no_bypass %d", j);
-	return err;
+	if (!err && (descriptors || bytes))
+		err = tell("card %d %d %d", j, descriptors, bytes);
+	/* soft interrupts of what came before don't count */
+	return err ? err : tell("words %d", j);
 }
 
 /* Sending */
@@ -240,35 +251,47 @@ static int packet_socket(int j, int priority)
 		.sll_ifindex = devices[j].index,
 	};
 	int room = 1 << 29;
-	int s = socket(AF_PACKET, SOCK_RAW, 0);
+	int *s = &sockets[j][priority];
 
-	if (s < 0 ||
-	    bind(s, (struct sockaddr *)&address, sizeof(address)) ||
-	    setsockopt(s, SOL_SOCKET, SO_SNDBUFFORCE, &room, sizeof(room)) ||
-	    setsockopt(s, SOL_SOCKET, SO_PRIORITY, &priority, sizeof(priority)))
+	if (*s)
+		return *s;
+	*s = socket(AF_PACKET, SOCK_RAW, 0);
+	if (*s < 0 ||
+	    bind(*s, (struct sockaddr *)&address, sizeof(address)) ||
+	    setsockopt(*s, SOL_SOCKET, SO_SNDBUFFORCE, &room, sizeof(room)) ||
+	    setsockopt(*s, SOL_SOCKET, SO_PRIORITY, &priority, sizeof(priority)))
 		die("packet socket");
-	return s;
+	return *s;
 }
 
-static int send_marked(int s, unsigned int mark, void *frame, size_t len)
+static void close_sockets(void)
+{
+	int *s = &sockets[0][0];
+
+	for (int i = 0; i < DEVICES * PRIORITIES; i++)
+		if (s[i])
+			close(s[i]);
+	memset(sockets, 0, sizeof(sockets));
+}
+
+/* Sends bytes with a control message, whose value is an int; type 0: none. */
+static int send_with(int s, struct msghdr message, int level, int type, int value)
 {
 	union {
-		char room[CMSG_SPACE(sizeof(mark))];
+		char room[CMSG_SPACE(sizeof(value))];
 		struct cmsghdr align;
 	} extra;
-	struct iovec piece = { frame, len };
-	struct msghdr message = {
-		.msg_iov = &piece,
-		.msg_iovlen = 1,
-		.msg_control = &extra,
-		.msg_controllen = sizeof(extra),
-	};
-	struct cmsghdr *c = CMSG_FIRSTHDR(&message);
 
-	c->cmsg_level = SOL_SOCKET;
-	c->cmsg_type = SO_MARK;
-	c->cmsg_len = CMSG_LEN(sizeof(mark));
-	memcpy(CMSG_DATA(c), &mark, sizeof(mark));
+	if (type) {
+		message.msg_control = &extra;
+		message.msg_controllen = sizeof(extra);
+		struct cmsghdr *c = CMSG_FIRSTHDR(&message);
+
+		c->cmsg_level = level;
+		c->cmsg_type = type;
+		c->cmsg_len = CMSG_LEN(sizeof(value));
+		memcpy(CMSG_DATA(c), &value, sizeof(value));
+	}
 	return sendmsg(s, &message, 0) < 0 ? -errno : 0;
 }
 
@@ -277,39 +300,26 @@ static int digit(char c)
 	return c <= '9' ? c - '0' : c - 'a' + 10;
 }
 
-static size_t bytes_of(unsigned char *frame, const char *hex)
-{
-	size_t len = 0;
-
-	while (len < FRAME && hex[0] > ' ' && hex[1] > ' ') {
-		frame[len++] = digit(hex[0]) << 4 | digit(hex[1]);
-		hex += 2;
-	}
-	return len;
-}
-
-static int send_frame(unsigned int mark, int j, int priority, const char *hex)
+static int step_send(struct step *t)
 {
 	unsigned char frame[FRAME];
-	int *s = &devices[j].sockets[priority];
+	struct iovec piece = { frame, 0 };
+	struct msghdr message = { .msg_iov = &piece, .msg_iovlen = 1 };
+	int s = packet_socket(t->number[0], t->number[2]);
 
-	if (*s < 0)
-		*s = packet_socket(j, priority);
-	return send_marked(*s, mark, frame, bytes_of(frame, hex));
+	for (const char *hex = t->hex; piece.iov_len < FRAME && hex[0] > ' '; hex += 2)
+		frame[piece.iov_len++] = digit(hex[0]) << 4 | digit(hex[1]);
+	return send_with(s, message, SOL_SOCKET, SO_MARK, t->number[1]);
 }
 
 /* The type of service is the socket's, or one message's. */
-static int send_datagram(unsigned int mark, int j, int tos, int of_message)
+static int step_datagram(struct step *t)
 {
 	struct sockaddr_in to = {
 		.sin_family = AF_INET,
 		.sin_port = htons(9),
-		.sin_addr.s_addr = htonl(0x0a000002 + ((j + 1) << 16)),
+		.sin_addr.s_addr = htonl(0x0a000002 + ((t->number[0] + 1) << 16)),
 	};
-	union {
-		char room[CMSG_SPACE(sizeof(tos))];
-		struct cmsghdr align;
-	} extra;
 	struct iovec piece = { "lqtx", 4 };
 	struct msghdr message = {
 		.msg_name = &to,
@@ -317,105 +327,123 @@ static int send_datagram(unsigned int mark, int j, int tos, int of_message)
 		.msg_iov = &piece,
 		.msg_iovlen = 1,
 	};
-	struct cmsghdr *c;
+	int *mark = &t->number[1], *tos = &t->number[2], of_message = t->number[3];
 	int s = socket(AF_INET, SOCK_DGRAM, 0);
 	int err = 0;
 
-	if (setsockopt(s, SOL_SOCKET, SO_MARK, &mark, sizeof(mark)))
+	if (setsockopt(s, SOL_SOCKET, SO_MARK, mark, sizeof(*mark)) ||
+	    (!of_message && setsockopt(s, IPPROTO_IP, IP_TOS, tos, sizeof(*tos))))
 		err = -errno;
-	if (of_message) {
-		message.msg_control = &extra;
-		message.msg_controllen = sizeof(extra);
-		c = CMSG_FIRSTHDR(&message);
-		c->cmsg_level = IPPROTO_IP;
-		c->cmsg_type = IP_TOS;
-		c->cmsg_len = CMSG_LEN(sizeof(tos));
-		memcpy(CMSG_DATA(c), &tos, sizeof(tos));
-	} else if (setsockopt(s, IPPROTO_IP, IP_TOS, &tos, sizeof(tos))) {
-		err = -errno;
-	}
-	if (sendmsg(s, &message, 0) < 0)
-		err = -errno;
+	err = send_with(s, message, IPPROTO_IP, of_message ? IP_TOS : 0, *tos) ?: err;
 	close(s);
 	return err;
 }
 
-/* Several senders */
-
-static void do_step(struct step *t, int sockets[DEVICES][PRIORITIES])
+/* What the module does with the line as it is. */
+static int step_module(struct step *t)
 {
-	int j;
-
-	switch (t->kind) {
-	case SEND:
-		t->result = send_marked(sockets[t->device][t->number], t->mark,
-					t->frame, t->len);
-		break;
-	case KICK:
-		for (j = 0; j < DEVICES; j++)
-			if (devices[j].there)
-				t->result |= tell("kick %d %d", j, t->number);
-		break;
-	case DOWN:
-	case UP:
-		t->result = set_up(t->device, t->kind == UP);
-		break;
-	case TX_QUEUE_LEN:
-		t->result = set_tx_queue_len(t->device, t->number);
-		break;
-	}
+	return tell("%s", t->line);
 }
+
+static int step_kick(struct step *t)
+{
+	int err = 0;
+
+	for (int j = 0; j < DEVICES; j++)
+		if (devices[j].there)
+			err |= tell("kick %d %d", j, t->number[0]);
+	return err;
+}
+
+/* Steps */
+
+/* A step's numbers, what it does, and what the module is asked behind it. */
+static const struct form {
+	const char *name;
+	int numbers;
+	int (*run)(struct step *t);
+	const char *asks;
+	int of_each;		/* about each device, and not the step's alone */
+} forms[] = {
+	{ "new", 12, step_new, "all_words %d" },
+	{ "send", 3, step_send, "words %d" },
+	{ "wake", 1, NULL, "wake %d %d", 1 },
+	{ "ended", 1, NULL, "ended %d %d", 1 },
+	{ "finish", 1, NULL, "finish %d %d", 1 },
+	{ "kick", 1, step_kick },
+	{ "down", 1, step_down, "all_words %d" },
+	{ "up", 1, step_up, "all_words %d" },
+	{ "tx_queue_len", 2, step_tx_queue_len, "all_words %d" },
+	{ "resize", 2, step_module, "all_words %d" },
+	{ "swap", 5, step_module, "all_words %d" },
+	{ "address", 1, step_address },
+	{ "datagram", 4, step_datagram, "words %d" },
+	{ "receive", 2, step_module, "words %d", 1 },
+	{ NULL }
+};
+
+/* The step that a line is. */
+static struct step read_step(const char *line)
+{
+	struct step t = { .form = forms, .line = line };
+	size_t len = strcspn(line, " ");
+	char *at = (char *)line + len;
+
+	while (t.form->name && (strncmp(t.form->name, line, len) ||
+				t.form->name[len]))
+		t.form++;
+	for (int i = 0; i < t.form->numbers; i++)
+		t.number[i] = strtoul(at, &at, 10);
+	t.hex = at + (*at == ' ');
+	return t;
+}
+
+static void do_line(const char *line)
+{
+	struct step t = read_step(line);
+	const struct form *form = t.form;
+
+	if (!form->name) {
+		fprintf(out, "! no such step: %s\n", line);
+		return;
+	}
+	fprintf(out, "= %d\n", form->run ? -form->run(&t) : 0);
+	if (form->run == step_module)
+		copy_answer();
+	if (form->of_each)
+		ask_each(form->asks, t.number[0]);
+	else if (form->asks)
+		ask(form->asks, t.number[0], 0);
+}
+
+/* Several senders */
 
 static void *run_sender(void *argument)
 {
-	int k = (long)argument, i, j, p;
+	int k = (long)argument;
 	struct sender *me = &senders[k];
-	int (*sockets)[PRIORITIES] = malloc(sizeof(int[DEVICES][PRIORITIES]));
+	struct step *end = me->steps + me->count;
 	cpu_set_t set;
 
 	CPU_ZERO(&set);
 	CPU_SET(k % sysconf(_SC_NPROCESSORS_ONLN), &set);
 	sched_setaffinity(0, sizeof(set), &set);
-	memset(sockets, -1, sizeof(int[DEVICES][PRIORITIES]));
-	for (i = 0; i < me->count; i++) {
-		struct step *t = &me->steps[i];
-
-		if (t->kind == SEND && sockets[t->device][t->number] < 0)
-			sockets[t->device][t->number] =
-				packet_socket(t->device, t->number);
-	}
+	for (struct step *t = me->steps; t < end; t++)
+		if (t->form->run == step_send)
+			packet_socket(t->number[0], t->number[2]);
 	pthread_barrier_wait(&start);
-	for (i = 0; i < me->count; i++)
-		do_step(&me->steps[i], sockets);
-	for (j = 0; j < DEVICES; j++)
-		for (p = 0; p < PRIORITIES; p++)
-			if (sockets[j][p] >= 0)
-				close(sockets[j][p]);
-	free(sockets);
+	for (struct step *t = me->steps; t < end; t++)
+		t->result = t->form->run(t);
+	close_sockets();
 	return NULL;
 }
 
 static void keep_step(struct sender *me, const char *line)
 {
-	struct step t = { .kind = SEND };
-	unsigned char frame[FRAME];
-	int at = 0;
+	struct step t = read_step(strdup(line));
 
-	if (sscanf(line, "send %u %d %d %n", &t.mark, &t.device, &t.number,
-		   &at) == 3) {
-		t.len = bytes_of(frame, line + at);
-		t.frame = memcpy(malloc(t.len), frame, t.len);
-	} else if (sscanf(line, "kick %d", &t.number) == 1) {
-		t.kind = KICK;
-	} else if (sscanf(line, "down %d", &t.device) == 1) {
-		t.kind = DOWN;
-	} else if (sscanf(line, "up %d", &t.device) == 1) {
-		t.kind = UP;
-	} else if (sscanf(line, "tx_queue_len %d %d", &t.device,
-			  &t.number) == 2) {
-		t.kind = TX_QUEUE_LEN;
-	} else {
-		fprintf(out, "! no such step: %s\n", line);
+	if (!t.form->run) {
+		fprintf(out, "! no step of a sender: %s\n", line);
 		return;
 	}
 	if (me->count % 256 == 0)
@@ -424,20 +452,23 @@ static void keep_step(struct sender *me, const char *line)
 	me->steps[me->count++] = t;
 }
 
-static void all_words(void)
+static void tell_results(struct sender *me)
 {
-	int j;
-
-	for (j = 0; j < DEVICES; j++)
-		if (devices[j].there)
-			tell_words(j, "all_words");
+	for (struct step *t = me->steps; t < me->steps + me->count; t++) {
+		if (t->form->run == step_send)
+			fprintf(out, "S %u %d\n", t->number[1] & 0xffffff,
+				-t->result);
+		else if (t->result)
+			fprintf(out, "! %s: %d\n", t->line, -t->result);
+		free((char *)t->line);
+	}
+	me->count = 0;
 }
 
 static void run_together(void)
 {
 	pthread_t threads[SENDERS];
 	long k;
-	int i;
 
 	pthread_barrier_init(&start, NULL, sender_count);
 	for (k = 0; k < sender_count; k++)
@@ -446,143 +477,30 @@ static void run_together(void)
 	for (k = 0; k < sender_count; k++)
 		pthread_join(threads[k], NULL);
 	pthread_barrier_destroy(&start);
-	told(0);
-	for (k = 0; k < sender_count; k++) {
-		for (i = 0; i < senders[k].count; i++) {
-			struct step *t = &senders[k].steps[i];
-
-			if (t->kind == SEND)
-				fprintf(out, "S %u %d\n", t->mark & 0xffffff,
-					-t->result);
-			else if (t->result)
-				fprintf(out, "! step %d: %d\n", t->kind,
-					-t->result);
-			free(t->frame);
-		}
-		senders[k].count = 0;
-	}
+	fprintf(out, "= 0\n");
+	for (k = 0; k < sender_count; k++)
+		tell_results(&senders[k]);
 	sender_count = 0;
-	all_words();
+	ask_each("all_words %d", 0);
 }
 
 /* Cases */
 
 static void end_case(void)
 {
-	int j, p;
-
-	for (j = 0; j < DEVICES; j++) {
+	for (int j = 0; j < DEVICES; j++) {
 		if (!devices[j].there)
 			continue;
-		tell_words(j, "logs");
+		ask("logs %d", j, 0);
 		/* what is held still is dropped here */
 		set_up(j, 0);
-		tell_words(j, "logs");
-		for (p = 0; p < PRIORITIES; p++) {
-			if (devices[j].sockets[p] >= 0)
-				close(devices[j].sockets[p]);
-			devices[j].sockets[p] = -1;
-		}
+		ask("logs %d", j, 0);
 		devices[j].there = 0;
 	}
+	close_sockets();
 	tell("free");
 	fprintf(out, "end\n");
 	fflush(out);
-}
-
-static void every_device(const char *format, int number)
-{
-	int j, err;
-
-	told(0);
-	for (j = 0; j < DEVICES; j++) {
-		if (!devices[j].there)
-			continue;
-		err = tell(format, j, number);
-		if (err)
-			fprintf(out, "! %s: %d\n", format, -err);
-		copy_answer();
-	}
-}
-
-/* Answers whether the line is an event. */
-static int do_event(const char *line)
-{
-	int j, len, err, at = 0;
-
-	if (sscanf(line, "down %d", &j) == 1) {
-		told(set_up(j, 0));
-	} else if (sscanf(line, "up %d", &j) == 1) {
-		told(set_up(j, 1));
-	} else if (sscanf(line, "tx_queue_len %d %d", &j, &len) == 2) {
-		told(set_tx_queue_len(j, len));
-	} else if (sscanf(line, "resize %d %d", &j, &len) == 2) {
-		told(tell("%s", line));
-	} else if (sscanf(line, "swap %d %n", &j, &at) == 1) {
-		told(set_up(j, 0));
-		tell("%s", line);
-		copy_answer();
-		err = set_up(j, 1);
-		if (err)
-			fprintf(out, "! up: %d\n", -err);
-	} else {
-		return 0;
-	}
-	tell_words(j, "all_words");
-	return 1;
-}
-
-/* Answers whether the line is of the classes of packets. */
-static int do_class(const char *line)
-{
-	int j, tos, how, at = 0;
-	unsigned int mark;
-
-	if (sscanf(line, "address %d", &j) == 1) {
-		told(set_address(j));
-	} else if (sscanf(line, "datagram %u %d %d %d", &mark, &j, &tos,
-			  &how) == 4) {
-		told(send_datagram(mark, j, tos, how));
-		tell_words(j, "words");
-	} else if (sscanf(line, "receive %u %d %n", &mark, &j, &at) == 2) {
-		told(tell("receive %d %u %s", j, mark, line + at));
-		for (j = 0; j < DEVICES; j++)
-			if (devices[j].there)
-				tell_words(j, "words");
-	} else {
-		return 0;
-	}
-	return 1;
-}
-
-static void do_line(const char *line)
-{
-	int j, number, at = 0;
-	unsigned int mark;
-
-	if (sscanf(line, "send %u %d %d %n", &mark, &j, &number, &at) == 3) {
-		told(send_frame(mark, j, number, line + at));
-		tell_words(j, "words");
-	} else if (sscanf(line, "wake %d", &number) == 1) {
-		every_device("wake %d %d", number);
-	} else if (sscanf(line, "finish %d", &number) == 1) {
-		every_device("finish %d %d", number);
-	} else if (sscanf(line, "ended %d", &number) == 1) {
-		every_device("ended %d %d", number);
-	} else if (!strncmp(line, "card ", 5)) {
-		number = tell("%s", line);
-		if (number)
-			fprintf(out, "! %s: %d\n", line, -number);
-	} else if (!strncmp(line, "case ", 5)) {
-		fprintf(out, "%s\n", line);
-	} else if (sscanf(line, "new %d %n", &j, &at) == 1) {
-		told(make_device(j, line + at));
-		/* soft interrupts of what came before don't count */
-		tell("words %d", j);
-		tell_words(j, "all_words");
-	} else if (!do_event(line) && !do_class(line)) {
-		fprintf(out, "! no such step: %s\n", line);
-	}
 }
 
 int main(int argc, char **argv)
@@ -598,9 +516,6 @@ int main(int argc, char **argv)
 	if (!in || !out || control < 0 || plain < 0)
 		die("sender");
 	setvbuf(out, NULL, _IOFBF, 1 << 20);
-	memset(devices, -1, sizeof(devices));
-	for (k = 0; k < DEVICES; k++)
-		devices[k].there = 0;
 	while (fgets(line, LINE, in)) {
 		line[strcspn(line, "\n")] = 0;
 		if (sscanf(line, "sender %d", &k) == 1 && k >= 0 &&
@@ -613,6 +528,8 @@ int main(int argc, char **argv)
 			current = -1;
 		} else if (!strcmp(line, "end")) {
 			end_case();
+		} else if (!strncmp(line, "case ", 5)) {
+			fprintf(out, "%s\n", line);
 		} else if (current >= 0) {
 			keep_step(&senders[current], line);
 		} else {

@@ -34,7 +34,7 @@ def symbols_of(text):
 
 def places_of_missed(text):
     """Where a disassembled function sets MISSED."""
-    return [int(it, 16) for it in SETS_MISSED.findall(text)]
+    return [int(address, 16) for address in SETS_MISSED.findall(text)]
 
 
 class Places:
@@ -45,12 +45,12 @@ class Places:
         if not (map_file.is_file() and image.is_file()):
             raise Missing(f"{folder} has no System.map and vmlinux: it is the folder in which the kernel was built")
         symbols = symbols_of(map_file.read_text(encoding="ascii"))
-        for it in (TRANSMIT, RUN):
-            if it not in symbols:
-                raise Missing(f"{map_file} has no {it}")
+        for name in (TRANSMIT, RUN):
+            if name not in symbols:
+                raise Missing(f"{map_file} has no {name}")
         self.transmit, self.run, self.missed = symbols[TRANSMIT], symbols[RUN], []
-        for start in (symbols[it] for it in (TRANSMIT, BEGIN) if it in symbols):
-            stop = min(it for it in symbols.values() if it > start)
+        for start in (symbols[name] for name in (TRANSMIT, BEGIN) if name in symbols):
+            stop = min(address for address in symbols.values() if address > start)
             self.missed += places_of_missed(run(["objdump", "-d", "--no-show-raw-insn", f"--start-address={start}", f"--stop-address={stop}", str(image)]))
         if not self.missed:
             raise Missing(f"{image} sets no MISSED in {TRANSMIT} and {BEGIN}")
@@ -102,12 +102,12 @@ class Debugger:
 
     def go(self, processors, places):
         """Lets processors go on until one comes to one of these places, and answers its number."""
-        for it in places:
-            self.ask(f"Z1,{it:x},1")
-        self.send("vCont;" + ";".join(f"c:{it}" for it in processors) if processors else "vCont;c")
+        for place in places:
+            self.ask(f"Z1,{place:x},1")
+        self.send("vCont;" + ";".join(f"c:{processor}" for processor in processors) if processors else "vCont;c")
         stopped = re.search(r"thread:(?:p\w+\.)?(\w+);", self.answer())
-        for it in places:
-            self.ask(f"z1,{it:x},1")
+        for place in places:
+            self.ask(f"z1,{place:x},1")
         return int(stopped[1], 16)
 
     def leave(self):
@@ -118,10 +118,10 @@ class Debugger:
 
 def make_order(path, places, processors, patience=300):
     """Makes the order, and lets the guest go on."""
-    it = Debugger(path, patience)
-    sent = it.top_of_stack(it.go((), [places.transmit]))
-    first = it.go((), [places.run])
-    it.go([first], [it.top_of_stack(first)])
-    it.go([other for other in range(1, processors + 1) if other != first], places.missed)
-    it.go([first], [sent])
-    it.leave()
+    guest = Debugger(path, patience)
+    sent = guest.top_of_stack(guest.go((), [places.transmit]))
+    first = guest.go((), [places.run])
+    guest.go([first], [guest.top_of_stack(first)])
+    guest.go([other for other in range(1, processors + 1) if other != first], places.missed)
+    guest.go([first], [sent])
+    guest.leave()

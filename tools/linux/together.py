@@ -4,13 +4,13 @@ from collections import Counter
 from lib.alone import DEACTIVATED, SCHED
 from lib.places import steps_of
 from lib.plans import Event, Plan, Station
-from linux.cases import Answers, event_line, new_line, read_words, send_line
+from linux.cases import Answers, event_line, marks_of, new_line, read_words, send_line
 from linux.plans import Refused, frame, params, random_length
 
 
 def case_of(name, packets):
     plan = packets.plan
-    if any(it.kind in ("resize", "swap") for it in plan.event):
+    if any(event.kind in ("resize", "swap") for event in plan.event):
         raise Refused("a kernel has no live resize and no swap of a device beside running senders; with several senders a "
                       "plan may have down, up and tx_queue_len")
     yield f"case {name}"
@@ -33,12 +33,12 @@ class Together:
 
     def __init__(self, packets, lines):
         self.plan, self.packets = packets.plan, packets
-        self.results = {int(it.split()[1]): int(it.split()[2]) for it in lines if it.startswith("S ")}
-        answers = Answers([it for it in lines if not it.startswith("S ")])
+        self.results = {int(n): int(result) for n, result in (line.split(" ")[1:] for line in lines if line.startswith("S "))}
+        answers = Answers([line for line in lines if not line.startswith("S ")])
         self.faults, self.counts, self.quiet, self.overtaking = list(answers.faults), Counter(), 0, 0
         self.by_bulk, self.left = 0, []
-        self.sent = [[int(it.split("/")[0]) for it in line.split(" ")[7:]] for line in answers.last]
-        self.drops = [n for it in answers.drops.values() for n, _ in it]
+        self.sent = [[int(number) for number, *_ in marks_of(line)] for line in answers.last]
+        self.dropped = Counter(n for drops in answers.drops.values() for n, _ in drops)
         self.judge_fates()
         self.judge_order()
         for step in answers.steps[-2:]:
@@ -46,14 +46,14 @@ class Together:
         self.faults += self.left
 
     def judge_fates(self):
-        sent, dropped = Counter(n for it in self.sent for n in it), Counter(self.drops)
+        sent, dropped = Counter(n for serials in self.sent for n in serials), self.dropped
         for n in range(len(self.packets)):
             result = self.results.get(n)
             # a packet that meets the qdisc of a device that goes down is dropped, and its sender isn't told
             allowed = {0: [(1, 0), (0, 1)], 105: [(0, 1)], 100: [(0, 0)]}.get(result, [])
             if (sent[n], dropped[n]) not in allowed:
                 self.faults.append(f"packet {n}: result {result}, sent {sent[n]} times and dropped {dropped[n]} times")
-            self.counts["sent" if sent[n] else "refused" if result == 100 else "full" if result == 105 else "purged"] += 1
+            self.counts["sent" if sent[n] else {100: "refused", 105: "full"}.get(result, "purged")] += 1
 
     def judge_order(self):
         for unit, serials in enumerate(self.sent):
@@ -74,14 +74,12 @@ class Together:
         return self.plan.tables[station].queues > 1
 
     def judge_quiet(self, step):
-        for line in step:
-            if not line.startswith("W "):
-                continue
-            it = read_words(line)
-            if it.state & (SCHED | DEACTIVATED) or it.lock or it.stops.strip("0"):
+        for line in (line for line in step if line.startswith("W ")):
+            words = read_words(line)
+            if words.state & (SCHED | DEACTIVATED) or words.lock or words.stops.strip("0"):
                 continue
             self.quiet += 1
-            held = len(it.requeued) + len(it.other_queue) + sum(int(ring["held"]) for ring in it.bands)
+            held = words.held()
             if held:
                 self.left.append(f"a quiet queue holds {held} packet{'s' * (held > 1)}: {line}")
 

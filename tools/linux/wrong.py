@@ -4,168 +4,101 @@ from lib.wire import bytes_of_wire
 from linux.cases import ToldWire, moves_of
 
 
-class QuotaOf63(Station):
-    """the quota is 63"""
-    QUOTA = 63
+def rule(about, of=Station, **changed):
+    """The rules of a station, or of a part of one, with these members in place of its own."""
+    return type("Rule", (of,), {"__doc__": about, **changed})
 
 
-class QuotaOf65(Station):
-    """the quota is 65"""
-    QUOTA = 65
+def batch_of(size, least):
+    return staticmethod(lambda slots: size if slots >= least else 1)
 
 
-class QuotaWithoutMissed(Station):
-    """MISSED isn't set where the quota ends a run"""
-
-    def after_quota(self):
-        pass
+def nothing(station):
+    pass
 
 
-class BatchFrom31(Station):
-    """the batch is 16 from 31 slots on"""
-
-    @staticmethod
-    def batch(size):
-        return 16 if size >= 31 else 1
+def clear_missed(station):
+    station.state &= ~MISSED
 
 
-class BatchOf15(Station):
-    """the batch is 15"""
-
-    @staticmethod
-    def batch(size):
-        return 15 if size >= 32 else 1
+def set_missed_alone(station, queue):
+    station.state &= ~MISSED
+    if station.stops[queue] == OPEN:
+        station.state |= MISSED
 
 
-class EndNotEmptied(Station):
-    """the slots before a ring's end are emptied by the batch alone"""
-
-    class RING(Ring):
-        def empties(self, after):
-            return after - self.tail >= self.batch
+def set_without_clearing(station, queue):
+    station.state |= MISSED if station.stops[queue] == OPEN else DRAINING
 
 
-class NoDraining(Station):
-    """DRAINING isn't set where a queue is stopped"""
-
-    def maybe_clear_missed(self, queue):
-        self.state &= ~MISSED
-        if self.stops[queue] == OPEN:
-            self.state |= MISSED
-
-
-class BusyWithoutMissed(Station):
-    """MISSED isn't set where a packet goes into the requeue slot"""
-
-    def after_busy(self):
-        pass
+def requeue_behind_its_band(station, taken):
+    done = Station.direct_transmit(station, taken)
+    while station.requeued:
+        n = station.requeued.popleft()
+        if station.rings[station.band_of[n]].produce(n) is not None:
+            station.requeued.append(n)
+            break
+    return done
 
 
-class DrainingNotCleared(Station):
-    """DRAINING isn't cleared before the second look at the bands"""
-
-    def clear_before_second_look(self):
-        self.state &= ~MISSED
-
-
-class MissedNotCleared(Station):
-    """MISSED isn't cleared where a queue is stopped"""
-
-    def maybe_clear_missed(self, queue):
-        self.state |= MISSED if self.stops[queue] == OPEN else DRAINING
+def keep_the_last(ring, size, batch):
+    resized, entries = type(ring)(size, batch), ring.entries()
+    kept = max(len(entries) - size, 0)
+    for n in entries[kept:]:
+        resized.produce(n)
+    return resized, entries[:kept]
 
 
-class RunAfterAnyBypass(Station):
-    """a run follows each bypass"""
-
-    def runs_after_bypass(self):
-        return True
-
-
-class RequeuedBehindItsBand(Station):
-    """a packet that the device didn't get goes back to its band"""
-
-    def direct_transmit(self, taken):
-        done = super().direct_transmit(taken)
-        while self.requeued:
-            n = self.requeued.popleft()
-            if self.rings[self.band_of[n]].produce(n) is not None:
-                self.requeued.append(n)
-                break
-        return done
+def keep_the_head(ring, size, batch):
+    resized, gone = Ring.resized(ring, size, batch)
+    if size > ring.size and not resized.held:
+        resized.producer = resized.head = resized.tail = ring.head
+    return resized, gone
 
 
-class ResizeKeepsTheLast(Station):
-    """a resize keeps the last packets"""
-
-    class RING(Ring):
-        def resized(self, size, batch):
-            ring, entries = type(self)(size, batch), self.entries()
-            kept = max(len(entries) - size, 0)
-            for n in entries[kept:]:
-                ring.produce(n)
-            return ring, entries[:kept]
+def always_schedule(station):
+    Station.wake(station)
+    if OPEN in station.stops:
+        station.schedule()
 
 
-class ResizeKeepsTheHead(Station):
-    """a resize to more slots leaves head and tail where they were"""
-
-    class RING(Ring):
-        def resized(self, size, batch):
-            ring, gone = super().resized(size, batch)
-            if size > self.size and not ring.held:
-                ring.producer = ring.head = ring.tail = self.head
-            return ring, gone
+def look_once(station):
+    n = station.first_of_bands()
+    if n is None and station.is_non_empty():
+        station.clear_before_second_look()
+    return n
 
 
-class DownLeavesDraining(Station):
-    """a deactivation leaves DRAINING"""
-
-    def clear_after_purge(self):
-        self.state &= ~MISSED
+def run_unless_full(station, n):
+    if station.enqueue(n):
+        station.run()
 
 
-class BandsBackwards(Station):
-    """the bands are served backwards"""
-    BANDS = (2, 1, 0)
-
-
-class BandsTwoAndThreeChanged(Station):
-    """band 2 is served before band 1"""
-    BANDS = (0, 2, 1)
-
-
-class WakeAlwaysSchedules(Station):
-    """a wake schedules a queue that is open too"""
-
-    def wake(self):
-        super().wake()
-        if OPEN in self.stops:
-            self.schedule()
-
-
-# With one sender these change nothing.
-
-
-class NoSecondLook(Station):
-    """no second look at the bands"""
-
-    def bands_dequeue(self):
-        n = self.first_of_bands()
-        if n is None and self.is_non_empty():
-            self.clear_before_second_look()
-        return n
-
-
-class NoRunAfterFull(Station):
-    """no run where the band was full"""
-
-    def enqueue_and_run(self, n):
-        if self.enqueue(n):
-            self.run()
-
-
-# Of a card.
+SHOWN = [
+    rule("the quota is 63", QUOTA=63),
+    rule("the quota is 65", QUOTA=65),
+    rule("MISSED isn't set where the quota ends a run", after_quota=nothing),
+    rule("the batch is 16 from 31 slots on", batch=batch_of(16, 31)),
+    rule("the batch is 15", batch=batch_of(15, 32)),
+    rule("the slots before a ring's end are emptied by the batch alone", RING=rule("", Ring, empties=lambda ring, after: after - ring.tail >= ring.batch)),
+    rule("DRAINING isn't set where a queue is stopped", maybe_clear_missed=set_missed_alone),
+    rule("MISSED isn't set where a packet goes into the requeue slot", after_busy=nothing),
+    rule("DRAINING isn't cleared before the second look at the bands", clear_before_second_look=clear_missed),
+    rule("MISSED isn't cleared where a queue is stopped", maybe_clear_missed=set_without_clearing),
+    rule("a run follows each bypass", runs_after_bypass=lambda station: True),
+    rule("a packet that the device didn't get goes back to its band", direct_transmit=requeue_behind_its_band),
+    rule("a resize keeps the last packets", RING=rule("", Ring, resized=keep_the_last)),
+    rule("a resize to more slots leaves head and tail where they were", RING=rule("", Ring, resized=keep_the_head)),
+    rule("a deactivation leaves DRAINING", clear_after_purge=clear_missed),
+    rule("the bands are served backwards", BANDS=(2, 1, 0)),
+    rule("band 2 is served before band 1", BANDS=(0, 2, 1)),
+    rule("a wake schedules a queue that is open too", wake=always_schedule),
+]
+# with one sender these change nothing
+NOT_SHOWN = [
+    rule("no second look at the bands", bands_dequeue=look_once),
+    rule("no run where the band was full", enqueue_and_run=run_unless_full),
+]
 
 
 class WrongWire(ToldWire):
@@ -187,25 +120,9 @@ class WrongWire(ToldWire):
             self.open_while_room(0)
 
 
-class OneDescriptorMore(WrongWire):
-    """the ring has one descriptor more"""
-
-    def has_room(self):
-        return super().has_room() or self.card.bql is None and len(self.ring) == self.card.ring
-
-
-class OneByteMore(WrongWire):
-    """one byte more than the limit may be out"""
-
-    def has_room(self):
-        return super().has_room() or self.card.bql is not None and self.bytes == self.card.bql + 1
-
-
-class NoRoomAtTheLimit(WrongWire):
-    """no packet is taken where as many bytes are out as the limit"""
-
-    def has_room(self):
-        return super().has_room() and self.bytes != self.card.bql
+def room(about, has_room):
+    """A wire that takes a packet where it has room by the rules and by the bytes out, or by those alone."""
+    return rule(about, WrongWire, has_room=lambda wire: has_room(wire, WrongWire.has_room(wire)))
 
 
 class BytesOfTheWire(WrongWire):
@@ -213,11 +130,12 @@ class BytesOfTheWire(WrongWire):
 
     def __init__(self, wire, run):
         super().__init__(wire, run)
-        self.lengths = [bytes_of_wire(self.card, it) for it in self.lengths]
+        self.lengths = [bytes_of_wire(self.card, length) for length in self.lengths]
 
 
-SHOWN = [QuotaOf63, QuotaOf65, QuotaWithoutMissed, BatchFrom31, BatchOf15, EndNotEmptied, NoDraining, BusyWithoutMissed,
-         DrainingNotCleared, MissedNotCleared, RunAfterAnyBypass, RequeuedBehindItsBand, ResizeKeepsTheLast, ResizeKeepsTheHead,
-         DownLeavesDraining, BandsBackwards, BandsTwoAndThreeChanged, WakeAlwaysSchedules]
-NOT_SHOWN = [NoSecondLook, NoRunAfterFull]
-OF_CARDS = [OneDescriptorMore, OneByteMore, NoRoomAtTheLimit, BytesOfTheWire]
+OF_CARDS = [
+    room("the ring has one descriptor more", lambda wire, has: has or wire.card.bql is None and len(wire.ring) == wire.card.ring),
+    room("one byte more than the limit may be out", lambda wire, has: has or wire.card.bql is not None and wire.bytes == wire.card.bql + 1),
+    room("no packet is taken where as many bytes are out as the limit", lambda wire, has: has and wire.bytes != wire.card.bql),
+    BytesOfTheWire,
+]

@@ -234,15 +234,15 @@ def inside_calls_missing_packages():
     command = [python, HERE / "inside-calls", "--source", "6.1", "--folder", ROOM / "sources"]
     expect("inside-calls without g++", run(*command, env=environment), 3, "inside-calls: no g++: Debian has it in g++\n")
     (path / "g++").symlink_to("/bin/true")
-    expect("inside-calls without apt-get", run(*command, env=environment), 3, "the package linux-source-6.1 can't be had (no apt-get")
+    expect("inside-calls without apt-get", run(*command, env=environment), 3, "the package linux-source-6.1 can't be had (there is no program 'apt-get'")
     newer = [python, HERE / "inside-calls", "--source", "7.2", "--folder", ROOM / "sources"]
-    expect("inside-calls without apt-get, 7.2", run(*newer, env=environment), 3, "no apt-get, which Debian has")
+    expect("inside-calls without apt-get, 7.2", run(*newer, env=environment), 3, "there is no program 'apt-get', which Debian has")
     (path / "apt-get").write_text("#!/bin/sh\ncase \"$*\" in *update) exit 0 ;; esac\necho 'E: Unable to locate package' >&2\nexit 100\n", encoding="utf-8")
     (path / "apt-cache").write_text("#!/bin/sh\necho 'linux-source-7.4 - Linux'\n", encoding="utf-8")
     for name in ("apt-get", "apt-cache"):
         (path / name).chmod(0o755)
     said = run(*newer, env=environment)
-    expect("inside-calls, a line that isn't offered", said, 3, "Debian's sid and trixie-backports offer no linux-source-7.2 any more; they have linux-source-7.4")
+    expect("inside-calls, a line that isn't offered", said, 3, "Debian's unstable and trixie-backports offer no linux-source-7.2 any more; they have linux-source-7.4")
 
 
 @case
