@@ -6,6 +6,8 @@ form, without MISSED, and the five of crates/lq_run_core/specs/Mistakes.antt. A 
 order of steps means the same on both machines.
 """
 import functools
+import re
+from types import SimpleNamespace
 from typing import NamedTuple, Optional
 
 from orders import python
@@ -15,7 +17,7 @@ from orders import text as steps_text
 MISTAKES = {name: steps_text.edits()[name].about for name in (
     "begin_sets_no_missed", "begin_gives_up_after_one_try", "end_looks_before_it_releases", "missed_cleared_after_the_second_look",
     "draining_set_without_looking_again", "soft_interrupt_gives_up_when_deactivated")}  # fmt: skip
-MOST = 18446744073709551615
+BITS = ("SCHED", "DEACTIVATED", "MISSED", "DRAINING")
 QUOTA = 64
 
 
@@ -25,55 +27,60 @@ class Packet(NamedTuple):
     band: int
 
 
+class Ring(tuple):
+    """A band's packets, first to last."""
+
+    held = property(len)
+
+
 class Qdisc(NamedTuple):
-    """What the seats share."""
+    """What the seats share, by the names of tools/orders/state.h; the requeue slot has its packet, or None."""
 
     len: int
     bypass: bool
-    sched: bool = False
-    deactivated: bool = False
-    missed: bool = False
-    draining: bool = False
-    locked: bool = False
+    SCHED: int = 0
+    DEACTIVATED: int = 0
+    MISSED: int = 0
+    DRAINING: int = 0
+    seqlock: int = 0
     xoff: int = 0
     inside: int = 0
-    bands: tuple = ((), (), ())
-    slot: Optional[Packet] = None
+    ring: tuple = (Ring(), Ring(), Ring())
+    gso_skb: Optional[Packet] = None
     sent: int = 0
     full: int = 0
 
-    @property
-    def non_empty(self):
-        return self.missed or self.draining
+    bands = property(lambda q: q.ring)
+    slot = property(lambda q: q.gso_skb)
+    locked = property(lambda q: bool(q.seqlock))
 
     @property
     def held(self):
-        return sum(map(len, self.bands)) + (self.slot is not None)
+        return sum(ring.held for ring in self.ring) + (self.gso_skb is not None)
 
     @property
     def state(self):
-        return self.sched + 2 * self.deactivated + 4 * self.missed + 8 * self.draining
+        return sum(getattr(self, name) << at for at, name in enumerate(BITS))
 
     def bits(self):
         """The names of the bits that are set."""
-        names = {"SCHED": self.sched, "DEACTIVATED": self.deactivated, "MISSED": self.missed, "DRAINING": self.draining}
-        return " ".join(name for name, it in names.items() if it) or "clear"
+        return " ".join(name for name in BITS if getattr(self, name)) or "clear"
 
 
 class Seat(NamedTuple):
     """Where a seat stands, which is what it does next, and what it remembers there: as the seat of tools/orders/state.h, with its packet."""
 
     at: str = "idle"
-    raised: bool = False
+    raised: int = 0
     band: int = 0
     queue: int = 0
     how: int = 0
     run: int = 0
-    second: bool = False
-    taken: bool = False
-    hung: bool = False
-    was: bool = False
-    found: bool = False
+    second: int = 0
+    taken: int = 0
+    hung: int = 0
+    was: int = 0
+    found: int = 0
     packet: Optional[Packet] = None
 
     @property
@@ -97,37 +104,7 @@ def batch(length):
     return 16 if length >= 32 else 1
 
 
-# WHAT ONE STEP DOES: tools/orders/steps.h says it, in C
-
-
-class Ring:
-    """A band's packets, first to last."""
-
-    __slots__ = ("packets",)
-
-    def __init__(self, packets):
-        self.packets = list(packets)
-
-    @property
-    def held(self):
-        return len(self.packets)
-
-
-class Words:
-    """What the seats share, by the names of steps.h."""
-
-    def __init__(self, q):
-        self.SCHED = self.listed = q.sched
-        self.DEACTIVATED, self.MISSED, self.DRAINING, self.seqlock, self.inside = q.deactivated, q.missed, q.draining, q.locked, q.inside
-        self.slot, self.gso_skb, self.gso_queue, self.hand, self.noop = q.slot, q.slot is not None, 0, 0, 0
-        self.xoff, self.ring = [q.xoff], [Ring(it) for it in q.bands]
-
-
-class Place:
-    """A seat, for its step to change."""
-
-    def __init__(self, seat):
-        self.__dict__.update(seat._asdict())
+# WHAT ONE STEP DOES: tools/orders/steps.h says it, in C, over what tools/orders/state.h has, which is here
 
 
 class Lost(Exception):
@@ -148,28 +125,34 @@ def to(place, at, words):
 
 
 def forget(place):
-    place.band = place.queue = place.how = place.run = 0
-    place.second = place.taken = place.hung = place.was = place.found = False
+    for name in ("band", "queue", "how", "run", "second", "taken", "hung", "was", "found"):
+        setattr(place, name, 0)
+
+
+def with_ring(rings, band, packets):
+    return tuple(Ring(packets) if at == band else ring for at, ring in enumerate(rings))
 
 
 def ring_put(words, place):
-    words.ring[place.band].packets.append(place.packet)
+    words.ring = with_ring(words.ring, place.band, (*words.ring[place.band], place.packet))
 
 
 def ring_take(words, place, band):
-    place.packet = words.ring[band].packets.pop(0)
+    place.packet, *rest = words.ring[band]
+    words.ring = with_ring(words.ring, band, rest)
 
 
 def slot_put(words, place):
-    words.slot, words.gso_skb = place.packet, 1
+    words.gso_skb = place.packet
 
 
 def slot_take(words, place):
-    place.packet, words.slot, words.gso_skb = words.slot, None, 0
+    place.packet, words.gso_skb = words.gso_skb, None
 
 
 QUEUED, DIRECT, INTERRUPT, WAKER, SWAPPER = range(5)  # why a seat is in a call
 ANSWERS = {"plain": 0, "full": 1, "stop": 2, "hang": 3, "busy": 4}
+STARTS = ("send", "softirq", "wake")
 CONSTANTS = {"PLAIN": 0, "FULL": 1, "STOPS": 2, "HANGS": 3, "BUSY": 4, "QUEUED": QUEUED, "DIRECT": DIRECT, "INTERRUPT": INTERRUPT, "WAKER": WAKER, "SWAPPER": SWAPPER,
              "QUEUES": 1, "QUOTA": QUOTA, "WAITS": 0}  # fmt: skip
 
@@ -177,37 +160,30 @@ CONSTANTS = {"PLAIN": 0, "FULL": 1, "STOPS": 2, "HANGS": 3, "BUSY": 4, "QUEUED":
 @functools.lru_cache(maxsize=None)
 def steps_with(mistake):
     """The step of each position, of the right machine or of one with a mistake, and what the steps look up: the length of a ring, and bypass."""
-    text = steps_text.STEPS.read_text(encoding="utf-8")
-    if mistake:
-        text = steps_text.edited(text, steps_text.edits()[mistake])
+    text = steps_text.edited(steps_text.steps(), steps_text.edits()[mistake]) if mistake else steps_text.steps()
     names = steps_text.names()
     room = {**CONSTANTS, **names, "NON_EMPTY": lambda q: q.MISSED or q.DRAINING}
-    room.update({it.__name__: it for it in (to, lost, forget, ring_put, ring_take, slot_put, slot_take)})
+    room.update({function.__name__: function for function in (to, lost, forget, ring_put, ring_take, slot_put, slot_take)})
     exec(compile(python.python_of(text), str(steps_text.STEPS), "exec"), room)
     return {name: room[f"step_{constant}"] for constant, name in names.items() if f"step_{constant}" in room}, room
 
 
-def frozen_words(q, words, before, answer):
-    """The shared words after a step, with what is counted beside them."""
-    sent, full = q.sent + (before == "xmit" and answer != "busy"), q.full + (before == "put" and answer == "full")
-    return Qdisc(q.len, q.bypass, bool(words.SCHED), bool(words.DEACTIVATED), bool(words.MISSED), bool(words.DRAINING), bool(words.seqlock), words.xoff[0], words.inside,
-                 tuple(tuple(it.packets) for it in words.ring), words.slot, min(sent, MOST), min(full, MOST))  # fmt: skip
-
-
-def frozen_seat(place):
-    flags = (bool(it) for it in (place.second, place.taken, place.hung, place.was, place.found))
-    seat = Seat(place.at, bool(place.raised), place.band, place.queue, place.how, place.run, *flags, place.packet)
-    return seat if carries(seat) else seat._replace(packet=None)
+def frozen(kind, scratch):
+    """What a step left of the shared words or of a seat; what no step looks at has no field there."""
+    return kind(**{name: getattr(scratch, name) for name in kind._fields})
 
 
 def stepped(m, i, answer="plain", mistake=None):
     """The machine after a step of a seat that can do it, and what the step did, in words."""
     steps, room = steps_with(mistake)
-    q, words, place = m.qdisc, Words(m.qdisc), Place(m.seats[i])
+    before, q = m.seats[i].at, m.qdisc
+    words, place = SimpleNamespace(**q._asdict(), listed=q.SCHED, gso_queue=0, noop=0), SimpleNamespace(**m.seats[i]._asdict())
     room.update(LEN=q.len, BYPASS=q.bypass, BATCH=batch(q.len))
-    before = place.at
     steps[before](words, place, ANSWERS[answer])
-    return m.with_seat(i, frozen_words(q, words, before, answer), frozen_seat(place)), said
+    words.sent += before == "xmit" and answer != "busy"
+    words.full += before == "put" and answer == "full"
+    seat = frozen(Seat, place)
+    return m.with_seat(i, frozen(Qdisc, words), seat if carries(seat) else seat._replace(packet=None)), said
 
 
 def step(m, i, answer="plain", mistake=None):
@@ -220,16 +196,16 @@ def why_not_step(m, i, answer):
     if answer in ("stop", "hang", "busy"):
         return None if s.at == "xmit" else f"it is at {s.name}, and only at xmit does the device answer {answer}"
     if s.at == "idle":
-        return "it is idle: it can begin " + ", ".join(f"`{i} {it}`" for it in ["send B", "wake"] + ["softirq"] * s.raised)
-    if s.at == "put":
-        there = len(q.bands[s.band])
-        room = f"it is at put, and band {s.band} has {there} of {q.len} packets"
-        if answer == "plain" and there >= q.len:
-            return f"{room}: write `{i} full`"
-        if answer == "full" and there < q.len - batch(q.len):
-            return f"{room}, too few for its slot to be taken: write `{i} step 1`"
-        return None
-    return f"it is at {s.name}, and only at put can a band be full" if answer == "full" else None
+        return "it is idle: it can begin " + ", ".join(f"`{i} {start}`" for start in ["send B", "wake"] + ["softirq"] * s.raised)
+    if s.at != "put":
+        return f"it is at {s.name}, and only at put can a band be full" if answer == "full" else None
+    there = q.ring[s.band].held
+    room = f"it is at put, and band {s.band} has {there} of {q.len} packets"
+    if answer == "plain" and there >= q.len:
+        return f"{room}: write `{i} full`"
+    if answer == "full" and there < q.len - batch(q.len):
+        return f"{room}, too few for its slot to be taken: write `{i} step 1`"
+    return None
 
 
 def why_not_begin(m, i, start):
@@ -243,34 +219,28 @@ def why_not_begin(m, i, start):
 
 def begin(m, i, start, number):
     """The machine after a seat has begun a call: ("send", band), ("softirq",) or ("wake",)."""
-    s = m.seats[i]
-    if start[0] == "send":
-        s = s._replace(at="enter", band=start[1], packet=Packet(number, i, start[1]))
-    elif start[0] == "softirq":
-        s = s._replace(at="enter", how=INTERRUPT, raised=False)
-    else:
-        s = s._replace(at="wake", how=WAKER)
-    return m.with_seat(i, m.qdisc, s)
+    begun = {"send": {"at": "enter", "band": start[-1], "packet": Packet(number, i, start[-1])}, "softirq": {"at": "enter", "how": INTERRUPT, "raised": 0}, "wake": {"at": "wake", "how": WAKER}}
+    return m.with_seat(i, m.qdisc, m.seats[i]._replace(**begun[start[0]]))
 
 
 def may_deactivate(m):
     """Whether a whole deactivation may come here: no call is inside, and the run lock is free."""
-    return not (m.qdisc.deactivated or m.qdisc.inside or m.qdisc.locked)
+    return not (m.qdisc.DEACTIVATED or m.qdisc.inside or m.qdisc.seqlock)
 
 
 def deactivated(m):
     """DEACTIVATED is set, no call is found inside, and all is purged."""
-    return m._replace(qdisc=m.qdisc._replace(deactivated=True, missed=False, draining=False, bands=((), (), ()), slot=None))
+    return m._replace(qdisc=m.qdisc._replace(DEACTIVATED=1, MISSED=0, DRAINING=0, ring=(Ring(),) * 3, gso_skb=None))
 
 
 def activated(m):
-    return m._replace(qdisc=m.qdisc._replace(deactivated=False))
+    return m._replace(qdisc=m.qdisc._replace(DEACTIVATED=0))
 
 
 def is_over(m):
     """No call, no run, none scheduled, no stopped queue, and active: nobody comes of itself."""
     q = m.qdisc
-    return not (q.sched or q.locked or q.xoff or q.inside or q.deactivated) and all(it.at == "idle" and not it.raised for it in m.seats)
+    return not (q.SCHED or q.seqlock or q.xoff or q.inside or q.DEACTIVATED) and all(s.at == "idle" and not s.raised for s in m.seats)
 
 
 # SCHEDULES
@@ -285,16 +255,20 @@ class Fault(Exception):
 
 
 SYNTAX, NO_SEAT, SEAT_WAITS, TOO_LONG = "1 Syntax", "2 NoSeat", "3 SeatWaits", "5 TooLong"
+SETUP = re.compile(r"seats ([1-8]) len ([1-9][0-9]{0,3}) bypass ([01])")
+LINE = re.compile(r"(0|[1-9][0-9]*) (?:(send) ([0-2])|(softirq|wake|full|stop|hang|busy)|(step) ([1-9][0-9]{0,2}|1000))")
 FORMS = "`T send B` (B from 0 to 2), `T softirq`, `T wake`, `T step K` (K from 1 to 1000), `T full`, `T stop`, `T hang`, `T busy`"
-
-
-def number_in(low, high, word):
-    digits = word.isascii() and word.isdigit() and (word == "0" or word[0] != "0")
-    return int(word) if digits and low <= int(word) <= high else None
+# what may be wrong with a line, and a hint
+HINTS = (
+    (r".*\r.*", "the line ends with a carriage return; "),
+    (r" .*|.*  .*|.* ", "there is one space between two words, and none before or after; "),
+    (r".*#.*", "a comment has a line of its own; "),
+    (r"[^ ]* (down|up|swap|resize)( .*)?", "a schedule begins no deactivation, activation, resize or swap; "),
+)
 
 
 def read_schedule(data):
-    """The setup, and for each other line its number, its seat and what it does; a generator, so that faults come in order."""
+    """The setup, and for each other line its number, its seat and what it does, as ("send", 1); a generator, so that faults come in order."""
     if len(data) > 65536:
         raise Fault(TOO_LONG, 0, f"the text has {len(data)} bytes")
     lines = data.decode("latin-1").split("\n")
@@ -303,35 +277,18 @@ def read_schedule(data):
     for number, line in enumerate(lines, 1):
         if not line or line.startswith("#"):
             continue
-        words = line.split(" ")
         if not has_setup:
-            values = [number_in(low, high, words[at]) if len(words) == 6 else None for at, low, high in ((1, 1, 8), (3, 1, 4096), (5, 0, 1))]
-            if None in values or words[::2] != ["seats", "len", "bypass"]:
+            has_setup = SETUP.fullmatch(line)
+            if not has_setup or int(has_setup[2]) > 4096:
                 raise Fault(SYNTAX, number, "the first line is `seats N len L bypass B`, N from 1 to 8, L from 1 to 4096, B 0 or 1")
-            has_setup = True
-            yield number, None, values
+            yield number, None, tuple(map(int, has_setup.groups()))
             continue
-        seat, action = number_in(0, 10**100, words[0]), None
-        if len(words) == 2 and words[1] in ("softirq", "wake"):
-            action = ("begin", (words[1],))
-        elif len(words) == 2 and words[1] in ("full", "stop", "hang", "busy"):
-            action = ("step", words[1], 1)
-        elif len(words) == 3 and words[1] == "send" and number_in(0, 2, words[2]) is not None:
-            action = ("begin", ("send", int(words[2])))
-        elif len(words) == 3 and words[1] == "step" and number_in(1, 1000, words[2]) is not None:
-            action = ("step", "plain", int(words[2]))
-        if seat is None or action is None:
-            hint = ""
-            if "\r" in line:
-                hint = "the line ends with a carriage return; "
-            elif "  " in line or line != line.strip(" "):
-                hint = "there is one space between two words, and none before or after; "
-            elif "#" in line:
-                hint = "a comment has a line of its own; "
-            elif len(words) > 1 and words[1] in ("down", "up", "swap", "resize"):
-                hint = "a schedule begins no deactivation, activation, resize or swap; "
+        found = LINE.fullmatch(line)
+        if not found:
+            hint = next((hint for pattern, hint in HINTS if re.fullmatch(pattern, line, re.S)), "")
             raise Fault(SYNTAX, number, f"{hint}a line is one of {FORMS}")
-        yield number, seat, action
+        seat, *words = filter(None, found.groups())
+        yield number, int(seat), (words[0], *map(int, words[1:]))
     if not has_setup:
         raise Fault(SYNTAX, len(lines) + 1, "there is no first line `seats N len L bypass B`")
 
@@ -346,6 +303,14 @@ class Event(NamedTuple):
     after: Machine
     said: str = ""  # what a step did, in words: {packet} and {band} are its packet's
 
+    @property
+    def is_start(self):
+        return self.what.split()[0] in STARTS
+
+
+def answer_of(what):
+    return "plain" if what == "step" else what
+
 
 def work(data):
     """The events of a schedule on the right machine, each as it is done; raises a Fault where the program refuses it."""
@@ -357,41 +322,39 @@ def work(data):
             continue
         if seat >= len(m.seats):
             raise Fault(NO_SEAT, line, f"there are the seats 0 to {len(m.seats) - 1}")
-        if action[0] == "begin":
-            start = action[1]
-            why = why_not_begin(m, seat, start)
+        words = " ".join(map(str, action))
+        if action[0] in STARTS:
+            why = why_not_begin(m, seat, action)
             if why:
-                raise Fault(SEAT_WAITS, line, f"seat {seat} can't begin `{' '.join(map(str, start))}`: {why}")
-            before, m = m, begin(m, seat, start, sends)
-            sends += start[0] == "send"
-            yield Event(line, seat, " ".join(map(str, start)), before, m)
+                raise Fault(SEAT_WAITS, line, f"seat {seat} can't begin `{words}`: {why}")
+            before, m = m, begin(m, seat, action, sends)
+            sends += action[0] == "send"
+            yield Event(line, seat, words, before, m)
             continue
-        answer, count = action[1:]
+        what, count = action if len(action) > 1 else (action[0], 1)
         for number in range(1, count + 1):
-            why = why_not_step(m, seat, answer)
+            why = why_not_step(m, seat, answer_of(what))
             if why:
-                of = f"step {number} of {count}" if answer == "plain" else f"`{answer}`"
+                of = f"step {number} of {count}" if what == "step" else f"`{what}`"
                 raise Fault(SEAT_WAITS, line, f"seat {seat} can't do {of}: {why}")
-            before, (m, words) = m, stepped(m, seat, answer)
-            yield Event(line, seat, "step" if answer == "plain" else answer, before, m, words)
+            before, (m, words) = m, stepped(m, seat, answer_of(what))
+            yield Event(line, seat, what, before, m, words)
 
 
 def text_of(m, steps):
     """What the program prints of a schedule that it worked."""
     q = m.qdisc
-    lines = [f"steps {steps}", f"state {q.state} lock {int(q.locked)} xoff {q.xoff} inside {q.inside}", f"held {q.held} sent {q.sent} full {q.full}"]
-    return "".join(f"{it}\n" for it in lines + [f"seat {i} {s.name}{' raised' * s.raised}" for i, s in enumerate(m.seats)])
+    lines = [f"steps {steps}", f"state {q.state} lock {q.seqlock} xoff {q.xoff} inside {q.inside}", f"held {q.held} sent {q.sent} full {q.full}"]
+    return "".join(f"{line}\n" for line in lines + [f"seat {i} {s.name}{' raised' * s.raised}" for i, s in enumerate(m.seats)])
 
 
 def trace(data):
     """Exit code and standard output of `lqtx trace`."""
     try:
-        m, steps = None, 0
-        for event in work(data):
-            m, steps = event.after, steps + (event.what in ("step", "full", "stop", "hang", "busy"))
-        return 0, text_of(m, steps)
-    except Fault as it:
-        return 7, f"trace refused: {it.reason} at line {it.line}\n"
+        events = list(work(data))
+    except Fault as fault:
+        return 7, f"trace refused: {fault.reason} at line {fault.line}\n"
+    return 0, text_of(events[-1].after, sum(event.what in ("step", "full", "stop", "hang", "busy") for event in events))
 
 
 # THE SAME ORDER WITH A MISTAKE
@@ -409,14 +372,26 @@ def to_the_end(m, mistake, line=0):
             m = begin(m, raised, ("softirq",), 0)
             yield Event(line, raised, "softirq", before, m)
         else:
-            answer = "full" if why_not_step(m, moving, "plain") else "plain"
-            m, words = stepped(m, moving, answer, mistake)
-            yield Event(line, moving, "step" if answer == "plain" else answer, before, m, words)
+            what = "full" if why_not_step(m, moving, "plain") else "step"
+            m, words = stepped(m, moving, answer_of(what), mistake)
+            yield Event(line, moving, what, before, m, words)
 
 
 def is_same(right, wrong):
     """Whether two machines are in the same state, but for what a mistake remembers."""
     return right.qdisc == wrong.qdisc and all(a.name == b.name and a.raised == b.raised for a, b in zip(right.seats, wrong.seats))
+
+
+def done_again(event, m, mistake):
+    """An event of the right machine on one with a mistake, or None where the seat can't do that there."""
+    i, what = event.seat, event.what
+    if not event.is_start:
+        return None if why_not_step(m, i, answer_of(what)) else Event(event.line, i, what, m, *stepped(m, i, answer_of(what), mistake))
+    name, *band = what.split()
+    if why_not_begin(m, i, (name,)):
+        return None
+    number = event.after.seats[i].packet.number if band else 0
+    return Event(event.line, i, what, m, begin(m, i, (name, *map(int, band)), number))
 
 
 def work_with_mistake(data, mistake):
@@ -426,40 +401,24 @@ def work_with_mistake(data, mistake):
     A schedule begins no deactivation, which the last mistake needs: there one comes before each soft interrupt that begins while
     no call is inside, with its activation after the soft interrupt has loaded DEACTIVATED.
     """
-    wrong, events, parted = None, [], None
+    setup, *right = work(data)
+    wrong, events, parted = setup.after, [setup], None
     with_control = mistake == "soft_interrupt_gives_up_when_deactivated"
-    right_events = list(work(data))
-    for event in right_events:
-        if event.what == "setup":
-            wrong = event.after
-            events.append(event)
-            continue
-        i, line = event.seat, event.line
+    for event in right:
         if with_control and event.what == "softirq" and may_deactivate(wrong):
-            events.append(Event(line, None, "down", wrong, deactivated(wrong)))
+            events.append(Event(event.line, None, "down", wrong, deactivated(wrong)))
             wrong = deactivated(wrong)
-        before, told = wrong, ""
-        if event.what.split()[0] in ("send", "softirq", "wake"):
-            words = event.what.split()
-            number = event.after.seats[i].packet.number if words[0] == "send" else 0
-            if why_not_begin(wrong, i, (words[0],)):
-                continue
-            wrong = begin(wrong, i, (words[0], *map(int, words[1:])), number)
-        else:
-            answer = "plain" if event.what == "step" else event.what
-            if why_not_step(wrong, i, answer):
-                continue
-            wrong, told = stepped(wrong, i, answer, mistake)
-        events.append(Event(line, i, event.what, before, wrong, told))
-        if parted is None and not with_control and not is_same(event.after, wrong):
+        done = done_again(event, wrong, mistake)
+        if done is None:
+            continue
+        events.append(done)
+        wrong, before = done.after, done.before.seats[event.seat]
+        if parted is None and (before.at == "sclear" and before.was if with_control else not is_same(event.after, wrong)):
             parted = len(events) - 1
-        if with_control and before.seats[i].at == "soft" and wrong.qdisc.deactivated:
-            events.append(Event(line, None, "up", wrong, activated(wrong)))
+        if with_control and before.at == "soft" and wrong.qdisc.DEACTIVATED:
+            events.append(Event(event.line, None, "up", wrong, activated(wrong)))
             wrong = activated(wrong)
-        if with_control and parted is None and before.seats[i].at == "sclear" and before.seats[i].was:
-            parted = len(events) - 1
-    events += to_the_end(wrong, mistake)
-    return events, parted
+    return events + list(to_the_end(wrong, mistake)), parted
 
 
 # HOW MANY STEPS MAY STILL COME
@@ -501,7 +460,7 @@ def way(q, s):
         return 6 + (0 if q.held else FIRST_LOOK)
     if s.at.startswith("scan"):
         band = int(s.at[-1])
-        return 3 + (2 - band) + (0 if any(q.bands[band:]) else SECOND_LOOK if s.second else FIRST_LOOK)
+        return 3 + (2 - band) + (0 if any(q.ring[band:]) else SECOND_LOOK if s.second else FIRST_LOOK)
     return WAY[s.at]
 
 
@@ -509,10 +468,10 @@ def left(m):
     """How many steps may still come at most, the starts of soft interrupts among them, if nobody brings a packet or wakes a queue and the device
     is never busy; None where no packet is held or with the holder of the run lock, or the queue isn't open."""
     q = m.qdisc
-    if q.xoff or not (q.held or any(has_lock(it) and carries(it) for it in m.seats)):
+    if q.xoff or not (q.held or any(has_lock(s) and carries(s) for s in m.seats)):
         return None
-    packets = q.held + sum(carries(it) for it in m.seats)
-    return PACKET_PAYS * packets + sum(way(q, it) + INTERRUPT_PAYS * it.raised for it in m.seats)
+    packets = q.held + sum(map(carries, m.seats))
+    return PACKET_PAYS * packets + sum(way(q, s) + INTERRUPT_PAYS * s.raised for s in m.seats)
 
 
 # TELLING A STEP
@@ -521,30 +480,23 @@ def left(m):
 def changes(event):
     """What a step changed, in words."""
     a, b = event.before.qdisc, event.after.qdisc
-    said = []
-    for name in ("sched", "deactivated", "missed", "draining"):
-        if getattr(a, name) != getattr(b, name):
-            said.append(f"{name.upper()} {'set' if getattr(b, name) else 'clear'}")
-    if a.locked != b.locked:
-        said.append("lock taken" if b.locked else "lock free")
+    said = [f"{name} {'set' if getattr(b, name) else 'clear'}" for name in BITS if getattr(a, name) != getattr(b, name)]
+    if a.seqlock != b.seqlock:
+        said.append("lock taken" if b.seqlock else "lock free")
     if a.xoff != b.xoff:
         said.append(f"stop word {b.xoff}")
-    for band in range(3):
-        for it in b.bands[band][len(a.bands[band]) :] if len(b.bands[band]) > len(a.bands[band]) else []:
-            said.append(f"packet {it.number} into band {band}")
-        for it in a.bands[band][: len(a.bands[band]) - len(b.bands[band])]:
-            said.append(f"packet {it.number} out of band {band}")
-    if a.slot != b.slot:
-        said.append(f"packet {b.slot.number} into the requeue slot" if b.slot else f"packet {a.slot.number} out of the requeue slot")
+    for band, (before, after) in enumerate(zip(a.ring, b.ring)):
+        said += [f"packet {packet.number} into band {band}" for packet in after[len(before) :]]
+        said += [f"packet {packet.number} out of band {band}" for packet in before[: len(before) - len(after)] if len(after) < len(before)]
+    if a.gso_skb != b.gso_skb:
+        said.append(f"packet {b.gso_skb.number} into the requeue slot" if b.gso_skb else f"packet {a.gso_skb.number} out of the requeue slot")
     if a.inside != b.inside:
         said.append(f"inside {b.inside}")
-    if a.sent != b.sent:
-        said.append(f"packet {event.before.seats[event.seat].packet.number} sent")
-    if a.full != b.full:
-        said.append(f"packet {event.before.seats[event.seat].packet.number} dropped: full")
-    if event.seat is not None and event.what != "softirq":
-        if event.after.seats[event.seat].raised and not event.before.seats[event.seat].raised:
-            said.append(f"seat {event.seat} raised")
+    for name, words in (("sent", "sent"), ("full", "dropped: full")):
+        if getattr(a, name) != getattr(b, name):
+            said.append(f"packet {event.before.seats[event.seat].packet.number} {words}")
+    if event.seat is not None and event.what != "softirq" and event.after.seats[event.seat].raised and not event.before.seats[event.seat].raised:
+        said.append(f"seat {event.seat} raised")
     return said
 
 
@@ -560,11 +512,11 @@ def sentence(event):
         return "deactivates: sets DEACTIVATED, finds no call inside, purges"
     if event.what == "up":
         return "activates: clears DEACTIVATED"
-    if event.what.split()[0] in ("send", "softirq", "wake"):
+    if event.is_start:
         return "a soft interrupt comes" if event.what == "softirq" else None
     s, t = event.before.seats[event.seat], event.after.seats[event.seat]
-    if s.at in DULL_PLACES or event.said in DULL_WORDS or s.at == "cleard" and not event.before.qdisc.draining:
+    if s.at in DULL_PLACES or event.said in DULL_WORDS or s.at == "cleard" and not event.before.qdisc.DRAINING:
         return None
-    set_bits = " and ".join(name for name, it in (("MISSED", event.before.qdisc.missed), ("DRAINING", event.before.qdisc.draining)) if it)
+    set_bits = " and ".join(name for name in ("MISSED", "DRAINING") if getattr(event.before.qdisc, name))
     packet, words = s.packet or t.packet, event.said.replace("a bit is set", f"{set_bits} set")
     return words.replace("{packet}", f"packet {packet.number}").replace("{band}", str(packet.band)) if packet else words

@@ -1,7 +1,7 @@
 """The steps in JavaScript, made from their text in C: for docs/play.html."""
 import json
 import re
-from typing import Dict, List, Tuple
+from typing import Dict, List
 
 from orders import text
 
@@ -14,65 +14,40 @@ MISTAKES = (
 
 def steps_played() -> str:
     """The text of the steps up to a deactivation, which isn't played."""
-    steps = text.STEPS.read_text(encoding="utf-8")
-    return steps[: steps.index("    /* ---- dev_deactivate_many()")] + "    }\n    return 0;\n}\n"
+    return text.steps().partition("    /* ---- dev_deactivate_many()")[0] + "    }\n    return 0;\n}\n"
 
 
-def converted(lines: List[str]) -> List[str]:
-    """Lines of a C block as JavaScript: of the forms that steps.h uses."""
-    found = []
-    for line in lines:
-        line = line.replace("->", ".")
-        line = re.sub(r"\bint (\w+) =", r"const \1 =", line)
-        line = re.sub(r"\s*/\* .*? \*/", "", line).rstrip()
-        if line.strip() and "(void)" not in line:
-            found.append(line)
-    return found
+def converted(body: str) -> List[str]:
+    """The lines of a C block as JavaScript: of the forms that steps.h uses."""
+    found = re.sub(r"\bint (\w+) =", r"const \1 =", body.replace("->", "."))
+    found = re.sub(r"[ \t]*/\* .*? \*/|^.*\(void\).*$", "", found, flags=re.M)
+    return [line.rstrip() for line in found.splitlines() if line.strip()]
 
 
-def blocks_of(steps: str) -> Dict[str, Tuple[str, List[str]]]:
-    """The functions and the cases of a text: of each its parameters, and the lines of its body."""
-    found: Dict[str, Tuple[str, List[str]]] = {}
-    for it in re.finditer(r"^static int (\w+)\(([^)]*)\)\n\{\n(.*?)^\}", steps, re.M | re.S):
-        if it[1] != "step":
-            names = ", ".join(re.findall(r"(\w+)(?:,|$)", it[2]))
-            found[it[1]] = names, it[3].splitlines()
-    body = steps[steps.index("static int step(") :]
-    for it in re.finditer(r"^    case (\w+):[^\n]*\n(.*?)(?=^    case |^    /\* ----|^    \}$)", body, re.M | re.S):
-        found[it[1]] = "q, s, answer", [line[4:] for line in it[2].splitlines()]
-    return found
-
-
-def block_lines(name: str, right: Dict[str, Tuple[str, List[str]]], wrong: Dict[str, Dict[str, Tuple[str, List[str]]]]) -> List[str]:
-    """The body of a function or case; where a mistake changes it, the changed body comes first."""
-    lines = []
+def function_lines(right: text.Block, wrong: Dict[str, Dict[str, text.Block]]) -> List[str]:
+    """A function, or that of a position; where a mistake changes its body, the changed one comes first."""
+    cut = 4 * right.is_case
+    lines = [f"[{right.name}]({right.parameters}) {{" if right.is_case else f"function {right.name}({right.parameters}) {{"]
     for mistake, blocks in wrong.items():
-        if blocks[name] != right[name]:
-            lines += [f'    if (mistake === "{mistake}") {{', *("    " + it for it in converted(blocks[name][1])), "    }"]
-    return lines + converted(right[name][1])
+        if blocks[right.name] != right:
+            lines += [f'    if (mistake === "{mistake}") {{', *("    " + line[cut:] for line in converted(blocks[right.name].body)), "    }"]
+    return lines + [line[cut:] for line in converted(right.body)] + ["}," if right.is_case else "}"]
 
 
 def machine() -> str:
     """Constants, functions, and a function for each position."""
-    steps = steps_played()
-    right = blocks_of(steps)
-    wrong = {name: blocks_of(text.edited(steps, text.edits()[name])) for name in MISTAKES}
-    names = text.names()
-    used = [it for it in names if it in right or it == "IDLE"]
-    lines = ["const " + ", ".join(f'{it} = "{names[it]}"' for it in used) + ";", "const NON_EMPTY = q => q.MISSED || q.DRAINING;"]
-    for name, (parameters, _) in right.items():
-        if name not in names:
-            lines += [f"function {name}({parameters}) {{", *block_lines(name, right, wrong), "}"]
-    lines.append("const steps = {")
-    for name, (parameters, _) in right.items():
-        if name in names:
-            lines += [f"[{name}]({parameters}) {{", *block_lines(name, right, wrong), "},"]
-    return "\n".join(lines + ["};"])
+    steps, edits, names = steps_played(), text.edits(), text.names()
+    right = text.blocks(steps)
+    wrong = {name: {block.name: block for block in text.blocks(text.edited(steps, edits[name]))} for name in MISTAKES}
+    used = [name for name in names if name == "IDLE" or any(block.name == name for block in right)]
+    lines = ["const " + ", ".join(f'{name} = "{names[name]}"' for name in used) + ";", "const NON_EMPTY = q => q.MISSED || q.DRAINING;"]
+    functions = {is_case: [line for block in right if block.is_case == is_case for line in function_lines(block, wrong)] for is_case in (False, True)}
+    return "\n".join([*lines, *functions[False], "const steps = {", *functions[True], "};"])
 
 
 def table() -> str:
     """What each position does, and the kernel's call, by its name."""
-    return json.dumps({it.name: [it.does, it.function, it.kernel] for it in text.positions(steps_played())}, indent=0, ensure_ascii=False)
+    return json.dumps({place.name: [place.does, place.function, place.kernel] for place in text.positions(steps_played())}, indent=0, ensure_ascii=False)
 
 
 def mistakes() -> str:

@@ -11,6 +11,10 @@ class Fault(Exception):
     """Why a text of steps, or a change of it, can't be used."""
 
 
+def steps() -> str:
+    return STEPS.read_text(encoding="utf-8")
+
+
 # CHANGES THAT HAVE A NAME
 
 
@@ -31,30 +35,15 @@ class Edit(NamedTuple):
 
 
 def edits() -> Dict[str, Edit]:
-    found: Dict[str, Edit] = {}
-    name, where, old, new = "", "", [], []
-
-    def end_hunk():
-        if old or new:
-            found[name] = found[name]._replace(hunks=found[name].hunks + (Hunk(where, tuple(old), tuple(it for it in new if it)),))
-            old.clear()
-            new.clear()
-
-    for line in EDITS.read_text(encoding="utf-8").splitlines():
-        if line.startswith("-"):
-            if new:
-                end_hunk()
-            old.append(line[1:])
-        elif line.startswith("+"):
-            new.append(line[1:])
-        else:
-            end_hunk()
-            if line.startswith("@ "):
-                where = line[2:]
-            elif line and not line.startswith("#"):
-                name, about = line.split(": ", 1)
-                found[name] = Edit(name, about, ())
-    end_hunk()
+    found = {}
+    for part in re.split(r"\n\n+", EDITS.read_text(encoding="utf-8").strip()):
+        if part.startswith("#"):
+            continue
+        head, *places = re.split(r"^@ (.*)\n", part + "\n", flags=re.M)
+        name, about = head.strip().split(": ", 1)
+        changes = [(where, *pair) for where, body in zip(places[::2], places[1::2]) for pair in re.findall(r"((?:-.*\n)+)((?:\+.*\n)*)", body)]
+        hunks = tuple(Hunk(where, *(tuple(line[1:] for line in lines.splitlines() if line[1:]) for lines in pair)) for where, *pair in changes)
+        found[name] = Edit(name, about, hunks)
     return found
 
 
@@ -81,7 +70,32 @@ def edited(text: str, edit: Edit) -> str:
     return "\n".join(lines)
 
 
-# POSITIONS
+# FUNCTIONS AND POSITIONS
+
+
+class Block(NamedTuple):
+    """A function of the text, or the case of a position; of a case what its comment says, and the line above it with the kernel's function."""
+
+    name: str
+    parameters: str
+    body: str
+    is_case: bool = False
+    comment: str = ""
+    section: str = ""
+
+
+def blocks(text: str) -> List[Block]:
+    found = []
+    for name, parameters, body in re.findall(r"^static int (\w+)\(([^)]*)\)\n\{\n(.*?)^\}", text, re.M | re.S):
+        if name != "step":
+            found.append(Block(name, ", ".join(re.findall(r"(\w+)(?:,|$)", parameters)), body))
+    section = ""
+    step = text[text.index("static int step(") :]
+    for title, name, comment, body in re.findall(r"^    (?:/\* ---- (.*?) ---- \*/\n|case (\w+):\s*(?:/\* (.*?) \*/)?(.*?)(?=^    case |^    /\* ----|^    \}$))", step, re.M | re.S):
+        section = title or section
+        if name:
+            found.append(Block(name, "q, s, answer", body, True, comment, section))
+    return found
 
 
 class Lead(NamedTuple):
@@ -94,7 +108,6 @@ class Lead(NamedTuple):
 class Position(NamedTuple):
     """A place where a seat may be: what its next step does, what the kernel has there, and where it leads."""
 
-    constant: str
     name: str
     does: str
     kernel: str
@@ -108,38 +121,32 @@ def names() -> Dict[str, str]:
     return dict(re.findall(r'P\((\w+), "([^"]*)"\)', STATE.read_text(encoding="utf-8")))
 
 
-def leads_of(block: str, functions: Dict[str, str], known: Dict[str, str], words: str = "") -> List[Lead]:
+def leads_of(body: str, functions: Dict[str, str], known: Dict[str, str], words: str = "") -> List[Lead]:
     """The positions that a block of the text names in to(), and those of the functions that it calls, with what happened."""
     found = []
-    for call in re.finditer(r"\b(\w+)\(((?:[^()\"]|\"[^\"]*\"|\([^()]*\))*)\)", block):
-        name, arguments = call[1], call[2]
+    for name, arguments in re.findall(r"\b(\w+)\(((?:[^()\"]|\"[^\"]*\"|\([^()]*\))*)\)", body):
         said = re.findall(r'"([^"]*)"', arguments) or [words]
         if name == "to":
-            found += [Lead(known[it], text) for it in re.findall(r"\b[A-Z][A-Z0-9]+\b", arguments.partition('"')[0]) if it in known for text in said]
+            leads = re.findall(r"\b[A-Z][A-Z0-9]+\b", arguments.partition('"')[0])
+            found += [Lead(known[constant], text) for constant in leads if constant in known for text in said]
         elif name in functions:
-            found += [it for text in said for it in leads_of(functions[name], functions, known, text)]
-    if re.search(r"int at = s->how == WAKER .*\? IDLE : LEAVE", block):
-        found += [Lead(known[it], words) for it in ("IDLE", "LEAVE")]
+            found += [lead for text in said for lead in leads_of(functions[name], functions, known, text)]
+    if re.search(r"int at = s->how == WAKER .*\? IDLE : LEAVE", body):
+        found += [Lead(known[constant], words) for constant in ("IDLE", "LEAVE")]
     return list(dict.fromkeys(found))
 
 
 def positions(text: str) -> List[Position]:
     """The table of positions of a text of steps."""
-    known = names()
-    functions = {it[1]: it[2] for it in re.finditer(r"^static int (\w+)\([^\n]*\n\{\n(.*?)^\}", text, re.M | re.S) if it[1] != "step"}
-    found, function, file = [], "", ""
-    parts = re.split(r"^(    case \w+:[^\n]*|    /\* ---- .*? ---- \*/)\n", text[text.index("static int step(") :], flags=re.M)
-    for head, block in zip(parts[1::2], parts[2::2]):
-        section = re.match(r"    /\* ---- (.*?)(?:, ((?:net|include)/[\w./]*))?(?:: .*)? ---- \*/", head)
-        if section:
-            function, file = section[1], section[2] or ""
-            continue
-        case = re.match(r"    case (\w+):\s*(?:/\* (.*?): (.*) \*/)?", head)
-        if case[1] not in known:
-            raise Fault(f"case {case[1]} is no position: state.h has them")
-        own = re.sub(r", in (\w+\(\))$", "", case[3] or "")
-        at = re.search(r", in (\w+\(\))$", case[3] or "")
-        of = at[1] if at else function
-        leads = [it for it in leads_of(block, functions, known) if it.position]
-        found.append(Position(case[1], known[case[1]], case[2] or "", "" if own == "(own)" else own, "" if own == "(own)" else of, file, tuple(leads)))
+    known, found = names(), []
+    functions = {block.name: block.body for block in blocks(text) if not block.is_case}
+    for block in (block for block in blocks(text) if block.is_case):
+        if block.name not in known:
+            raise Fault(f"case {block.name} is no position: state.h has them")
+        does, _, kernel = block.comment.partition(": ")
+        kernel, _, other = re.sub(r", in (\w+\(\))$", r"\0\1", kernel).partition("\0")
+        function, file = re.fullmatch(r"(.*?)(?:, ((?:net|include)/[\w./]*))?(?:: .*)?", block.section).groups("")
+        is_own = kernel == "(own)"
+        leads = tuple(lead for lead in leads_of(block.body, functions, known) if lead.position)
+        found.append(Position(known[block.name], does, "" if is_own else kernel, "" if is_own else other or function, file, leads))
     return found

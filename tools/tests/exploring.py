@@ -174,8 +174,8 @@ def plain(m):
     def unnumbered(packet):
         return packet and machine.Packet(0, 0, packet.band)
 
-    q = m.qdisc._replace(bands=tuple(tuple(map(unnumbered, it)) for it in m.qdisc.bands), slot=unnumbered(m.qdisc.slot), sent=0, full=0)
-    return m._replace(qdisc=q, seats=tuple(it._replace(run=0, packet=unnumbered(it.packet)) for it in m.seats))
+    q = m.qdisc._replace(ring=tuple(machine.Ring(map(unnumbered, ring)) for ring in m.qdisc.ring), gso_skb=unnumbered(m.qdisc.gso_skb), sent=0, full=0)
+    return m._replace(qdisc=q, seats=tuple(s._replace(run=0, packet=unnumbered(s.packet)) for s in m.seats))
 
 
 @case
