@@ -1,12 +1,14 @@
 """The sizes of a search: what is compiled, and what may come in an order."""
 from typing import NamedTuple
 
-# what a text is compiled with, and its values when nothing is said
-COMPILED = {"seats": 2, "len": 2, "children": 1, "queues": 1, "new_len": 0}
-# what a search is given
-OPTIONS = {"sends": 1, "bypass": 1, "stops": 0, "wakes": 0, "busy": 0, "quota": 64, "bands": 1, "downs": 0, "lengths": 0, "waiting": 0, "total": 0, "stopped": 0}
-TAP_COMPILED = {"seats": 2, "len": 2, "new_len": 0}
-TAP_OPTIONS = {"puts": 2, "gets": 2, "batch": 2, "backs": 0, "resizes": 0}
+from lib.words import Wrong
+
+# what a text is compiled with and what a search is given, by its world, and their values when nothing is said
+COMPILED = {"path": {"seats": 2, "len": 2, "children": 1, "queues": 1, "new_len": 0}, "tap": {"seats": 2, "len": 2, "new_len": 0}}
+OPTIONS = {
+    "path": {"sends": 1, "bypass": 1, "stops": 0, "wakes": 0, "busy": 0, "quota": 64, "bands": 1, "downs": 0, "lengths": 0, "waiting": 0, "total": 0, "stopped": 0},
+    "tap": {"puts": 2, "gets": 2, "batch": 2, "backs": 0, "resizes": 0},
+}
 MOST = {"seats": 4, "len": 32, "children": 2, "queues": 2, "new_len": 32, "sends": 3, "bands": 3, "quota": 64, "bypass": 1, "puts": 3, "gets": 6, "batch": 3, "waiting": 32, "total": 12}
 LEAST = {"seats": 1, "len": 1, "children": 1, "queues": 1, "sends": 1, "bands": 1, "quota": 1, "puts": 1, "gets": 1, "batch": 1}
 
@@ -22,12 +24,14 @@ class Size(NamedTuple):
     models: tuple = ()
 
     def compiled(self):
-        named = TAP_COMPILED if self.world == "tap" else COMPILED
-        return {name: self.values.get(name, value) for name, value in named.items()}
+        return {name: self.values.get(name, value) for name, value in COMPILED[self.world].items()}
 
     def options(self):
-        named = TAP_OPTIONS if self.world == "tap" else OPTIONS
-        return {name: self.values.get(name, value) for name, value in named.items()}
+        return {name: self.values.get(name, value) for name, value in OPTIONS[self.world].items()}
+
+    def named(self):
+        """The words by which the size is read."""
+        return ("tap," if self.world == "tap" else "") + (",".join(f"{name}={value}" for name, value in self.values.items()) or "sends=1")
 
 
 BOTH = ("x86", "weak")
@@ -69,7 +73,7 @@ LARGE = [
 ]
 
 
-class WrongSize(Exception):
+class WrongSize(Wrong):
     """A size that can't be read; the text says why."""
 
 
@@ -82,26 +86,29 @@ def _value(name, text, known):
     return int(text)
 
 
+def words_of(world):
+    """The words of a size, with their values when nothing is said."""
+    return {**COMPILED[world], **OPTIONS[world]}
+
+
 def read(text):
     """The size that a text like `sends=2,stops=1` is; with `tap` as its first word it is one of the ring of a tap."""
-    words = [it for it in text.split(",") if it]
+    words = [word for word in text.split(",") if word]
     world = "tap" if words[:1] == ["tap"] else "path"
-    known = {**TAP_COMPILED, **TAP_OPTIONS} if world == "tap" else {**COMPILED, **OPTIONS}
     values = {}
     for word in words[world == "tap" :]:
         name, equals, value = word.partition("=")
         if not equals:
             raise WrongSize(f"a size is NAME=NUMBER,.., not '{word}'")
-        values[name] = _value(name, value, known)
-    size = Size(text, values, world)
-    if size.compiled().get("queues", 1) < size.compiled().get("children", 1):
-        raise WrongSize("children=2 needs queues=2: each child has a queue")
-    if values.get("waiting") and (size.compiled()["queues"] > 1 or values["waiting"] > size.compiled()["len"]):
-        raise WrongSize("waiting is of one queue, and no more than its slots, len")
-    if values.get("stopped", 0) > 1:
-        raise WrongSize("stopped is 1 where the queue is stopped at first, or 0")
-    if values.get("lengths") and not values.get("new_len"):
-        raise WrongSize("lengths needs new_len, the new length")
-    if values.get("resizes") and not values.get("new_len"):
-        raise WrongSize("resizes needs new_len, the new length")
-    return size
+        values[name] = _value(name, value, words_of(world))
+    size = {**words_of(world), **values}
+    for is_wrong, why in (
+        (size.get("queues", 1) < size.get("children", 1), "children=2 needs queues=2: each child has a queue"),
+        (size.get("waiting") and (size["queues"] > 1 or size["waiting"] > size["len"]), "waiting is of one queue, and no more than its slots, len"),
+        (size.get("stopped", 0) > 1, "stopped is 1 where the queue is stopped at first, or 0"),
+        (size.get("lengths") and not size["new_len"], "lengths needs new_len, the new length"),
+        (size.get("resizes") and not size["new_len"], "resizes needs new_len, the new length"),
+    ):
+        if is_wrong:
+            raise WrongSize(why)
+    return Size(text, values, world)

@@ -7,47 +7,32 @@
  * The steps are those of steps.h as they are: a step is made on the words as its seat sees them. The table below has the store of each position. A try that finds
  * the lock held is a load; one that gets it, and the producer's lock of a ring, empty the buffer first, and so does a test-and-set, but for one of TESTS that
  * finds its bit set. Who takes a packet out, and the requeue slot, are no stores here: they are the holder's alone. */
-enum { NO_STORE, PUT_0, PUT_1, PUT_2, FREE_LOCK, CLEAR_MISSED, SET_MISSED, CLEAR_DRAINING, SET_DRAINING, CLEAR_SCHED, STOP_QUEUE, OPEN_QUEUE };
+#define STORES(S) \
+    S(PUT_0, q->ring[0].held++, "a packet in band 0") S(PUT_1, q->ring[1].held++, "a packet in band 1") S(PUT_2, q->ring[2].held++, "a packet in band 2") \
+    S(FREE_LOCK, q->seqlock = 0, "the lock is free") S(CLEAR_SCHED, q->SCHED = 0, "SCHED is clear") \
+    S(CLEAR_MISSED, q->MISSED = 0, "MISSED is clear") S(SET_MISSED, q->MISSED = 1, "MISSED is set") \
+    S(CLEAR_DRAINING, q->DRAINING = 0, "DRAINING is clear") S(SET_DRAINING, q->DRAINING = 1, "DRAINING is set") \
+    S(STOP_QUEUE, q->xoff[0] = 1, "the queue is stopped") S(OPEN_QUEUE, q->xoff[0] = 0, "the queue is open")
+#define AS_STORE(name, effect, text) name,
+#define AS_EFFECT(name, effect, text) case name: effect; break;
+#define AS_SEEN(name, effect, text) [name] = "seen by all: " text,
+enum { NO_STORE, STORES(AS_STORE) };
 enum { DEPTH = 4 };                     /* stores that a buffer has room for */
 struct buffer { unsigned many : 4, stores : 16; };     /* the first is in the lowest four bits */
 
 static const unsigned char plain[POSITION_COUNT] = { PLAIN_STORES }, tests[POSITION_COUNT] = { TESTS };
+static const unsigned char stores[POSITION_COUNT] = { [PUT] = PUT_0, [UNLOCK] = FREE_LOCK, [CLEARM] = CLEAR_MISSED, [CCLEAR] = CLEAR_MISSED, [CMISS] = SET_MISSED,
+    [AGAIN] = SET_MISSED, [OVER] = SET_MISSED, [CLEARD] = CLEAR_DRAINING, [CDRAIN] = SET_DRAINING, [SCLEAR] = CLEAR_SCHED, [STOP] = STOP_QUEUE, [WAKE] = OPEN_QUEUE };
 
-static int store_of(const struct seat *s)
-{
-    switch (s->at) {
-    case PUT: return PUT_0 + s->band;
-    case UNLOCK: return FREE_LOCK;
-    case CLEARM: case CCLEAR: return CLEAR_MISSED;
-    case CMISS: case AGAIN: case OVER: return SET_MISSED;
-    case CLEARD: return CLEAR_DRAINING;
-    case CDRAIN: return SET_DRAINING;
-    case SCLEAR: return CLEAR_SCHED;
-    case STOP: return STOP_QUEUE;
-    case WAKE: return OPEN_QUEUE;
-    }
-    return NO_STORE;
-}
+static int store_of(const struct seat *s) { return stores[s->at] + (s->at == PUT ? s->band : 0); }
 static void reaches(struct qdisc *q, int store)
 {
-    switch (store) {
-    case PUT_0: case PUT_1: case PUT_2: q->ring[store - PUT_0].held++; break;
-    case FREE_LOCK: q->seqlock = 0; break;
-    case CLEAR_MISSED: q->MISSED = 0; break;
-    case SET_MISSED: q->MISSED = 1; break;
-    case CLEAR_DRAINING: q->DRAINING = 0; break;
-    case SET_DRAINING: q->DRAINING = 1; break;
-    case CLEAR_SCHED: q->SCHED = 0; break;
-    case STOP_QUEUE: q->xoff[0] = 1; break;
-    case OPEN_QUEUE: q->xoff[0] = 0; break;
-    }
+    switch (store) { STORES(AS_EFFECT) }
 }
 /* the first store of a buffer reaches memory */
 static int drains(struct qdisc *q, struct buffer *b)
 {
-    static const char *const names[] = { "", "seen by all: a packet in band 0", "seen by all: a packet in band 1", "seen by all: a packet in band 2", "seen by all: the lock is free",
-        "seen by all: MISSED is clear", "seen by all: MISSED is set", "seen by all: DRAINING is clear", "seen by all: DRAINING is set", "seen by all: SCHED is clear",
-        "seen by all: the queue is stopped", "seen by all: the queue is open" };
+    static const char *const names[] = { STORES(AS_SEEN) };
     if (!b->many) return 0;
     int store = b->stores & 15;
     reaches(q, store);

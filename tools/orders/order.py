@@ -6,8 +6,7 @@ from orders import drawing
 from orders.search import Move, Result, Size
 from orders.text import Position
 
-BITS = ("SCHED", "DEACTIVATED", "MISSED", "DRAINING")
-STARTS = ("send", "softirq", "wake", "down", "swap")
+STARTS = (*machine.STARTS, "down", "swap")
 VERDICTS = {
     "left": "a packet is left, and nobody comes",
     "waits": "a deactivation waits for what nobody will do",
@@ -28,10 +27,13 @@ class Row(NamedTuple):
 
 def set_words(move: Move) -> str:
     """What is set in the words that the seats share."""
-    said = [name for at, name in enumerate(BITS) if move.state >> at & 1] + ["lock"] * move.lock
-    said += [f"queue {at} {'stopped' if it == 1 else 'hung'}" if len(move.xoff) > 1 else "stopped" if it == 1 else "hung" for at, it in enumerate(move.xoff) if it]
-    held = sum(move.bands) + move.slot
-    return ", ".join(said + [f"held {held}"] * bool(held))
+    said = [name for at, name in enumerate(machine.BITS) if move.state >> at & 1] + ["lock"] * move.lock
+    said += [f"queue {at} " * (len(move.xoff) > 1) + ("stopped" if stop == 1 else "hung") for at, stop in enumerate(move.xoff) if stop]
+    return ", ".join(said + [f"held {move.held}"] * bool(move.held))
+
+
+def is_start(move: Move) -> bool:
+    return move.kind.split()[0] in STARTS
 
 
 class Packets:
@@ -95,7 +97,7 @@ def lines_of(found: Result, positions: Dict[str, Position]) -> Iterator[str]:
         move = row.move
         who = "control" if move.seat is None else f"seat {move.seat}"
         of = positions.get(move.before.rsplit(" ", 1)[0] if move.before.startswith("scan") else move.before)
-        begins = move.kind.split()[0] in STARTS
+        begins = is_start(move)
         kernel = f"{of.function}: {of.kernel}" if of and of.kernel and not begins and move.kind != "drain" else ""
         at = "" if begins else "its buffer" if move.kind == "drain" else move.before
         yield f"{number:5}  {who:7}  {at:13}  {row.words:58}  {row.set_then:34}  {kernel}".rstrip()
@@ -122,7 +124,7 @@ def with_near_control(moves: List[Tuple[Optional[int], str]]) -> List[Tuple[Opti
     begun = late | last_starts(moves[:down], "send")
     before, within, after = list(moves[:down]), [], []
     for i in sorted(late):
-        del before[max(n for n, it in enumerate(before) if it == (i, "softirq"))]
+        del before[max(n for n, begun_there in enumerate(before) if begun_there == (i, "softirq"))]
         within.append((i, "softirq"))
     for seat, what in moves[down + 1 : up]:
         if what == "softirq" or what.startswith("send"):
@@ -158,7 +160,7 @@ def schedule_lines(start: machine.Machine, moves: List[Tuple[Optional[int], str]
     def add(i, what):
         nonlocal m, sends
         begun = (what.split()[0], *map(int, what.split()[1:]))
-        if begun[0] in ("send", "softirq", "wake"):
+        if begun[0] in machine.STARTS:
             if machine.why_not_begin(m, i, begun):
                 return
             end_run()
@@ -166,7 +168,7 @@ def schedule_lines(start: machine.Machine, moves: List[Tuple[Optional[int], str]
             m = machine.begin(m, i, begun, sends)
             sends += begun[0] == "send"
             return
-        answer = "plain" if what == "step" else what
+        answer = machine.answer_of(what)
         if machine.why_not_step(m, i, answer):
             return
         if what != "step" or names and names[0][0] != i:
@@ -197,7 +199,7 @@ def schedule_of(found: Result, size: Size, about: str) -> str:
     moves = plain_moves(found.moves)
     if found.round is not None:
         moves += plain_moves(found.moves[found.round :])  # the round a second time
-    steps = sum(it.is_step for it in found.moves)
+    steps = sum(move.is_step for move in found.moves)
     head = [f"# {about}: {VERDICTS[found.wrong]}.", f"# The order has {steps} steps there; this is what the right machine can do of it."]
     return "\n".join([*head, f"seats {size.seats} len {size.len} bypass {size.bypass}", *schedule_lines(start, with_near_control(moves))]) + "\n"
 
@@ -212,12 +214,12 @@ def picture_of(found: Result, size: Size, title: str) -> str:
     arrows, before = [], ""
     for number, row in enumerate(rows_of(found.moves)):
         move = row.move
-        is_start = move.kind.split()[0] in STARTS
+        begins = is_start(move)
         then = row.set_then if row.set_then != before else None
         before = row.set_then
-        if move.before in DULL and move.after != "gate" and not is_start and move.kind != "drain" or move.seat is None and is_start:
+        if move.before in DULL and move.after != "gate" and not begins and move.kind != "drain" or move.seat is None and begins:
             continue
-        arrows.append(drawing.Arrow(move.seat, row.words, row.stores, found.round is not None and number >= found.round, then, is_start))
+        arrows.append(drawing.Arrow(move.seat, row.words, row.stores, found.round is not None and number >= found.round, then, begins))
     names = [f"seat {i}" for i in range(size.seats)]
     return drawing.picture(title, names, arrows, verdict_of(found), True, "the round that goes on for ever" if found.round is not None else "")
 
@@ -226,7 +228,7 @@ def verdict_of(found: Result) -> str:
     """What is wrong with an order, in a line."""
     if found.wrong == "left":
         last = found.moves[-1]
-        return f"{VERDICTS['left']}: held {sum(last.bands) + last.slot}"
+        return f"{VERDICTS['left']}: held {last.held}"
     return found.why if found.wrong == "lost" else VERDICTS[found.wrong]
 
 

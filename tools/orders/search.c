@@ -67,6 +67,7 @@ static const char *position(int at, int second)
     static const char *const names[] = { POSITIONS(AS_TEXT) };
     return at >= SCAN0 && at <= SCAN2 ? scans[at - SCAN0 + 3 * second] : names[at];
 }
+static int state_of(const struct qdisc *q) { return q->SCHED + 2 * q->DEACTIVATED + 4 * q->MISSED + 8 * q->DRAINING; }
 static void print_kind(int kind)
 {
     static const char *const names[] = { "step", "full", "stop", "hang", "busy", "softirq" };
@@ -80,10 +81,9 @@ static void print_move(const struct state *x, struct move m, const struct state 
     const struct seat *a = &x->s[m.seat], *b = &y->s[m.seat];
     printf("move\t%d\t", m.seat < SEATS ? m.seat : -1);
     print_kind(m.kind);
-    printf("\t%s\t%s\t%s\t%d %d %d\t", position(a->at, a->second), position(b->at, b->second), said,
-        y->q.SCHED + 2 * y->q.DEACTIVATED + 4 * y->q.MISSED + 8 * y->q.DRAINING, y->q.seqlock, y->q.inside);
+    printf("\t%s\t%s\t%s\t%d %d\t", position(a->at, a->second), position(b->at, b->second), said, state_of(&y->q), y->q.seqlock);
     for (int i = 0; i < QUEUES; i++) printf(i ? " %d" : "%d", y->q.xoff[i]);
-    printf("\t%d %d %d %d\t%d\n", y->q.ring[0].held, y->q.ring[1].held, y->q.ring[2].held, y->q.gso_skb, b->raised);
+    printf("\t%d %d %d %d\n", y->q.ring[0].held, y->q.ring[1].held, y->q.ring[2].held, y->q.gso_skb);
 }
 /* from x, with the seats as they are there, to a state that is `to` but for which seat is which */
 static void print_step(struct state *x, const struct state *to)
@@ -331,8 +331,7 @@ static void walk(int seats)
         x = y;
     }
     end_run();
-    printf("--\nsteps %d\nstate %d lock %d xoff %d inside %d\nheld %d sent %d full %d\n", steps, x.q.SCHED + 2 * x.q.DEACTIVATED + 4 * x.q.MISSED + 8 * x.q.DRAINING,
-        x.q.seqlock, x.q.xoff[0], x.q.inside, held(&x), sent, full);
+    printf("--\nsteps %d\nstate %d lock %d xoff %d inside %d\nheld %d sent %d full %d\n", steps, state_of(&x.q), x.q.seqlock, x.q.xoff[0], x.q.inside, held(&x), sent, full);
     for (int i = 0; i < seats; i++) printf("seat %d %s%s\n", i, position(x.s[i].at, x.s[i].second), x.s[i].raised ? " raised" : "");
     puts("==");
 }

@@ -5,6 +5,7 @@ import signal
 import subprocess
 from typing import Iterator, List, NamedTuple, Optional, Tuple
 
+from lib.words import Failed
 from orders import text
 
 HERE = pathlib.Path(__file__).resolve().parent
@@ -83,36 +84,40 @@ STANDARD = (
 LARGE = (Size(seats=4), Size(seats=3, bypass=1, stops=1, busys=1), Size(seats=2, bypass=1, stops=1, busys=1, hangs=1, downs=1, swaps=1))
 
 
-class Undecided(Exception):
+class Undecided(Failed):
     """Why a question isn't answered: no compiler, no memory, no time."""
+
+    def __init__(self, line):
+        super().__init__(f"not decided: {line}", 3)
 
 
 class Move(NamedTuple):
-    """A step or a start of an order: who moved (None: control), what it did, where it stood and stands, and the words after it."""
+    """A move of an order: who moves, how, from which position to which, what happened in words, and the shared words after it."""
 
-    seat: Optional[int]
-    kind: str  # "step", "full", "stop", "hang", "busy", "softirq", "wake Q", "send B Q", "down", "swap", "drain"
+    seat: Optional[int]  # None: control
+    kind: str
     before: str
     after: str
     said: str
     state: int
     lock: int
-    inside: int
     xoff: Tuple[int, ...]
     bands: Tuple[int, ...]
     slot: int
-    raised: bool
 
     @property
     def is_step(self) -> bool:
         return self.kind in ("step", "full", "stop", "hang", "busy")
+
+    @property
+    def held(self) -> int:
+        return sum(self.bands) + self.slot
 
 
 class Result(NamedTuple):
     """What a search says: the states, and an order that goes wrong, if it found one."""
 
     states: int
-    seconds: float
     served: Optional[int] = None  # states of the second question, where it was asked and answered
     longest: int = 0
     wrong: str = ""  # "left", "lost", "waits", "round", or "endless", which is a round of one seat
@@ -121,37 +126,32 @@ class Result(NamedTuple):
     round: Optional[int] = None  # where a round begins, among the moves
 
 
-def moves_of(lines: List[str]) -> Tuple[Tuple[Move, ...], Optional[int]]:
-    moves, begins = [], None
-    for line in lines:
-        if line == "again":
-            begins = len(moves)
-        elif line.startswith("move\t"):
-            of = line.split("\t")
-            state, lock, inside = map(int, of[6].split())
-            *bands, slot = map(int, of[8].split())
-            seat = None if of[1] == "-1" else int(of[1])
-            moves.append(Move(seat, *of[2:6], state, lock, inside, tuple(map(int, of[7].split())), tuple(bands), slot, of[9] == "1"))
-    return tuple(moves), begins
+def move_of(line: str) -> Move:
+    _, seat, kind, before, after, said, *words = line.split("\t")
+    state, lock = map(int, words[0].split())
+    xoff, (*bands, slot) = (tuple(map(int, part.split())) for part in words[1:])
+    return Move(None if seat == "-1" else int(seat), kind, before, after, said, state, lock, xoff, tuple(bands), slot)
 
 
 def read_result(output: str) -> Result:
-    found = Result(0, 0)
-    lines = output.splitlines()
-    for number, line in enumerate(lines):
+    found = Result(0)
+    for line in output.splitlines():
         word, _, rest = line.partition(" ")
         if word == "states":
-            found = found._replace(states=int(rest.split()[0]), seconds=float(rest.split()[2]))
+            found = found._replace(states=int(rest.split()[0]))
         elif word == "served":
-            served, longest, seconds = rest.split()
-            found = found._replace(served=int(served), longest=int(longest), seconds=float(seconds))
+            served, longest = map(int, rest.split()[:2])
+            found = found._replace(served=served, longest=longest)
         elif word == "full":
             raise Undecided(f"{int(rest):,} states were found, and there is no memory for more: give --memory")
         elif word == "late":
             raise Undecided(f"{int(rest):,} states were found, and the time is up: give --seconds")
         elif word in ("left", "lost", "waits", "round"):
-            moves, begins = moves_of(lines[number + 1 :])
-            return found._replace(wrong=word, why=rest, moves=moves, round=begins)
+            found = found._replace(wrong=word, why=rest)
+        elif word == "again":
+            found = found._replace(round=len(found.moves))
+        elif line.startswith("move\t"):
+            found = found._replace(moves=(*found.moves, move_of(line)))
     return found
 
 
@@ -172,18 +172,9 @@ def compile_search(steps: str, defines: List[str], room: pathlib.Path, optimize=
 
 # stores that may wait in a buffer (orders/buffers.h), by name: their positions; of the last two a test comes before the store
 PLAIN = {
-    "put": ("PUT",),
-    "unlock": ("UNLOCK",),
-    "clearm": ("CLEARM",),
-    "cleard": ("CLEARD",),
-    "cclear": ("CCLEAR",),
-    "sets": ("CMISS", "CDRAIN", "AGAIN", "OVER"),
-    "sclear": ("SCLEAR",),
-    "stop": ("STOP",),
-    "wake": ("WAKE",),
-    "miss": ("MISS",),
-    "sched": ("SCHEDULE",),
-}
+    "put": ["PUT"], "unlock": ["UNLOCK"], "clearm": ["CLEARM"], "cleard": ["CLEARD"], "cclear": ["CCLEAR"], "sets": ["CMISS", "CDRAIN", "AGAIN", "OVER"],
+    "sclear": ["SCLEAR"], "stop": ["STOP"], "wake": ["WAKE"], "miss": ["MISS"], "sched": ["SCHEDULE"],
+}  # fmt: skip
 TESTS = ("miss", "sched")
 # what is searched with them where no size is given
 BUFFERED = (Size(), Size(stops=1, busys=1))
@@ -193,7 +184,7 @@ def buffer_defines(names: Optional[List[str]]) -> List[str]:
     """What makes the search let these stores wait; nothing for None."""
     if names is None:
         return []
-    positions = {kind: ",".join(f"[{it}]=1" for name in names if (name in TESTS) == kind for it in PLAIN[name]) for kind in (False, True)}
+    positions = {kind: ",".join(f"[{place}]=1" for name in names if (name in TESTS) == kind for place in PLAIN[name]) for kind in (False, True)}
     return [f"-DPLAIN_STORES={positions[False]}", f"-DTESTS={positions[True]}"]
 
 

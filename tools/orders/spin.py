@@ -41,7 +41,7 @@ def search(steps: str, size: Size, live: bool, room: pathlib.Path, megabytes: in
     (room / "machine.pml").write_text(model_of(size, source), encoding="utf-8")
 
     def run(*words):
-        return subprocess.run([str(it) for it in words], cwd=room, capture_output=True, text=True)
+        return subprocess.run(list(map(str, words)), cwd=room, capture_output=True, text=True)
 
     made = run("spin", *["-DLIVE"] * live, "-a", "machine.pml")
     # with one seat an order may end; with several, one that ends goes on for ever as it is

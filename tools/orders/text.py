@@ -3,11 +3,13 @@ import pathlib
 import re
 from typing import Dict, List, NamedTuple, Optional, Tuple
 
+from lib.words import Wrong
+
 HERE = pathlib.Path(__file__).resolve().parent
 STEPS, STATE, EDITS = HERE / "steps.h", HERE / "state.h", HERE / "edits.txt"
 
 
-class Fault(Exception):
+class Fault(Wrong):
     """Why a text of steps, or a change of it, can't be used."""
 
 
