@@ -64,7 +64,7 @@ def litmus_with_a_herd7_of_our_own():
         expect("litmus --herd", run(*command, env=path), code, line)
     expect("litmus --herd, no model", run(HERE / "litmus", "--herd", ROOM, test, env=path), 3, "has no linux-kernel.cfg")
     expect("litmus --herd, no folder", run(HERE / "litmus", "--herd", "nosuch", test, env=path), 3, "nosuch: no such folder")
-    expect("litmus --herd alone", run(HERE / "litmus", "--herd", env=path), 2, "--herd needs a model")
+    expect("litmus --herd alone", run(HERE / "litmus", "--herd", env=path), 2, "--herd: expected one argument")
 
 
 @case
@@ -87,4 +87,4 @@ def litmus_command():
         expect("litmus refuses", run(HERE / "litmus", test), 3, said)
     expect("litmus nofile", run(HERE / "litmus", ROOM / "nofile.litmus"), 3, "nofile.litmus: No such file")
     expect("litmus words", run(HERE / "litmus"), 2, "a file is missing")
-    expect("litmus option", run(HERE / "litmus", "--nosuch", test), 2, "--nosuch isn't an option")
+    expect("litmus option", run(HERE / "litmus", "--nosuch", test), 2, "unrecognized arguments: --nosuch")

@@ -1,4 +1,5 @@
 """Decides a litmus test, and prints an execution: one in which the condition holds, or why none is allowed."""
+import itertools
 from collections import namedtuple
 
 from . import axioms
@@ -20,9 +21,9 @@ def value_of(execution, left):
 def is_met(execution, condition):
     kind, *parts = condition
     if kind == "and":
-        return all(is_met(execution, it) for it in parts)
+        return all(is_met(execution, part) for part in parts)
     if kind == "or":
-        return any(is_met(execution, it) for it in parts)
+        return any(is_met(execution, part) for part in parts)
     if kind == "not":
         return not is_met(execution, parts[0])
     return value_of(execution, parts[0]) == parts[1]
@@ -78,29 +79,11 @@ def decide(test, without=()):
 
 def steps_of(decided, execution):
     """A cycle as steps of the relations that a reader knows: reads-from, coherence, from-read, fences and dependencies."""
-    relations = {name: getattr(decided, name, None) or getattr(decided.fixed, name) for name in RELATIONS}
+    relations = {name.replace("_", "-"): getattr(decided, name, None) or getattr(decided.fixed, name) for name in RELATIONS}
     cycle, found = decided.cycle, []
-    for at, event in enumerate(cycle):
-        found += way_between(event, cycle[(at + 1) % len(cycle)], relations)
+    for event, following in zip(cycle, [*cycle[1:], cycle[0]]):
+        found += axioms.way_between(event, following, relations) or [("..", following)]
     return [("", cycle[0]), *found]
-
-
-def way_between(start, end, relations):
-    """The shortest way from one event to another by these relations: of each step its name and where it leads."""
-    before, ring = {}, [start]
-    while ring and end not in before:
-        at = ring.pop(0)
-        for name, rows in relations.items():
-            for it in axioms.bits(rows[at]):
-                if it not in before:
-                    before[it] = at, name
-                    ring.append(it)
-    way, at = [], end
-    while end in before and (at != start or not way):
-        leads_from, name = before[at]
-        way.append((name.replace("_", "-"), at))
-        at = leads_from
-    return way[::-1] or [("..", end)]
 
 
 def shown_event(event):
@@ -111,19 +94,10 @@ def shown_event(event):
     return f"{'reads' if event.kind == 'R' else 'writes'} {event.place} = {event.value}{part}{order}"
 
 
-def letters():
-    """Names of events: a, b, .. z, a1, b1, .."""
-    number = 0
-    while True:
-        for it in "abcdefghijklmnopqrstuvwxyz":
-            yield it + (str(number) if number else "")
-        number += 1
-
-
 def names_of(execution):
     """A letter for each access; the first values' writes are called `first`."""
-    fresh = letters()
-    return [next(fresh) if it.thread >= 0 and it.kind != "F" else "first" for it in execution.events]
+    fresh = (letter + (str(number) if number else "") for number in itertools.count() for letter in "abcdefghijklmnopqrstuvwxyz")
+    return [next(fresh) if event.thread >= 0 and event.kind != "F" else "first" for event in execution.events]
 
 
 def shown_execution(execution):
@@ -143,7 +117,7 @@ def shown_execution(execution):
         lines.append(text)
     for place, order in execution.coherence.items():
         if len(order) > 2:
-            lines.append(f"{place} is written by " + ", then ".join(names[it] for it in order[1:]))
+            lines.append(f"{place} is written by " + ", then ".join(names[write] for write in order[1:]))
     return lines
 
 

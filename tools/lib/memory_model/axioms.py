@@ -4,20 +4,16 @@ SRCU and without plain accesses. A relation is a list: for each event the set of
 The names of relations are those of linux-kernel.cat, so that each line here can be read beside the line there.
 """
 
+import functools
+import operator
+
 
 def none(count):
     return [0] * count
 
 
 def union(*relations):
-    return [_or(rows) for rows in zip(*relations)]
-
-
-def _or(numbers):
-    found = 0
-    for it in numbers:
-        found |= it
-    return found
+    return [functools.reduce(operator.or_, rows) for rows in zip(*relations)]
 
 
 def both(left, right):
@@ -31,11 +27,15 @@ def bits(number):
         number ^= low
 
 
+def number_of(members):
+    return functools.reduce(operator.or_, (1 << member for member in members), 0)
+
+
 def then(*relations):
     """One relation after the other: `r ; s`."""
     found = relations[0]
     for more in relations[1:]:
-        found = [_or([more[it] for it in bits(row)]) for row in found]
+        found = [functools.reduce(operator.or_, (more[member] for member in bits(row)), 0) for row in found]
     return found
 
 
@@ -55,38 +55,37 @@ def any_times(relation):
 
 
 def inverse(relation):
-    found = none(len(relation))
-    for at, row in enumerate(relation):
-        for it in bits(row):
-            found[it] |= 1 << at
-    return found
+    return [number_of(at for at, row in enumerate(relation) if row >> member & 1) for member in range(len(relation))]
 
 
 def only(members, count):
     """`[S]`: each member leads to itself."""
-    return [1 << at if members >> at & 1 else 0 for at in range(count)]
+    return [members & 1 << at for at in range(count)]
+
+
+def way_between(start, end, relations):
+    """A shortest way from one event to another by these relations, by their names: of each step its name and where it leads; nothing where there is none."""
+    before, ring = {}, [start]
+    while ring and end not in before:
+        at = ring.pop(0)
+        for name, rows in relations.items():
+            for event in bits(rows[at]):
+                if event not in before:
+                    before[event] = at, name
+                    ring.append(event)
+    way, at = [], end
+    while end in before and (at != start or not way):
+        leads_from, name = before[at]
+        way.append((name, at))
+        at = leads_from
+    return way[::-1]
 
 
 def cycle_in(relation):
     """The events of a shortest cycle, or None."""
-    best = None
-    for start in range(len(relation)):
-        before, ring = {start: None}, [start]
-        while ring and (best is None or start not in best):
-            at = ring.pop(0)
-            if relation[at] >> start & 1:
-                way = []
-                while at is not None:
-                    way.append(at)
-                    at = before[at]
-                if best is None or len(way) < len(best):
-                    best = way[::-1]
-                break
-            for it in bits(relation[at]):
-                if it not in before:
-                    before[it] = at
-                    ring.append(it)
-    return best
+    ways = [way_between(start, start, {"": relation}) for start in range(len(relation)) if relation[start]]
+    best = min(filter(None, ways), key=len, default=None)
+    return best and [best[-1][1], *(event for _, event in best[:-1])]
 
 
 class Fixed:
@@ -95,30 +94,29 @@ class Fixed:
     def __init__(self, events, without=()):
         self.events, self.count = events, len(events)
         self.without = without
-        sets = {kind: self.members(lambda it, kind=kind: it.kind == kind) for kind in "RWF"}
+        sets = {kind: self.members(lambda event, kind=kind: event.kind == kind) for kind in "RWF"}
         self.is_read, self.is_write = sets["R"], sets["W"]
         accesses = sets["R"] | sets["W"]
-        later = [self.members(lambda it, at=at: it.thread == events[at].thread >= 0, after=at) for at in range(self.count)]
-        self.po = later
-        same = lambda of: [self.members(lambda it: of(it) == of(event)) for event in events]
-        self.int = [row if events[at].thread >= 0 else 0 for at, row in enumerate(same(lambda it: it.thread))]
+        self.po = [self.members(lambda event, at=at: event.thread == events[at].thread >= 0, after=at) for at in range(self.count)]
+        same = lambda of: [self.members(lambda other: of(other) == of(event)) for event in events]
+        self.int = [row if events[at].thread >= 0 else 0 for at, row in enumerate(same(lambda event: event.thread))]
         self.ext = [~row & (1 << self.count) - 1 for row in self.int]
-        same_place = [row & accesses for row in same(lambda it: it.place)]
+        same_place = [row & accesses for row in same(lambda event: event.place)]
         self.po_loc = both(both(self.po, same_place), [accesses if accesses >> at & 1 else 0 for at in range(self.count)])
         self.address, self.data, self.control = (self.depends(name) for name in ("address", "data", "control"))
         self.rmw = none(self.count)
-        for at, it in enumerate(events):
-            if it.read is not None:
-                self.rmw[it.read] |= 1 << at
+        for at, event in enumerate(events):
+            if event.read is not None:
+                self.rmw[event.read] |= 1 << at
         self.fences(accesses)
 
     def members(self, test, after=-1):
-        return sum(1 << at for at, it in enumerate(self.events) if at > after and test(it))
+        return number_of(at for at, event in enumerate(self.events) if at > after and test(event))
 
     def depends(self, name):
         found = none(self.count)
-        for at, it in enumerate(self.events):
-            for read in getattr(it, name):
+        for at, event in enumerate(self.events):
+            for read in getattr(event, name):
                 found[read] |= 1 << at
         return found
 
@@ -127,13 +125,14 @@ class Fixed:
 
     def fences(self, accesses):
         po, keep = self.po, self.only
-        ordered = lambda *orders: self.members(lambda it: it.order in orders and it.kind != "F")
-        fence = lambda kind: then(po, keep(self.members(lambda it: it.kind == "F" and it.order == kind)), po)
+        ordered = lambda *orders: self.members(lambda event: event.order in orders and event.kind != "F")
+        fences = lambda kind: self.members(lambda event: event.kind == "F" and event.order == kind)
+        fence = lambda kind: then(po, keep(fences(kind)), po)
         memory, write = keep(accesses), keep(self.is_write)
         returning = keep(self.is_read & ~ordered("noreturn"))
         # one that failed counts too: a barrier after it orders it, although it has no order of its own
-        updates = keep(_or([row | 1 << at if row else 0 for at, row in enumerate(self.rmw)]) | ordered("failed"))
-        lock_write = keep(self.members(lambda it: it.kind == "W" and it.order == "lock"))
+        updates = keep(number_of(member for at, row in enumerate(self.rmw) if row for member in (at, *bits(row))) | ordered("failed"))
+        lock_write = keep(self.is_write & ordered("lock"))
         mb = none(self.count) if "mb" in self.without else then(memory, fence("mb"), memory)
         self.mb = union(
             mb,
@@ -142,23 +141,23 @@ class Fixed:
             then(memory, maybe(po), lock_write, fence("after-spinlock"), memory),
         )
         self.unlock, self.lock_read = ordered("unlock"), self.is_read & ordered("lock")
-        self.after_unlock_lock = then(keep(self.members(lambda it: it.kind == "F" and it.order == "after-unlock-lock")), po, memory)
+        self.after_unlock_lock = then(keep(fences("after-unlock-lock")), po, memory)
         self.rmb = then(returning, fence("rmb"), returning)
         self.wmb = then(write, fence("wmb"), write)
         self.acq_po = then(keep(self.is_read & ordered("acquire", "lock")), po, memory)
         self.po_rel = then(memory, po, keep(self.is_write & ordered("release", "unlock")))
-        self.grace = self.members(lambda it: it.kind == "F" and it.order == "sync-rcu")
+        self.grace = fences("sync-rcu")
         self.gp = then(po, keep(self.grace), maybe(po))
         self.sections = self.matched()
 
     def matched(self):
         """Each rcu_read_lock and the rcu_read_unlock that ends its section."""
         found, begun = none(self.count), []
-        for at, it in enumerate(self.events):
-            begun = begun if at and self.events[at - 1].thread == it.thread else []
-            if it.kind == "F" and it.order == "rcu-lock":
+        for at, event in enumerate(self.events):
+            begun = begun if at and self.events[at - 1].thread == event.thread else []
+            if event.order == "rcu-lock":
                 begun.append(at)
-            elif it.kind == "F" and it.order == "rcu-unlock" and begun:
+            elif event.order == "rcu-unlock" and begun:
                 found[begun.pop()] |= 1 << at
         return found
 
@@ -177,7 +176,7 @@ class Decided:
             self.rf[write] |= 1 << read
         for order in execution.coherence.values():
             for at, write in enumerate(order):
-                self.co[write] = _or([1 << it for it in order[at + 1 :]])
+                self.co[write] = number_of(order[at + 1 :])
         self.fr = then(inverse(self.rf), self.co)
 
     def judge(self):

@@ -21,6 +21,8 @@ OPERATIONS = {
     "<": lambda a, b: int(a < b), ">": lambda a, b: int(a > b), "<=": lambda a, b: int(a <= b), ">=": lambda a, b: int(a >= b),
     "&&": lambda a, b: int(bool(a) and bool(b)), "||": lambda a, b: int(bool(a) or bool(b)),
 }  # fmt: skip
+# by the order of an operation those of its read and its write; one that is fully ordered has a fence before and behind
+ORDERS = {"mb": ("mb", "mb"), "acquire": ("acquire", "once"), "release": ("once", "release"), "relaxed": ("once", "once"), "noreturn": ("noreturn", "once")}
 UNARY = {"!": lambda a: int(not a), "~": lambda a: ~a, "-": lambda a: -a}
 
 
@@ -59,6 +61,10 @@ class Runner:
 
     def __init__(self, values):
         self.values = values
+        self.steps = {Load: self.load, Store: self.store, Update: self.update, Compare: self.compare, Lock: self.lock}
+        self.steps[Fence] = lambda state, fence: [state.fence(fence.kind)]
+        self.steps[Assign] = lambda state, assign: [state.with_register(assign.register, *state.value(assign.value))]
+        self.steps[Leave] = lambda state, leave: [state._replace(control=leave.control)]
 
     def run(self, number, body):
         for end in self.go(State(number, (), {}, frozenset()), list(body)):
@@ -74,19 +80,8 @@ class Runner:
             arm = first.then if value else first.otherwise
             yield from self.go(state._replace(control=state.control | reads), [*arm, Leave(state.control), *rest])
             return
-        for after in self.step(state, first):
+        for after in self.steps[type(first)](state, first):
             yield from self.go(after, rest)
-
-    def step(self, state, it):
-        kinds = {Load: self.load, Store: self.store, Update: self.update, Compare: self.compare, Lock: self.lock}
-        if type(it) in kinds:
-            yield from kinds[type(it)](state, it)
-        elif isinstance(it, Fence):
-            yield state.fence(it.kind)
-        elif isinstance(it, Assign):
-            yield state.with_register(it.register, *state.value(it.value))
-        else:
-            yield state._replace(control=it.control)
 
     def place(self, state, of):
         place, reads = state.value(of)
@@ -100,66 +95,66 @@ class Runner:
         for value in sorted(self.values[place], key=str):
             yield state.with_event("R", place, value, order, address=address), value
 
-    def load(self, state, it):
-        for after, value in self.found(state, it.place, it.order):
-            yield after.with_register(it.register, value, frozenset([state.next()]))
+    def load(self, state, load):
+        for after, value in self.found(state, load.place, load.order):
+            yield after.with_register(load.register, value, frozenset([state.next()]))
 
-    def store(self, state, it):
-        place, address = self.place(state, it.place)
-        value, data = state.value(it.value)
-        yield state.with_event("W", place, value, it.order, address=address, data=data)
+    def store(self, state, store):
+        place, address = self.place(state, store.place)
+        value, data = state.value(store.value)
+        yield state.with_event("W", place, value, store.order, address=address, data=data)
 
-    def write_back(self, state, read, of, value, data, order, computed=True):
-        """The write of a read-modify-write, whose read is there already. Where it isn't computed from what was read, as in an exchange, the
-        write comes after the read without being made from it."""
-        place, address = self.place(state, of)
-        if computed:
-            return state.with_event("W", place, value, order, address=address, data=data | {read}, read=read)
-        after = state._replace(control=state.control | {read}).with_event("W", place, value, order, address=address, data=data, read=read)
-        return after._replace(control=state.control)
-
-    def update(self, state, it):
-        full = it.order == "mb"
-        before = state.fence("mb") if full else state
+    def modified(self, state, step, orders, made, is_computed=True):
+        """A read-modify-write. `made` gives of what was read the value that is written, the reads that this depends on beside, and what the register gets, or None
+        where nothing is written. A value that isn't computed from what was read, as in an exchange, is written after the read without being made from it."""
+        is_full = orders == ("mb", "mb")
+        before = state.fence("mb") if is_full else state
         read = before.next()
-        for after, old in self.found(before, it.place, it.order if it.order in ("acquire", "noreturn") else "once"):
-            operand, data = state.value(it.operand)
-            new = OPERATIONS[it.operation](old, operand)
-            end = self.write_back(after, read, it.place, new, data, "release" if it.order == "release" else "once", it.operation != "=")
-            gives = {"old": old, "new": new, "is_zero": int(new == 0), "nothing": 0}[it.gives]
-            yield (end.fence("mb") if full else end).with_register(it.register, gives, frozenset([read]))
+        for after, old in self.found(before, step.place, "once" if is_full else orders[0]):
+            change = made(old)
+            if change is None:
+                continue
+            new, data, gives = change
+            place, address = self.place(after, step.place)
+            waits = after if is_computed else after._replace(control=after.control | {read})
+            end = waits.with_event("W", place, new, "once" if is_full else orders[1], address=address, data=data | {read} if is_computed else data, read=read)
+            end = end._replace(control=after.control)
+            yield (end.fence("mb") if is_full else end).with_register(step.register, gives, frozenset([read]))
 
-    def compare(self, state, it):
+    def update(self, state, update):
+        operand, data = state.value(update.operand)
+
+        def made(old):
+            new = OPERATIONS[update.operation](old, operand)
+            return new, data, {"old": old, "new": new, "is_zero": int(new == 0), "nothing": 0}[update.gives]
+
+        return self.modified(state, update, ORDERS[update.order], made, update.operation != "=")
+
+    def compare(self, state, compare):
         """A compare-and-exchange, or an addition unless a value is found. One that fails is a read without order of its own."""
-        wanted, _ = state.value(it.old)
-        for plain, old in self.found(state, it.place, "failed"):
-            if (old == wanted) == it.adds:
-                yield plain.with_register(it.register, 0 if it.adds else old, frozenset([state.next()]))
-        full = it.order == "mb"
-        before = state.fence("mb") if full else state
-        read = before.next()
-        for after, old in self.found(before, it.place, "acquire" if it.order == "acquire" else "once"):
-            if (old == wanted) != it.adds:
-                new, data = state.value(it.new)
-                new = old + new if it.adds else new
-                end = self.write_back(after, read, it.place, new, data, "release" if it.order == "release" else "once", it.adds)
-                yield (end.fence("mb") if full else end).with_register(it.register, 1 if it.adds else old, frozenset([read]))
+        wanted, _ = state.value(compare.old)
+        new, data = state.value(compare.new)
+        for plain, old in self.found(state, compare.place, "failed"):
+            if (old == wanted) == compare.adds:
+                yield plain.with_register(compare.register, 0 if compare.adds else old, frozenset([state.next()]))
 
-    def lock(self, state, it):
+        def made(old):
+            if (old == wanted) != compare.adds:
+                return (old + new, data, 1) if compare.adds else (new, data, old)
+
+        yield from self.modified(state, compare, ORDERS[compare.order], made, compare.adds)
+
+    def lock(self, state, lock):
         """A lock that is got is an acquiring read-modify-write from 0 to 1; a try that finds it held is a read without order."""
-        read = state.next()
-        for after, old in self.found(state, it.place, "lock"):
-            if old == 0:
-                yield self.write_back(after, read, it.place, 1, frozenset(), "lock").with_register(it.register, 1, frozenset([read]))
-        if not it.waits:
-            for after, old in self.found(state, it.place, "once"):
-                if old != 0:
-                    yield after.with_register(it.register, 0, frozenset([read]))
+        yield from self.modified(state, lock, ("lock", "lock"), lambda old: (1, frozenset(), 1) if old == 0 else None)
+        for after, old in self.found(state, lock.place, "once") if not lock.waits else ():
+            if old != 0:
+                yield after.with_register(lock.register, 0, frozenset([state.next()]))
 
 
 def writes_in(body):
     """How many writes a thread's text has: a value goes through each of them once at most."""
-    return sum(writes_in(it.then) + writes_in(it.otherwise) if isinstance(it, If) else isinstance(it, (Store, Update, Compare, Lock)) for it in body)
+    return sum(writes_in(step.then) + writes_in(step.otherwise) if isinstance(step, If) else isinstance(step, (Store, Update, Compare, Lock)) for step in body)
 
 
 def traces_of(test):
@@ -169,7 +164,7 @@ def traces_of(test):
         runner = Runner(values)
         traces = [list(runner.run(number, body)) for number, body in enumerate(test.threads)]
         more = {place: set(known) for place, known in values.items()}
-        for event in (it for thread in traces for trace in thread for it in trace.events if it.kind == "W"):
+        for event in (event for thread in traces for trace in thread for event in trace.events if event.kind == "W"):
             more[event.place].add(event.value)
         if more == values:
             break
@@ -181,7 +176,7 @@ def traces_of(test):
 
 def shifted(event, by):
     """An event with its numbers of other events among all events."""
-    move = lambda reads: frozenset(it + by for it in reads)
+    move = lambda reads: frozenset(read + by for read in reads)
     read = None if event.read is None else event.read + by
     return event._replace(address=move(event.address), data=move(event.data), control=move(event.control), read=read)
 
@@ -190,7 +185,7 @@ def all_events(test, traces):
     events = [Event(-1, "W", place, first, "once") for place, first in test.first.items()]
     for trace in traces:
         by = len(events)
-        events += [shifted(it, by) for it in trace.events]
+        events += [shifted(event, by) for event in trace.events]
     return events
 
 
@@ -198,34 +193,31 @@ def orders_of(writes, events):
     """The orders of a place's writes, the first value's first, in which a thread's own writes keep their order."""
     first, *others = writes
     for order in itertools.permutations(others):
-        last = {}
-        for it in order:
-            if last.get(events[it].thread, -1) > it:
-                break
-            last[events[it].thread] = it
-        else:
+        own = {}
+        for write in order:
+            own.setdefault(events[write].thread, []).append(write)
+        if all(writes == sorted(writes) for writes in own.values()):
             yield (first, *order)
 
 
 def sources_of(read, events, halves, orders, atomic):
     """The writes that a read's value may come from. Half of a read-modify-write reads from the write before its own (atomicity)."""
     event = events[read]
+    order = orders[event.place]
     if atomic and read in halves:
-        order = orders[event.place]
-        before = order[order.index(halves[read]) - 1]
-        return [before] if events[before].value == event.value else []
-    return [it for it in orders[event.place] if events[it].value == event.value]
+        order = [order[order.index(halves[read]) - 1]]
+    return [write for write in order if events[write].value == event.value]
 
 
 def executions_of(test, atomic=True):
     """Each candidate execution of a test; whether the memory model allows it is another question."""
     for traces in itertools.product(*traces_of(test)):
         events = all_events(test, traces)
-        reads = [at for at, it in enumerate(events) if it.kind == "R"]
-        halves = {it.read: at for at, it in enumerate(events) if it.read is not None}
-        writes = {place: [at for at, it in enumerate(events) if it.kind == "W" and it.place == place] for place in test.first}
+        reads = [at for at, event in enumerate(events) if event.kind == "R"]
+        halves = {event.read: at for at, event in enumerate(events) if event.read is not None}
+        writes = {place: [at for at, event in enumerate(events) if event.kind == "W" and event.place == place] for place in test.first}
         registers = [trace.registers for trace in traces]
         for chosen in itertools.product(*(orders_of(writes[place], events) for place in writes)):
             orders = dict(zip(writes, chosen))
-            for sources in itertools.product(*(sources_of(it, events, halves, orders, atomic) for it in reads)):
+            for sources in itertools.product(*(sources_of(read, events, halves, orders, atomic) for read in reads)):
                 yield Execution(events, dict(zip(reads, sources)), orders, registers)

@@ -14,7 +14,7 @@ MODEL = ("linux-kernel.cfg", "linux-kernel.bell", "linux-kernel.cat", "linux-ker
 def models():
     """The models that are there: those that were fetched, and those of a kernel's source that is installed."""
     places = [*(TOP / "build/memory-model").glob("*/*/tools/memory-model"), *Path("/usr/src").glob("*/tools/memory-model")]
-    return sorted(it for it in places if (it / MODEL[0]).exists())
+    return sorted(folder for folder in places if (folder / MODEL[0]).exists())
 
 
 def model_of(word, tell):
@@ -22,10 +22,7 @@ def model_of(word, tell):
     if Path(word).is_dir():
         folder = Path(word)
     elif re.fullmatch(r"\d+\.\d+", word):
-        try:
-            tree, _ = source.fetch(word, [f"tools/memory-model/{it}" for it in MODEL], TOP / "build/memory-model", tell)
-        except source.Missing as it:
-            raise Failed(it, 3) from None
+        tree, _ = source.fetch(word, [f"tools/memory-model/{file}" for file in MODEL], TOP / "build/memory-model", tell)
         folder = tree / "tools/memory-model"
     else:
         raise Failed(f"{word}: no such folder, and no line of kernels as 6.12", 3)

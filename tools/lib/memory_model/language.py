@@ -28,12 +28,8 @@ Unary = namedtuple("Unary", "operation of")
 Binary = namedtuple("Binary", "operation left right")
 
 TOKEN = re.compile(r"\s+|//[^\n]*|(?P<token>[A-Za-z_]\w*|\d+|/\\|\\/|->|[-+*/%&|^~!<>=]=|&&|\|\||<<|>>|[-+*/%&|^~!<>=(){}\[\],;:.])")
-FENCES = {
-    "smp_mb": "mb", "smp_rmb": "rmb", "smp_wmb": "wmb", "smp_mb__before_atomic": "before-atomic", "smp_mb__after_atomic": "after-atomic",
-    "smp_mb__after_spinlock": "after-spinlock", "smp_mb__after_unlock_lock": "after-unlock-lock", "barrier": "barrier",
-    "rcu_read_lock": "rcu-lock", "rcu_read_unlock": "rcu-unlock", "synchronize_rcu": "sync-rcu", "synchronize_rcu_expedited": "sync-rcu",
-}  # fmt: skip
-OPERATIONS = {"add": "+", "sub": "-", "and": "&", "or": "|", "xor": "^", "andnot": "&~"}
+TYPES = ("int", "long", "unsigned", "struct", "spinlock_t", "atomic_t")
+OPERATIONS = {"add": "+", "inc": "+", "sub": "-", "dec": "-", "and": "&", "or": "|", "xor": "^", "andnot": "&~"}
 ORDERS = ("relaxed", "acquire", "release")
 LEVELS = [("||",), ("&&",), ("|",), ("^",), ("&",), ("==", "!="), ("<", ">", "<=", ">="), ("+", "-")]
 
@@ -43,8 +39,8 @@ def without_comments(text):
     return re.sub(r"\(\*(?=\s).*?\*\)|/\*.*?\*/", lambda found: re.sub(r"[^\n]", " ", found.group()), text, flags=re.S)
 
 
-class Reader:
-    """The tokens of a test, and where each is."""
+class Tokens:
+    """The tokens of a text, and where each is."""
 
     def __init__(self, text):
         self.tokens, self.lines, self.at = [], [], 0
@@ -59,9 +55,9 @@ class Reader:
             line += found.group().count("\n")
             place = found.end()
 
-    def fail(self, what):
-        line = self.lines[min(self.at, len(self.lines) - 1)] if self.lines else 1
-        raise Malformed(f"line {line}: {what}")
+    def fail(self, what, back=0):
+        at = min(self.at - back, len(self.lines) - 1)
+        raise Malformed(f"line {self.lines[at] if self.lines else 1}: {what}")
 
     def peek(self, ahead=0):
         return self.tokens[self.at + ahead] if self.at + ahead < len(self.tokens) else ""
@@ -76,343 +72,281 @@ class Reader:
     def accept(self, *tokens):
         return self.next() if self.peek() in tokens else None
 
-    def expect(self, token):
-        if self.next() != token:
-            self.at -= 1
-            self.fail(f"{token!r} is missing before {self.peek()!r}")
+    def expect(self, *tokens):
+        for token in tokens:
+            if self.next() != token:
+                self.fail(f"{token!r} is missing before {self.tokens[self.at - 1]!r}", 1)
 
     def name(self):
         token = self.next()
         if not re.fullmatch(r"[A-Za-z_]\w*", token):
-            self.at -= 1
-            self.fail(f"a name is missing before {token!r}")
+            self.fail(f"a name is missing before {token!r}", 1)
         return token
 
+    def skip(self, *tokens):
+        while self.peek() in tokens:
+            self.next()
 
-class Thread:
-    """Reads the body of one thread."""
 
-    def __init__(self, reader, shared):
-        self.reader, self.shared, self.fresh = reader, shared, 0
+class Reader(Tokens):
+    """Reads a test. In a thread `shared` are the names of its parameters, and `fresh` is how many registers of our own it has so far."""
+
+    shared, fresh = (), 0
+
+    # STATEMENTS, each as a list of those above
 
     def block(self):
+        if not self.accept("{"):
+            return self.statement()
         found = []
-        if self.reader.accept("{"):
-            while not self.reader.accept("}"):
-                found += self.statement()
-            return found
-        return self.statement()
+        while not self.accept("}"):
+            found += self.statement()
+        return found
 
     def statement(self):
-        reader = self.reader
-        if reader.accept(";"):
+        if self.accept(";"):
             return []
-        if reader.accept("{"):
-            reader.at -= 1
+        if self.peek() == "{":
             return self.block()
-        if reader.accept("if"):
+        if self.accept("if"):
             return self.choice()
-        if reader.peek() in ("int", "long", "unsigned", "struct", "spinlock_t", "atomic_t"):
-            return self.declaration()
-        found = self.simple()
-        reader.expect(";")
+        found = self.declaration() if self.peek() in TYPES else self.simple()
+        self.expect(";")
         return found
 
     def choice(self):
-        self.reader.expect("(")
+        self.expect("(")
         before, condition = self.expression()
-        self.reader.expect(")")
+        self.expect(")")
         then = self.block()
-        otherwise = self.block() if self.reader.accept("else") else []
-        return before + [If(condition, then, otherwise)]
+        return before + [If(condition, then, self.block() if self.accept("else") else [])]
 
     def declaration(self):
-        while self.reader.peek() in ("int", "long", "unsigned", "struct", "*"):
-            self.reader.next()
-        name = self.reader.name()
-        if self.reader.accept("="):
-            before, value = self.expression()
-            self.reader.expect(";")
-            return before + [Assign(name, value)]
-        self.reader.expect(";")
-        return []
+        self.skip(*TYPES, "*")
+        name = self.name()
+        if not self.accept("="):
+            return []
+        before, value = self.expression()
+        return before + [Assign(name, value)]
 
     def simple(self):
         """An assignment, or a call whose answer isn't used."""
-        reader = self.reader
-        if reader.peek(1) == "void":
-            for token in ("(", "void", ")"):
-                reader.expect(token)
-        if reader.peek(1) == "=" and reader.peek() not in self.shared:
-            name = reader.name()
-            reader.expect("=")
+        if self.peek(1) == "void":
+            self.expect("(", "void", ")")
+        if self.peek(1) == "=" and self.peek() not in self.shared:
+            name = self.name()
+            self.expect("=")
             before, value = self.expression()
-            if before and value == Register(before[-1].register) and len(value.name) and value.name.startswith("."):
-                before[-1] = before[-1]._replace(register=name)
-                return before
+            if before and value == Register(before[-1].register) and value.name.startswith("."):
+                return [*before[:-1], before[-1]._replace(register=name)]
             return before + [Assign(name, value)]
-        if reader.peek() == "*" or reader.peek() in self.shared and reader.peek(1) == "=":
-            reader.fail("a plain access isn't decided here: use READ_ONCE and WRITE_ONCE")
-        before, _ = self.expression()
-        return before
+        if self.peek() == "*" or self.peek() in self.shared and self.peek(1) == "=":
+            self.fail("a plain access isn't decided here: use READ_ONCE and WRITE_ONCE")
+        return self.expression()[0]
 
-    def register(self):
-        self.fresh += 1
-        return f".{self.fresh}"
+    # EXPRESSIONS: the statements that its calls are, and its value
 
     def expression(self, level=0):
-        """The statements that an expression's calls are, and its value."""
         if level == len(LEVELS):
             return self.unary()
         before, left = self.expression(level + 1)
-        while self.reader.peek() in LEVELS[level]:
-            operation = self.reader.next()
+        while self.peek() in LEVELS[level]:
+            operation = self.next()
             more, right = self.expression(level + 1)
             before, left = before + more, Binary(operation, left, right)
         return before, left
 
     def unary(self):
-        reader = self.reader
-        if reader.accept("("):
+        if self.accept("("):
             found = self.expression()
-            reader.expect(")")
+            self.expect(")")
             return found
-        if reader.peek() in ("!", "~", "-"):
-            operation = reader.next()
+        if self.peek() in ("!", "~", "-"):
+            operation = self.next()
             before, of = self.unary()
             return before, Unary(operation, of)
-        if reader.accept("&"):
-            return [], Address(reader.name())
-        if reader.peek().isdigit():
-            return [], Number(int(reader.next()))
-        name = reader.name()
-        if reader.peek() == "(":
+        if self.accept("&"):
+            return [], Address(self.name())
+        if self.peek().isdigit():
+            return [], Number(int(self.next()))
+        name = self.name()
+        if self.peek() == "(":
             return self.call(name)
-        if name in self.shared:
-            return [], Address(name)
-        return [], Register(name)
-
-    def arguments(self):
-        """The arguments of a call: each the statements before it, and its value. `*x` as an argument is the place x."""
-        reader, found = self.reader, []
-        reader.expect("(")
-        while not reader.accept(")"):
-            reader.accept("*")
-            found.append(self.expression())
-            if reader.peek() != ")":
-                reader.expect(",")
-        return [it for before, _ in found for it in before], [value for _, value in found]
+        return [], (Address if name in self.shared else Register)(name)
 
     def call(self, name):
-        at = self.reader.at
-        before, words = self.arguments()
-        made = call_of(name, words, self.register())
-        if made is None:
-            self.reader.at = at
-            self.reader.fail(f"{name} with {len(words)} arguments isn't read here")
-        statements, value = made
-        return before + statements, value
+        """`*x` as an argument is the place x."""
+        at, before, words = self.at, [], []
+        self.expect("(")
+        while not self.accept(")"):
+            self.accept("*")
+            more, value = self.expression()
+            before, words = before + more, [*words, value]
+            if self.peek() != ")":
+                self.expect(",")
+        self.fresh += 1
+        statements = call_of(name, words, f".{self.fresh}")
+        if statements is None:
+            self.at = at
+            self.fail(f"{name} with {len(words)} arguments isn't read here")
+        return before + statements, Number(0) if isinstance(statements[0], Fence) else Register(f".{self.fresh}")
 
+    # WHAT IS AROUND THE THREADS
 
-def call_of(name, words, register):
-    """The statements that a call is, and its value; None where the call isn't known."""
-    if name in FENCES and not words:
-        return [Fence(FENCES[name])], Number(0)
-    for maker in (load_of, store_of, lock_of, exchange_of, atomic_of):
-        made = maker(name, words, register)
-        if made:
-            return made, Register(register)
-    return None
+    def first_values(self):
+        """The block of first values: `int x = 1; y = 2; atomic_t s = ATOMIC_INIT(3); p = &x;`, or without types."""
+        first = {}
+        self.expect("{")
+        while not self.accept("}"):
+            if self.accept(";"):
+                continue
+            while self.peek() in (*TYPES, "*") and self.peek(1) not in ("=", ";"):
+                self.next()
+            name = self.name()
+            first[name] = self.first_value() if self.accept("=") else 0
+            self.accept(";")
+        return first
 
+    def first_value(self):
+        if self.accept("ATOMIC_INIT", "("):
+            self.accept("(")
+            value = self.first_value()
+            self.expect(")")
+            return value
+        self.accept("&")
+        return int(self.next()) if self.peek().isdigit() else self.name()
 
-def load_of(name, words, register):
-    orders = {"READ_ONCE": "once", "atomic_read": "once", "rcu_dereference": "once", "smp_load_acquire": "acquire", "atomic_read_acquire": "acquire"}
-    if name in orders and len(words) == 1:
-        return [Load(register, words[0], orders[name])]
-    return None
+    def thread(self):
+        """The names of a thread's parameters, which are the shared variables that it uses, and its body."""
+        self.shared, self.fresh = [], 0
+        self.expect("(")
+        while not self.accept(")"):
+            while self.peek(1) not in (",", ")"):
+                self.next()
+            self.shared.append(self.name())
+            self.accept(",")
+        return self.shared, self.block()
 
+    # THE CONDITION ON THE END: `0:r0=1 /\\ x=2`, with `\\/`, `~` and brackets, as nested tuples
 
-def store_of(name, words, _):
-    orders = {"WRITE_ONCE": "once", "smp_store_release": "release", "rcu_assign_pointer": "release", "smp_store_mb": "once"}
-    if name in orders and len(words) == 2:
-        return [Store(words[0], words[1], orders[name])] + ([Fence("mb")] if name == "smp_store_mb" else [])
-    if name in ("atomic_set", "atomic_set_release") and len(words) == 2:
-        return [Store(words[0], words[1], "release" if name.endswith("release") else "once")]
-    return None
+    def condition(self):
+        return self.joined("or", "\\/", lambda: self.joined("and", "/\\", self.one))
 
-
-def lock_of(name, words, register):
-    if name in ("spin_lock", "spin_trylock") and len(words) == 1:
-        return [Lock(register, words[0], name == "spin_lock")]
-    if name == "spin_unlock" and len(words) == 1:
-        return [Store(words[0], Number(0), "unlock")]
-    if name == "spin_is_locked" and len(words) == 1:
-        return [Load(register, words[0], "once")]
-    return None
-
-
-def order_in(name):
-    """A name without the order at its end, and that order; without one the operation is fully ordered."""
-    for order in ORDERS:
-        if name.endswith("_" + order):
-            return name[: -len(order) - 1], order
-    return name, "mb"
-
-
-def exchange_of(name, words, register):
-    stem, order = order_in(name)
-    if stem in ("xchg", "atomic_xchg") and len(words) == 2:
-        return [Update(register, words[0], "=", words[1], order, "old")]
-    if stem in ("cmpxchg", "atomic_cmpxchg") and len(words) == 3:
-        return [Compare(register, words[0], words[1], words[2], order, False)]
-    if stem == "atomic_add_unless" and len(words) == 3:
-        return [Compare(register, words[0], words[2], words[1], order, True)]
-    return None
-
-
-def atomic_of(name, words, register):
-    """`atomic_OP(i, v)` and its like of the kernel's Documentation/atomic_t.txt, and bit operations over a mask of one bit."""
-    stem, order = order_in(name)
-    stem = {"atomic_inc": "atomic_add", "atomic_dec": "atomic_sub"}.get(stem, stem)
-    stem = re.sub(r"^atomic_(fetch_)?(inc|dec)(_return|_and_test)?$", lambda it: f"atomic_{it[1] or ''}{'add' if it[2] == 'inc' else 'sub'}{it[3] or ''}", stem)
-    found = re.fullmatch(r"atomic_(fetch_)?(add|sub|and|or|xor|andnot)(_return|_and_test)?", stem)
-    if not found or len(words) not in (1, 2) or found[1] and found[3]:
-        return None
-    operand, place = (words[0], words[1]) if len(words) == 2 else (Number(1), words[0])
-    gives = "old" if found[1] else {"_return": "new", "_and_test": "is_zero", None: "nothing"}[found[3]]
-    if gives == "nothing":
-        order = "noreturn"
-    return [Update(register, place, OPERATIONS[found[2]], operand, order, gives)]
-
-
-def first_values(reader):
-    """The block of first values: `int x = 1; y = 2; atomic_t s = ATOMIC_INIT(3); p = &x;`, or without types."""
-    first = {}
-    reader.expect("{")
-    while not reader.accept("}"):
-        if reader.accept(";"):
-            continue
-        while reader.peek() in ("int", "long", "unsigned", "atomic_t", "spinlock_t", "*") and reader.peek(1) not in ("=", ";"):
-            reader.next()
-        name = reader.name()
-        value = Number(0)
-        if reader.accept("="):
-            value = first_value(reader)
-        first[name] = value.value if isinstance(value, Number) else value.name
-        reader.accept(";")
-    return first
-
-
-def first_value(reader):
-    if reader.accept("ATOMIC_INIT", "("):
-        reader.accept("(")
-        value = first_value(reader)
-        reader.expect(")")
-        return value
-    if reader.accept("&"):
-        return Address(reader.name())
-    if reader.peek().isdigit():
-        return Number(int(reader.next()))
-    return Address(reader.name())
-
-
-def parameters(reader):
-    """The names of a thread's parameters: the shared variables that it uses."""
-    found = []
-    reader.expect("(")
-    while not reader.accept(")"):
-        while reader.peek(1) not in (",", ")"):
-            reader.next()
-        found.append(reader.name())
-        reader.accept(",")
-    return found
-
-
-class Condition:
-    """Reads the condition on the end: `0:r0=1 /\\ x=2`, with `\\/`, `~` and brackets, as nested tuples."""
-
-    def __init__(self, reader):
-        self.reader = reader
-
-    def any(self):
-        found = [self.all()]
-        while self.reader.accept("\\/"):
-            found.append(self.all())
-        return ("or", *found) if len(found) > 1 else found[0]
-
-    def all(self):
-        found = [self.one()]
-        while self.reader.accept("/\\"):
-            found.append(self.one())
-        return ("and", *found) if len(found) > 1 else found[0]
+    def joined(self, kind, mark, part):
+        found = [part()]
+        while self.accept(mark):
+            found.append(part())
+        return (kind, *found) if len(found) > 1 else found[0]
 
     def one(self):
-        reader = self.reader
-        if reader.accept("~"):
+        if self.accept("~"):
             return ("not", self.one())
-        if reader.accept("("):
-            found = self.any()
-            reader.expect(")")
+        if self.accept("("):
+            found = self.condition()
+            self.expect(")")
             return found
         return self.equation()
 
     def equation(self):
-        reader = self.reader
-        if reader.peek(1) == ":":
-            thread = int(reader.next())
-            reader.expect(":")
-            left = (thread, reader.name())
-        else:
-            reader.accept("[")
-            left = (None, reader.name())
-            reader.accept("]")
-        is_equal = reader.accept("==", "=", "!=") in ("==", "=")
-        reader.accept("&")
-        right = reader.next()
+        thread = None
+        if self.peek(1) == ":":
+            thread = int(self.next())
+            self.expect(":")
+        self.accept("[")
+        left = (thread, self.name())
+        self.accept("]")
+        is_equal = self.accept("==", "=", "!=") in ("==", "=")
+        self.accept("&")
+        right = self.next()
         equation = ("is", left, int(right) if right.isdigit() else right)
         return equation if is_equal else ("not", equation)
+
+    def filter(self):
+        """The condition without which an execution isn't counted; before it may be names of variables that herd7 is to show."""
+        if self.accept("locations"):
+            while self.next() != "]":
+                pass
+        return self.condition() if self.accept("filter") else None
+
+    def quantifier(self):
+        if self.accept("~"):
+            self.expect("exists")
+            return "~exists"
+        return self.accept("exists", "forall") or self.fail("'exists', '~exists' or 'forall' is missing")
+
+
+# CALLS
+
+FENCES = {
+    "smp_mb": "mb", "smp_rmb": "rmb", "smp_wmb": "wmb", "smp_mb__before_atomic": "before-atomic", "smp_mb__after_atomic": "after-atomic",
+    "smp_mb__after_spinlock": "after-spinlock", "smp_mb__after_unlock_lock": "after-unlock-lock", "barrier": "barrier",
+    "rcu_read_lock": "rcu-lock", "rcu_read_unlock": "rcu-unlock", "synchronize_rcu": "sync-rcu", "synchronize_rcu_expedited": "sync-rcu",
+}  # fmt: skip
+LOADS = {"READ_ONCE": "once", "atomic_read": "once", "rcu_dereference": "once", "spin_is_locked": "once", "smp_load_acquire": "acquire", "atomic_read_acquire": "acquire"}
+STORES = {"WRITE_ONCE": "once", "atomic_set": "once", "smp_store_release": "release", "rcu_assign_pointer": "release", "atomic_set_release": "release"}
+# by a call's name and the number of its arguments, of the place and the others, what it is
+FORMS = {
+    **{(name, 0): lambda register, kind=kind: [Fence(kind)] for name, kind in FENCES.items()},
+    **{(name, 1): lambda register, place, order=order: [Load(register, place, order)] for name, order in LOADS.items()},
+    **{(name, 2): lambda register, place, value, order=order: [Store(place, value, order)] for name, order in STORES.items()},
+    ("smp_store_mb", 2): lambda register, place, value: [Store(place, value, "once"), Fence("mb")],
+    ("spin_lock", 1): lambda register, place: [Lock(register, place, True)],
+    ("spin_trylock", 1): lambda register, place: [Lock(register, place, False)],
+    ("spin_unlock", 1): lambda register, place: [Store(place, Number(0), "unlock")],
+}
+# the same of operations whose names may end with their order
+ORDERED = {
+    **{(name, 2): lambda register, order, place, value: [Update(register, place, "=", value, order, "old")] for name in ("xchg", "atomic_xchg")},
+    **{(name, 3): lambda register, order, place, old, new: [Compare(register, place, old, new, order, False)] for name in ("cmpxchg", "atomic_cmpxchg")},
+    ("atomic_add_unless", 3): lambda register, order, place, addend, unless: [Compare(register, place, unless, addend, order, True)],
+}
+
+
+def call_of(name, words, register):
+    """The statements that a call is; None where the call isn't known."""
+    if (name, len(words)) in FORMS:
+        return FORMS[name, len(words)](register, *words)
+    stem, order = order_in(name)
+    if (stem, len(words)) in ORDERED:
+        return ORDERED[stem, len(words)](register, order, *words)
+    return atomic_of(stem, order, words, register)
+
+
+def order_in(name):
+    """A name without the order at its end, and that order; without one the operation is fully ordered."""
+    stem, _, order = name.rpartition("_")
+    return (stem, order) if order in ORDERS else (name, "mb")
+
+
+def atomic_of(stem, order, words, register):
+    """`atomic_OP(i, v)` and its like of the kernel's Documentation/atomic_t.txt, and bit operations over a mask of one bit."""
+    found = re.fullmatch(r"atomic_(fetch_)?(add|sub|inc|dec|and|or|xor|andnot)(_return|_and_test)?", stem)
+    if not found or len(words) not in (1, 2) or found[1] and found[3]:
+        return None
+    operand, place = (words[0], words[1]) if len(words) == 2 else (Number(1), words[0])
+    gives = "old" if found[1] else {"_return": "new", "_and_test": "is_zero", None: "nothing"}[found[3]]
+    return [Update(register, place, OPERATIONS[found[2]], operand, "noreturn" if gives == "nothing" else order, gives)]
 
 
 def read(text):
     """The test that a text is."""
-    text = without_comments(text)
-    head, _, rest = text.partition("\n")
+    head, _, rest = without_comments(text).partition("\n")
     words = head.split()
     if len(words) != 2 or words[0] != "C":
         raise Malformed("line 1: it begins with 'C NAME'")
     reader = Reader("\n" + rest)
-    first = first_values(reader)
-    threads = []
+    first, threads = reader.first_values(), []
     while re.fullmatch(r"P\d+", reader.peek()):
-        if reader.next() != f"P{len(threads)}":
-            reader.at -= 1
+        if reader.peek() != f"P{len(threads)}":
             reader.fail(f"P{len(threads)} is missing")
-        shared = parameters(reader)
+        reader.next()
+        shared, body = reader.thread()
+        threads.append(body)
         for name in shared:
             first.setdefault(name, 0)
-        threads.append(Thread(reader, shared).block())
-    for value in [it for it in first.values() if isinstance(it, str)]:
-        first.setdefault(value, 0)
-    kept, quantifier = filter_of(reader), quantifier_of(reader)
-    condition = Condition(reader).any()
+    for name in [value for value in first.values() if isinstance(value, str)]:
+        first.setdefault(name, 0)
+    test = Test(words[1], first, threads, reader.filter(), reader.quantifier(), reader.condition())
     if reader.peek():
         reader.fail(f"nothing is expected after the condition, and {reader.peek()!r} is there")
-    return Test(words[1], first, threads, kept, quantifier, condition)
-
-
-def filter_of(reader):
-    """The condition without which an execution isn't counted; before it may be names of variables that herd7 is to show."""
-    if reader.accept("locations"):
-        while reader.next() != "]":
-            pass
-    return Condition(reader).any() if reader.accept("filter") else None
-
-
-def quantifier_of(reader):
-    if reader.accept("~"):
-        reader.expect("exists")
-        return "~exists"
-    word = reader.accept("exists", "forall")
-    if not word:
-        reader.fail("'exists', '~exists' or 'forall' is missing")
-    return word
+    return test
