@@ -1,7 +1,7 @@
 """The text of the steps (steps.h), its positions, and its changes that have a name (edits.txt)."""
 import pathlib
 import re
-from typing import Dict, List, NamedTuple, Optional, Tuple
+from typing import Dict, List, NamedTuple, Tuple
 
 from lib.words import Wrong
 
@@ -21,11 +21,11 @@ def steps() -> str:
 
 
 class Hunk(NamedTuple):
-    """Lines of a position or function, and what comes in their place."""
+    """A part of a line of a position or function, and what comes in its place."""
 
     where: str
-    old: Tuple[str, ...]
-    new: Tuple[str, ...]
+    old: str
+    new: str
 
 
 class Edit(NamedTuple):
@@ -38,37 +38,30 @@ class Edit(NamedTuple):
 
 def edits() -> Dict[str, Edit]:
     found = {}
-    for part in re.split(r"\n\n+", EDITS.read_text(encoding="utf-8").strip()):
-        if part.startswith("#"):
-            continue
-        head, *places = re.split(r"^@ (.*)\n", part + "\n", flags=re.M)
-        name, about = head.strip().split(": ", 1)
-        changes = [(where, *pair) for where, body in zip(places[::2], places[1::2]) for pair in re.findall(r"((?:-.*\n)+)((?:\+.*\n)*)", body)]
-        hunks = tuple(Hunk(where, *(tuple(line[1:] for line in lines.splitlines() if line[1:]) for lines in pair)) for where, *pair in changes)
-        found[name] = Edit(name, about, hunks)
+    for part in re.split(r"\n\n+", EDITS.read_text(encoding="utf-8").strip())[1:]:
+        name, about = part.partition("\n")[0].split(": ", 1)
+        hunks = re.findall(r"^@ (\w+): (.*?) =>[ ]?(.*(?:\n\+.*)*)", part, re.M)
+        found[name] = Edit(name, about, tuple(Hunk(where, old, new.replace("\n+", "\n")) for where, old, new in hunks))
     return found
 
 
-def block_of(lines: List[str], where: str) -> Optional[Tuple[int, int]]:
+def block_of(lines: List[str], where: str) -> range:
     """The lines of a position's case, or of a function."""
     begins = re.compile(rf"    case {where}:" if where.isupper() or where[-1].isdigit() else rf"static int {where}\(")
     ends = re.compile(r"    case \w+:|    /\* ----|\}")
-    first = next((n for n, line in enumerate(lines) if begins.match(line)), None)
-    if first is None:
-        return None
-    return first, next((n for n in range(first + 1, len(lines)) if ends.match(lines[n])), len(lines))
+    first = next((n for n, line in enumerate(lines) if begins.match(line)), len(lines))
+    return range(first, next((n for n in range(first + 1, len(lines)) if ends.match(lines[n])), len(lines)))
 
 
 def edited(text: str, edit: Edit) -> str:
     """The text of the steps with a change that has a name."""
     lines = text.split("\n")
     for hunk in edit.hunks:
-        place = block_of(lines, hunk.where)
-        many = len(hunk.old)
-        at = next((n for n in range(*place) if tuple(lines[n : n + many]) == hunk.old), None) if place else None
-        if at is None:
-            raise Fault(f"{edit.name} changes a line of {hunk.where} that isn't in this text: {hunk.old[0].strip()}")
-        lines[at : at + many] = hunk.new
+        places = [n for n in block_of(lines, hunk.where) if hunk.old in lines[n]]
+        if len(places) != 1:
+            raise Fault(f"{edit.name} changes a line of {hunk.where} that isn't in this text: {hunk.old}")
+        line = lines[places[0]].replace(hunk.old, hunk.new)
+        lines[places[0] : places[0] + 1] = line.split("\n") if line.strip() else []
     return "\n".join(lines)
 
 
