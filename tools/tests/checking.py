@@ -68,7 +68,7 @@ def check_kernel_table():
         if part not in said:
             fault(f"check-kernel says nothing of {part!r}: {said}")
     is_equal("check-kernel's exit code", code, 1)
-    if not all((out / it).is_file() for it in ("check-kernel.1.txt", "check-kernel.1.svg", "check-kernel.1.schedule")) or ("weak", "--change") not in asked:
+    if not all((out / name).is_file() for name in ("check-kernel.1.txt", "check-kernel.1.svg", "check-kernel.1.schedule")) or ("weak", "--change") not in asked:
         fault(f"check-kernel: {asked}, {sorted(out.iterdir())}")
     models.remove("as written")
     is_equal("check-kernel's exit code, with the barrier", printed(tool.check, words)[0], 0)

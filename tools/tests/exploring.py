@@ -183,7 +183,7 @@ def explore_table():
     """The table of positions has each that `trace` prints, and each change that has a name is one of the text."""
     said = run(EXPLORE, "--positions")
     expect("explore --positions", said, 0, "miss\tsets MISSED\tqdisc_run_begin()\tinclude/net/sch_generic.h\ttest_and_set_bit(__QDISC_STATE_MISSED, &qdisc->state)\t")
-    names = [it.split("\t")[0] for it in said[1].splitlines()]
+    names = [line.split("\t")[0] for line in said[1].splitlines()]
     for name in ("enter", "check", "put", "try1", "miss", "try2", "recheck", "gate", "xmit", "stop", "post", "deq", "test", "clearm", "cleard", "cclear", "cload", "cmiss", "cdrain", "again", "quota", "unlock", "tail", "sched", "leave", "soft", "sclear", "late", "wake"):
         if name not in names:
             fault(f"explore --positions: no {name}")
@@ -191,7 +191,7 @@ def explore_table():
     for edit in steps_text.edits().values():
         if steps_text.edited(steps, edit) == steps:
             fault(f"{edit.name} changes nothing")
-    expect("explore --edits", run(EXPLORE, "--edits"), 0, *(f"{it}: " for it in machine.MISTAKES))
+    expect("explore --edits", run(EXPLORE, "--edits"), 0, *(f"{name}: " for name in machine.MISTAKES))
 
 
 @case

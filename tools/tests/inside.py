@@ -141,16 +141,16 @@ def tree(name, **files):
 def search(top, *words):
     """The search of a letter box; compiling it may take a while on a busy machine."""
     call = [HERE / "inside-calls", top, "--worlds", top / "worlds", "--folder", ROOM / "inside", "--level", "0", "--size", "tap,puts=1", *words]
-    said = subprocess.run([str(it) for it in call], capture_output=True, text=True, check=False)
+    said = subprocess.run([str(word) for word in call], capture_output=True, text=True, check=False)
     return said.returncode, said.stdout, said.stderr
 
 
 def refusal(top, *given):
     """What the extractor says of a tree that it refuses."""
     try:
-        extract.cut(top, top / "worlds/tap.names", [extract.Change(*it) for it in given])
-    except extract.Refused as it:
-        return str(it)
+        extract.cut(top, top / "worlds/tap.names", [extract.Change(*change) for change in given])
+    except extract.Refused as refused:
+        return str(refused)
     return "nothing"
 
 
@@ -159,9 +159,9 @@ def inside_calls_extractor():
     top = tree("box")
     cut = extract.cut(top, top / "worlds/tap.names")
     # each definition ends with a line end of its own
-    if "".join(it + "\n" for it in cut.text.split("\n") if it) != "".join(it + "\n" for it in CUT.split("\n") if it) or (cut.definitions, cut.changed) != (7, 0):
+    if "".join(line + "\n" for line in cut.text.split("\n") if line) != "".join(line + "\n" for line in CUT.split("\n") if line) or (cut.definitions, cut.changed) != (7, 0):
         fault(f"what is cut out of a tree is another: {cut}")
-    mended = extract.cut(top, top / "worlds/tap.names", [extract.Change(*it) for it in MEND])
+    mended = extract.cut(top, top / "worlds/tap.names", [extract.Change(*change) for change in MEND])
     wanted = cut.text.replace("\tif (!spin", "\tagain: if (!spin").replace("\treturn 1;", "\tif (!mailbox_empty(m)) goto again; return 1;")
     if mended.changed != 2 or mended.text != wanted:
         fault(f"a change isn't what was asked: {mended.text[-300:]}")
@@ -213,13 +213,13 @@ def inside_calls_words():
     if tree_file.read_text(encoding="utf-8") != "kept":
         fault("inside-calls: a file of the tree is overwritten")
     expect("inside-calls, an empty tree", run(tool, ROOM, "--folder", ROOM / "inside"), 3, "has no include/linux/netdevice.h, ")
-    if [it.is_found for it in changes.BREAKS].count(True) != 19 or len({it.name for it in changes.BREAKS}) != 26:
+    if [broken.is_found for broken in changes.BREAKS].count(True) != 19 or len({broken.name for broken in changes.BREAKS}) != 26:
         fault("inside-calls: there are other changes than the 26")
-    standard = [it.values for it in sizes.STANDARD]
-    for it in changes.BREAKS:
-        if it.values not in standard:
-            fault(f"inside-calls: the size of {it.name} is no standard one, so that nobody finds such a change who names no size")
-    if len({it.text for it in sizes.STANDARD + sizes.LARGE}) != len(sizes.STANDARD + sizes.LARGE):
+    standard = [size.values for size in sizes.STANDARD]
+    for broken in changes.BREAKS:
+        if broken.values not in standard:
+            fault(f"inside-calls: the size of {broken.name} is no standard one, so that nobody finds such a change who names no size")
+    if len({size.text for size in sizes.STANDARD + sizes.LARGE}) != len(sizes.STANDARD + sizes.LARGE):
         fault("inside-calls: two sizes have one name")
 
 
@@ -267,7 +267,7 @@ def inside_calls_search():
     # another seat is alone, as in a change of the length: a lock of no discipline may be taken beside it
     expect("inside-calls, a lock of no discipline", search(tree("alone", **{"worlds/tap.c": WORLD.replace("return -1;", "return 0;")}), *MENDED), 0, "nothing goes wrong")
     # on x86 the holder's release may come after its look, unless a barrier is between the two
-    held = [it.replace("if (!mailbox_empty(m)) goto", "smp_mb(); if (!mailbox_empty(m)) goto") for it in MENDED]
+    held = [word.replace("if (!mailbox_empty(m)) goto", "smp_mb(); if (!mailbox_empty(m)) goto") for word in MENDED]
     expect("inside-calls, mended, on x86", search(top, *MENDED, "--model", "x86"), 1, "memory x86", "WRONG: 1 packet is left in the box")
     expect("inside-calls, mended with a barrier, on x86", search(top, *held, "--model", "x86"), 0, "nothing goes wrong", "memory x86, ")
 

@@ -10,7 +10,7 @@ ROWS = sorted((TOP / "examples/litmus").glob("*.litmus"))
 
 def wrong(files, without=()):
     """The files whose answer isn't the one that they say."""
-    texts = {it.stem: it.read_text(encoding="utf-8") for it in files}
+    texts = {file.stem: file.read_text(encoding="utf-8") for file in files}
     return [name for name, text in texts.items() if f"Result: {answer.decide(language.read(text), without).word}" not in text]
 
 
@@ -26,7 +26,7 @@ def published_litmus_answers():
 @case
 def wrong_axioms_are_noticed():
     """A model without atomicity, or whose full barrier orders nothing, gives other answers."""
-    if not {"atomicity+incs", "atomicity+trylocks"} <= set(wrong([it for it in SHAPES if "atomicity" in it.stem], ("atomicity",))):
+    if not {"atomicity+incs", "atomicity+trylocks"} <= set(wrong([file for file in SHAPES if "atomicity" in file.stem], ("atomicity",))):
         fault("litmus: a model without atomicity isn't noticed")
     if not {"SB+fencembonceonces", "IRIW+fencembonceonces+OnceOnce"} <= set(wrong(SHAPES, ("mb",))):
         fault("litmus: a barrier that orders nothing isn't noticed")
@@ -40,7 +40,7 @@ def litmus_beside_herd7():
         return
     for path in [*SHAPES, *ROWS]:
         word = answer.decide(language.read(path.read_text(encoding="utf-8"))).word
-        for model, other in ((it, herd.ask(it, path)) for it in herd.models()):
+        for model, other in ((known, herd.ask(known, path)) for known in herd.models()):
             if word != other:
                 fault(f"litmus: {path.stem} is {word}, and herd7 with {model} says {other}")
 

@@ -25,27 +25,27 @@ def image_of(release):
 def kernel(name, release="6.1.9", built="6.1.9", without=()):
     """The image and the folder of a kernel that was built here."""
     room = OWN / name
-    for it in (own.RELEASE, own.VALUES):
-        (room / it).parent.mkdir(parents=True)
+    for file in (own.RELEASE, own.VALUES):
+        (room / file).parent.mkdir(parents=True)
     (room / "bzImage").write_bytes(image_of(release))
     (room / own.RELEASE).write_text(f'#define UTS_RELEASE "{built}"\n', encoding="utf-8")
-    (room / own.VALUES).write_text("".join(f"CONFIG_{it}={'m' if it == '9P_FS' else 'y'}\n" for it in own.MUST_HAVE if it not in without), encoding="utf-8")
+    (room / own.VALUES).write_text("".join(f"CONFIG_{name}={'m' if name == '9P_FS' else 'y'}\n" for name in own.MUST_HAVE if name not in without), encoding="utf-8")
     return ["--image", room / "bzImage", "--headers", room]
 
 
 @case
 def own_kernel_words():
-    it = kernel("whole")
-    for words in (it[:2], it[2:], [*it, "--kernel", "6.1"], ["--modules", OWN]):
+    whole = kernel("whole")
+    for words in (whole[:2], whole[2:], [*whole, "--kernel", "6.1"], ["--modules", OWN]):
         expect(f"beside-linux {words}", run(TOOL, "--rules-alone", *words, *FILES), 2, "--image BZIMAGE --headers DIR [--modules DIR]")
-    expect("beside-linux --image, no plan", run(TOOL, *it), 2, "PLAN and CAPTURE, or --many N")
-    expect("beside-linux, no such option", run(TOOL, "--rules-alone", "--imag", it[1], *FILES), 2, "--imag")
-    os.link(it[1], OWN / "o.linux.fates")
-    expect("beside-linux --image, an output that is the image by a link", run(TOOL, "--rules-alone", *it, *FILES, OWN / "o"), 2, "o.linux.fates is an input")
+    expect("beside-linux --image, no plan", run(TOOL, *whole), 2, "PLAN and CAPTURE, or --many N")
+    expect("beside-linux, no such option", run(TOOL, "--rules-alone", "--imag", whole[1], *FILES), 2, "--imag")
+    os.link(whole[1], OWN / "o.linux.fates")
+    expect("beside-linux --image, an output that is the image by a link", run(TOOL, "--rules-alone", *whole, *FILES, OWN / "o"), 2, "o.linux.fates is an input")
     said = run(TOOL, "--config")
     expect("beside-linux --config", said, 0, "CONFIG_NET_SCHED=y\n", "CONFIG_FTRACE=y\nCONFIG_ENABLE_DEFAULT_TRACERS=y\n")
     expect_none("beside-linux --config", said, "CONFIG_TRACEPOINTS=")
-    is_equal("what a kernel lacks", own.lacking("CONFIG_64BIT=y\n# CONFIG_SMP is not set\n" + "".join(f"CONFIG_{it}=m\n" for it in own.MUST_HAVE if it not in ("64BIT", "SMP"))), ["CONFIG_SMP"])
+    is_equal("what a kernel lacks", own.lacking("CONFIG_64BIT=y\n# CONFIG_SMP is not set\n" + "".join(f"CONFIG_{name}=m\n" for name in own.MUST_HAVE if name not in ("64BIT", "SMP"))), ["CONFIG_SMP"])
 
 
 @case

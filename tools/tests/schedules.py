@@ -55,10 +55,10 @@ def chases():
         expect(f"show-schedule {name}", said, 0, f"\n{steps:5}  ", end)
         expect_none(f"show-schedule {name}", said, f"\n{steps + 1:5}  ")
         states = [event.after for event in machine.work(schedule(name).read_bytes())]
-        rounds = [place for place, it in enumerate(states) if it == states[-1]]
+        rounds = [place for place, state in enumerate(states) if state == states[-1]]
         if len(rounds) != 2 or rounds[1] - rounds[0] != moves:
             fault(f"{name} comes to its last machine at {rounds}")
-        if any(machine.left(it) is not None for it in states[rounds[0] :]):
+        if any(machine.left(state) is not None for state in states[rounds[0] :]):
             fault(f"{name}: the round has a bound")
 
 
@@ -73,15 +73,15 @@ def random_moves(of, seats):
     """Machines and moves, as they come in some order: each seat goes on, begins a call, or takes a soft interrupt."""
     m = machine.first_machine(seats, of.choice((1, 2, 8)), of.randrange(2))
     for number in range(200):
-        moves = [("step", i, it) for i, s in enumerate(m.seats) for it in ("plain", "full", "busy", "stop") if s.at != "idle" and not machine.why_not_step(m, i, it)]
+        moves = [("step", i, answer) for i, s in enumerate(m.seats) for answer in ("plain", "full", "busy", "stop") if s.at != "idle" and not machine.why_not_step(m, i, answer)]
         moves += [("softirq", i, ("softirq",)) for i, s in enumerate(m.seats) if s.at == "idle" and s.raised]
         if not moves or of.random() < 0.1:
-            moves += [(it[0], i, it) for i, s in enumerate(m.seats) if s.at == "idle" for it in (("send", of.randrange(3)), ("wake",))]
+            moves += [(start[0], i, start) for i, s in enumerate(m.seats) if s.at == "idle" for start in (("send", of.randrange(3)), ("wake",))]
         if not moves:
             continue
-        what, i, it = of.choice(moves)
-        after = machine.step(m, i, it) if what == "step" else machine.begin(m, i, it, number)
-        yield m, it if what == "step" else what, after
+        what, i, how = of.choice(moves)
+        after = machine.step(m, i, how) if what == "step" else machine.begin(m, i, how, number)
+        yield m, how if what == "step" else what, after
         m = after
 
 

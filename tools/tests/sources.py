@@ -88,9 +88,9 @@ pub fn kept_law(w: u32) -> u32 {
 def of_sources(name, files):
     """A repository with these files, and no tool but those that read them: the comments of others name files that it doesn't have."""
     top = repository(name, files)
-    for it in (top / "tools").glob("**/*"):
-        if it.is_file() and it.name not in ("dead", "names", "__init__.py", "words.py", "definitions.py", "comments.py"):
-            it.unlink()
+    for file in (top / "tools").glob("**/*"):
+        if file.is_file() and file.name not in ("dead", "names", "__init__.py", "words.py", "definitions.py", "comments.py"):
+            file.unlink()
     return top
 
 
@@ -124,8 +124,8 @@ def names():
     other = {"crates/high/specs/Words.antt": "abbrev pub word : ℕ\nword = 2\n", "crates/high/specs/More.antt": "abbrev pub word : ℕ\nword = 3\n"}
     top = repository("names", SMALL | other)
     expect("names", run(top / "tools/names"), 1, "word has 3 meanings: crates/high/specs/More.antt:1,", "1 names have several meanings")
-    for it in ("More", "Words"):
-        (top / f"crates/high/specs/{it}.antt").unlink()
+    for module in ("More", "Words"):
+        (top / f"crates/high/specs/{module}.antt").unlink()
     expect("names, once each", run(top / "tools/names"), 0, "each name of a definition has one meaning")
 
 
@@ -133,10 +133,10 @@ def names():
 def reading_list():
     code = SMALL["crates/low/src/lib.rt"]
     laws = "ghost use Rattle.low.specs.Words.{Whole};\n\n/// First.\npub fn invariant_is_kept()\n    ensures { Whole }\n{}\n\npub fn quiet_holds_nothing()\n    ensures { Whole }\n{}\n"
-    bound = "ghost use Rattle.parts.specs.Parts.{Bound};\n" + "".join(f"\npub fn {it}()\n    ensures {{ Bound }}\n{{}}\n" for it in ("no_order_keeps_a_packet", "what_leaves_is_sent", "somebody_comes"))
+    bound = "ghost use Rattle.parts.specs.Parts.{Bound};\n" + "".join(f"\npub fn {name}()\n    ensures {{ Bound }}\n{{}}\n" for name in ("no_order_keeps_a_packet", "what_leaves_is_sent", "somebody_comes"))
     page = ["Headline", "HasWritten", "HaveAccepted", "IsCaptureFile", "FollowsRules", "FollowsPlan", "IsTableQuiet", "HoldsNoPacket", "AllHaveFates", "AreOpenAtXmit"]
     parts = [*page, "Bound", "HasRun", "plan_for", "limited_capture_of", "limited_trace_of", "HasTapped", "HasCutTap"]
-    defined = "-- Parts.\n" + "".join(f"\nabbrev pub {it} : Type 0\n{it} = Unit {{0}}\n" for it in parts)
+    defined = "-- Parts.\n" + "".join(f"\nabbrev pub {name} : Type 0\n{name} = Unit {{0}}\n" for name in parts)
     files = {"crates/lq_top/src/top.rt": code.replace("called", "lqtx"), "crates/lq_run_core/src/laws.rt": laws, "crates/lq_run_core/src/laws/progress.rt": bound,
              "crates/parts/specs/Parts.antt": defined}
     top = repository("list", SMALL | files)
