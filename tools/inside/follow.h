@@ -55,8 +55,8 @@ static void goes_to(MachineSeat &s, int at)
 	s.at = at;
 }
 
-static bool is_slot(const Op &o, int band) { return is_named(o, band == 0 ? "slot of band 0" : band == 1 ? "slot of band 1" : "slot of band 2"); }
-static int slot_band(const Op &o) { return is_slot(o, 0) ? 0 : is_slot(o, 1) ? 1 : is_slot(o, 2) ? 2 : -1; }
+static int slot_band(const Op &o) { return o.word < 0 || strncmp(words[o.word].name, "slot of band ", 13) ? -1 : words[o.word].name[13] - '0'; }
+static bool is_slot(const Op &o, int band) { return slot_band(o) == band; }
 static string more(const MachineSeat &s, const string &what)
 {
 	more_in_text[at_text(s) + (": " + what)]++;
@@ -322,9 +322,10 @@ static bool slot_is_late(int c)
 			return true;
 		}
 	}
-	if (machine.control >= 0 && m.q.seqlock && owner_of_run_lock(c) == machine.control)
+	bool is_purged = machine.control >= 0 && m.q.seqlock && owner_of_run_lock(c) == machine.control;
+	if (is_purged)
 		later["the requeue slot is purged after the bands"]++;
-	return machine.control >= 0 && m.q.seqlock && owner_of_run_lock(c) == machine.control;
+	return is_purged;
 }
 
 static bool is_inside_ring(int c)

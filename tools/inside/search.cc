@@ -24,6 +24,17 @@ static vector<Choice> path_to(uint32_t id, const Choice *last)
 	return path;
 }
 
+static void print_path(const vector<Choice> &path, const string &title)
+{
+	printf("%s; a shortest order, of %zu steps:\n", title.c_str(), path.size());
+	load(first_state);
+	for (Choice c : path) {
+		go(c);
+		print_step(c);
+	}
+	printf("  then: %s%s%s\n", words_text().c_str(), broken.empty() ? "" : "; ", broken.c_str());
+}
+
 #ifdef WITH_MACHINE
 static bool has_schedule() { return path_children() == 1 && !path_has_bulk() && !path_has_control() && !path_option("waiting") && !path_option("stopped") && path_quota == 64 && options.model == SEQUENTIAL; }
 
@@ -79,26 +90,49 @@ static void print_schedule(const vector<Choice> &path)
 		printf("%s\n", line.c_str());
 	printf("end of the schedule\n");
 }
-#endif
 
-static void print_path(const vector<Choice> &path, const string &title)
+// What the last step does that the machine doesn't, or nothing.
+static string parts_from_machine(Choice c)
 {
-	printf("%s; a shortest order, of %zu steps:\n", title.c_str(), path.size());
-	load(first_state);
-	for (Choice c : path) {
-		go(c);
-		print_step(c);
-	}
-	printf("  then: %s%s%s\n", words_text().c_str(), broken.empty() ? "" : "; ", broken.c_str());
+	string said = options.compare ? follow(c) : "";
+	if (options.compare && said.empty() && path_children() == 1)
+		reached.add(key_of(beside()));
+	return said;
 }
+
+static void report_machine()
+{
+	if (!options.compare)
+		return;
+	printf("Each operation was a step of the machine or one of these, and after each step the words were the same.\n");
+	report_steps();
+	if (path_children() == 1 && !path_has_control()) {
+		load(first_state);
+		report_machine_alone(beside());
+	}
+}
+
+static void init_machine()
+{
+	if (options.model || options.fine > 1 || path_has_bulk())
+		options.compare = 0;
+	bounds = {path_option("sends"), path_option("total"), path_option("bands"), path_option("wakes"), path_option("stops"), path_option("busy")};
+	machine_init();
+	reached.add(key_of(beside()));
+}
+#else
+static void print_schedule(const vector<Choice> &) {}
+static string parts_from_machine(Choice) { return ""; }
+static string machine_text() { return ""; }
+static void report_machine() {}
+static void init_machine() {}
+#endif
 
 static int goes_wrong(uint32_t id, const Choice *last, const string &title)
 {
 	auto path = path_to(id, last);
 	print_path(path, title);
-#ifdef WITH_MACHINE
 	print_schedule(path);
-#endif
 	return GOES_WRONG;
 }
 
@@ -115,24 +149,16 @@ class Search {
 	typedef pair<string, uint32_t> State;
 	Keys seen;
 	vector<State> level, next;
-	string differs;
-	vector<Choice> differs_path;
 
 	// After a step that went well: beside the machine, and whether the state is new. Returns a verdict where the search ends.
 	int came(uint32_t from, Choice c)
 	{
-#ifdef WITH_MACHINE
-		if (options.compare) {
-			differs = follow(c);
-			if (!differs.empty()) {
-				print_path(path_to(from, &c), "DIFFERS: " + differs);
-				printf("  the machine: %s\n", machine_text().c_str());
-				return DIFFERS;
-			}
-			if (path_children() == 1)
-				reached.add(key_of(beside()));
+		string differs = parts_from_machine(c);
+		if (!differs.empty()) {
+			print_path(path_to(from, &c), "DIFFERS: " + differs);
+			printf("  the machine: %s\n", machine_text().c_str());
+			return DIFFERS;
 		}
-#endif
 		string state = save();
 		if (!seen.add(key_of(state)))
 			return HOLDS;
@@ -199,16 +225,8 @@ static int search()
 		       model_names[options.model], seconds() - began);
 	else if (verdict != NOT_DECIDED)
 		printf("  found after %zu states, %.1f s\n", it.states(), seconds() - began);
-#ifdef WITH_MACHINE
-	if (verdict == HOLDS && options.compare) {
-		printf("Each operation was a step of the machine or one of these, and after each step the words were the same.\n");
-		report_steps();
-		if (path_children() == 1 && !path_has_control()) {
-			load(first_state);
-			report_machine_alone(beside());
-		}
-	}
-#endif
+	if (verdict == HOLDS)
+		report_machine();
 	if (!unnamed.empty()) {
 		printf("Words without a name that were used, by their place:");
 		for (int place : unnamed)
@@ -237,15 +255,11 @@ static int walks()
 			last = c.seat;
 			path.push_back(c);
 			wrong = go(c) ? judge() : broken;
-#ifdef WITH_MACHINE
-			if (wrong.empty() && options.compare) {
-				string differs = follow(c);
-				if (!differs.empty()) {
-					print_path(path, "DIFFERS: " + differs);
-					return DIFFERS;
-				}
+			string differs = wrong.empty() ? parts_from_machine(c) : "";
+			if (!differs.empty()) {
+				print_path(path, "DIFFERS: " + differs);
+				return DIFFERS;
 			}
-#endif
 		}
 		if (!wrong.empty()) {
 			print_path(path, "WRONG: " + wrong + "; not");
@@ -264,15 +278,9 @@ static bool take_option(const string &text)
 	long value = equals == string::npos ? 1 : strtol(text.c_str() + equals + 1, &end, 0);
 	if (equals != string::npos && (*end || end == text.c_str() + equals + 1))
 		return false;
-	if (name == "model") options.model = value;
-	else if (name == "look") options.look = value;
-	else if (name == "fine") options.fine = value;
-	else if (name == "compare") options.compare = value;
-	else if (name == "most") options.most = value;
-	else if (name == "walks") options.walks = value;
-	else if (name == "seed") options.seed = value;
-	else if (name == "without") options.without = value;
-	else return world_option(name.c_str(), value);
+	if (!option_of.count(name))
+		return world_option(name.c_str(), value);
+	*option_of.at(name) = value;
 	return true;
 }
 
@@ -286,16 +294,8 @@ int main(int count, char **arguments)
 		}
 	world_init();
 	name_words();
-#ifdef WITH_MACHINE
-	if (options.model || options.fine > 1 || path_has_bulk())
-		options.compare = 0;
-	bounds = {path_option("sends"), path_option("total"), path_option("bands"), path_option("wakes"), path_option("stops"), path_option("busy")};
-	machine_init();
-#endif
+	init_machine();
 	make_seats();
 	first_state = save();
-#ifdef WITH_MACHINE
-	reached.add(key_of(beside()));
-#endif
 	return options.walks ? walks() : search();
 }

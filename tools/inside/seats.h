@@ -58,10 +58,11 @@ enum Model { SEQUENTIAL, X86, WEAK };
 static const char *const model_names[] = {"sequentially consistent", "x86", "weak"};
 // what a search takes from its words
 static struct Options {
-	int model = SEQUENTIAL, look = 0, fine = 0, compare = 0;
-	long most = 500000, walks = 0, seed = 1;
-	unsigned without = 0; // kinds of barriers that are left out: bits 0 to 4 as in operations.h, 5 the order of value-returning bit operations, 6 the release of a lock
+	long model = SEQUENTIAL, look = 0, fine = 0, compare = 0, most = 500000, walks = 0, seed = 1;
+	long without = 0; // kinds of barriers that are left out: bits 0 to 4 as in operations.h, 5 the order of value-returning bit operations, 6 the release of a lock
 } options;
+static const map<string, long *> option_of = {{"model", &options.model}, {"look", &options.look}, {"fine", &options.fine}, {"compare", &options.compare},
+	{"most", &options.most}, {"walks", &options.walks}, {"seed", &options.seed}, {"without", &options.without}};
 
 static Seat seats[MOST_SEATS];
 static int seat_count;

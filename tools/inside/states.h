@@ -67,42 +67,38 @@ static Key key_of(const string &state)
 	return k;
 }
 
-// The keys that were seen: an open table, 16 bytes a state.
+// The keys that were seen: an open table, 16 bytes a state, where 0 is no key.
 class Keys {
-	vector<Key> table;
-	bool put(const Key &k)
+	vector<Key> table = vector<Key>(1 << 18);
+	Key &slot_of(const Key &k)
 	{
 		size_t i = k.first & (table.size() - 1);
-		for (; table[i].first; i = (i + 1) & (table.size() - 1))
-			if (table[i] == k)
-				return false;
-		table[i] = k;
-		return ++count;
+		while (table[i].first && table[i] != k)
+			i = (i + 1) & (table.size() - 1);
+		return table[i];
 	}
 
 public:
 	size_t count = 0;
-	Keys() : table(1 << 18) {}
+	bool has(Key k)
+	{
+		k.first |= !k.first;
+		return slot_of(k).first;
+	}
 	bool add(Key k)
 	{
-		k.first |= !k.first;
-		if (count * 10 > table.size() * 6) {
+		if (has(k))
+			return false;
+		if (++count * 10 > table.size() * 6) {
 			vector<Key> old(table.size() * 2);
 			old.swap(table);
-			count = 0;
-			for (auto &it : old)
-				if (it.first)
-					put(it);
+			for (auto &key : old)
+				if (key.first)
+					slot_of(key) = key;
 		}
-		return put(k);
-	}
-	bool has(Key k) const
-	{
 		k.first |= !k.first;
-		for (size_t i = k.first & (table.size() - 1); table[i].first; i = (i + 1) & (table.size() - 1))
-			if (table[i] == k)
-				return true;
-		return false;
+		slot_of(k) = k;
+		return true;
 	}
 };
 

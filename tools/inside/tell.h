@@ -41,11 +41,8 @@ static string text_of(const Op &o)
 	switch (o.kind) {
 	case READ: return (o.is_volatile ? "READ_ONCE " : "load ") + w + ": " + value_text(o, o.result);
 	case WRITE: return (o.is_volatile ? "WRITE_ONCE " : "store ") + w + " = " + value_text(o, o.arg);
-	case SETB: return "set_bit(" + bit_text(o) + ", " + w + ")";
-	case CLRB: return "clear_bit(" + bit_text(o) + ", " + w + ")";
-	case TESTB: return "test_bit(" + bit_text(o) + ", " + w + "): " + to_string(o.result);
-	case TAS: return "test_and_set_bit(" + bit_text(o) + ", " + w + "): " + to_string(o.result);
-	case TAC: return "test_and_clear_bit(" + bit_text(o) + ", " + w + "): " + to_string(o.result);
+	case SETB: case CLRB: return string(o.kind == SETB ? "set" : "clear") + "_bit(" + bit_text(o) + ", " + w + ")";
+	case TESTB: case TAS: case TAC: return string(o.kind == TESTB ? "test" : o.kind == TAS ? "test_and_set" : "test_and_clear") + "_bit(" + bit_text(o) + ", " + w + "): " + to_string(o.result);
 	case TRYLOCK: return "spin_trylock(" + w + "): " + (o.result ? "got" : "held");
 	case LOOKLOCK: return "looks at " + w + ": " + (o.result ? "held" : "free");
 	case LOCK: return "spin_lock(" + w + ")";
