@@ -2,6 +2,22 @@
 #ifndef INSIDE_OPERATIONS_H
 #define INSIDE_OPERATIONS_H
 
+/* what the texts of both worlds take from other headers */
+typedef unsigned int gfp_t;
+typedef _Bool bool;
+#define likely(x) (x)
+#define unlikely(x) (x)
+#define ____cacheline_aligned_in_smp
+#define SMP_CACHE_BYTES 64
+#define ENOSPC 28
+#define EINVAL 22
+#define ENOMEM 12
+#define spin_lock_bh(l) spin_lock(l)
+#define spin_unlock_bh(l) spin_unlock(l)
+#define spin_lock_irqsave(l, f) ((void)((f) = 0), spin_lock(l))
+#define spin_unlock_irqrestore(l, f) ((void)(f), spin_unlock(l))
+#define kmalloc_array_noprof kmalloc_array
+
 typedef struct { int v; } spinlock_t;
 
 void set_bit(long nr, volatile unsigned long *p);

@@ -37,26 +37,17 @@ struct softnet_data softnet_data;
 static struct Qdisc_ops ops;
 #define COUNTS (&world.counts)
 
-/* options, and what they are when nothing is said */
-static struct { const char *name; long value; } options[] = {
-	{"sends", 1}, {"bypass", 1}, {"stops", 0}, {"wakes", 0}, {"busy", 0}, {"quota", 64}, {"bands", 1}, {"downs", 0}, {"lengths", 0}, {"waiting", 0}, {"total", 0}, {"stopped", 0}};
-enum { SENDS, BYPASS, STOPS, WAKES, BUSY_ANSWERS, QUOTA, BANDS, DOWNS, LENGTHS, WAITING, TOTAL, STOPPED, OPTIONS };
-#define OPTION(n) options[n].value
-#define FIRST_WAITING (SEATS * (int)OPTION(SENDS)) /* the packets before it are the seats' */
-
-PLAIN int world_option(const char *name, long value)
-{
-	for (int i = 0; i < OPTIONS; i++)
-		if (!strcmp(options[i].name, name))
-			return options[i].value = value, 1;
-	return 0;
-}
+#define WORLD_OPTIONS(O) \
+	O(SENDS, "sends") O(BYPASS, "bypass") O(STOPS, "stops") O(WAKES, "wakes") O(BUSY_ANSWERS, "busy") O(QUOTA, "quota") O(BANDS, "bands") O(DOWNS, "downs") \
+	O(LENGTHS, "lengths") O(WAITING, "waiting") O(TOTAL, "total") O(STOPPED, "stopped")
+#include "options.h"
+#define FIRST_WAITING (SEATS * OPTION(SENDS)) /* the packets before it are the seats' */
 
 PLAIN int path_option(const char *name)
 {
 	for (int i = 0; i < OPTIONS; i++)
-		if (!strcmp(options[i].name, name))
-			return options[i].value;
+		if (!strcmp(option_names[i], name))
+			return option[i];
 	return 0;
 }
 

@@ -6,24 +6,16 @@
 #include "path.h"
 typedef unsigned char u8;
 typedef unsigned short u16;
-typedef unsigned int u32, __u32, gfp_t;
+typedef unsigned int u32, __u32;
 typedef int s32;
-typedef _Bool bool;
 #define true 1
 #define false 0
 #define BIT(n) (1UL << (n))
-#define likely(x) (x)
-#define unlikely(x) (x)
 #define __rcu
 #define __percpu
 #define __latent_entropy
 #define __always_inline inline
 #define ____cacheline_aligned
-#define ____cacheline_aligned_in_smp
-#define SMP_CACHE_BYTES 64
-#define ENOSPC 28
-#define EINVAL 22
-#define ENOMEM 12
 #define NET_XMIT_SUCCESS 0
 #define NET_XMIT_DROP 1
 #define NET_XMIT_CN 2
@@ -46,10 +38,6 @@ static inline bool __test_and_set_bit(long nr, unsigned long *p)
 	return was;
 }
 static inline void __clear_bit(long nr, unsigned long *p) { *p &= ~BIT(nr); }
-#define spin_lock_bh(l) spin_lock(l)
-#define spin_unlock_bh(l) spin_unlock(l)
-#define spin_lock_irqsave(l, f) ((void)((f) = 0), spin_lock(l))
-#define spin_unlock_irqrestore(l, f) ((void)(f), spin_unlock(l))
 #define smp_processor_id() seat_now()
 
 /* from 7.2 on: the list of packets that wait for a lock, which a lockless discipline hasn't, and other names */
@@ -121,7 +109,6 @@ enum skb_drop_reason { SKB_DROP_REASON_NOT_SPECIFIED, SKB_DROP_REASON_QDISC_DROP
 #define synchronize_net() wait_for(GRACE)
 #define schedule_timeout_uninterruptible(n) wait_for(SLEEP)
 #define kmalloc_array(n, size, gfp) begin_resize()
-#define kmalloc_array_noprof kmalloc_array
 #define kvmalloc_array(n, size, gfp) new_queue()
 #define kvmalloc_array_noprof kvmalloc_array
 #define kfree(p) end_resize()

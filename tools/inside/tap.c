@@ -7,21 +7,7 @@
 #include <string.h>
 #include "operations.h"
 #include "world.h"
-typedef unsigned int gfp_t;
-typedef _Bool bool;
-#define likely(x) (x)
-#define unlikely(x) (x)
-#define ____cacheline_aligned_in_smp
-#define SMP_CACHE_BYTES 64
-#define ENOSPC 28
-#define EINVAL 22
-#define ENOMEM 12
-#define spin_lock_bh(l) spin_lock(l)
-#define spin_unlock_bh(l) spin_unlock(l)
-#define spin_lock_irqsave(l, f) ((void)((f) = 0), spin_lock(l))
-#define spin_unlock_irqrestore(l, f) ((void)(f), spin_unlock(l))
 #define kmalloc_array(n, size, gfp) the_queues()
-#define kmalloc_array_noprof kmalloc_array
 #define __ptr_ring_init_queue_alloc(size, gfp) new_queue()
 #define __ptr_ring_init_queue_alloc_noprof __ptr_ring_init_queue_alloc
 #define kvfree(p) ((void)(p))
@@ -30,7 +16,7 @@ typedef _Bool bool;
 static void ***the_queues(void);
 static void **new_queue(void);
 #include "ktext.inc"
-#line 36 "tap.c"
+#line 20 "tap.c"
 #define PLAIN __attribute__((no_sanitize("thread")))
 enum { PUT = 1, GET, GIVE_BACK, RESIZE, MOST_BATCH = 3, PACKETS = 12 };
 
@@ -48,17 +34,8 @@ struct world {
 struct world world __attribute__((aligned(64)));
 #define COUNTS (&world.counts)
 
-static struct { const char *name; long value; } options[] = {{"puts", 2}, {"gets", 2}, {"batch", 2}, {"backs", 0}, {"resizes", 0}};
-enum { PUTS, GETS, BATCH, BACKS, RESIZES, OPTIONS };
-#define OPTION(n) options[n].value
-
-PLAIN int world_option(const char *name, long value)
-{
-	for (int i = 0; i < OPTIONS; i++)
-		if (!strcmp(options[i].name, name))
-			return options[i].value = value, 1;
-	return 0;
-}
+#define WORLD_OPTIONS(O) O(PUTS, "puts") O(GETS, "gets") O(BATCH, "batch") O(BACKS, "backs") O(RESIZES, "resizes")
+#include "options.h"
 
 static void ***the_queues(void) { return world.queues; }
 static void **new_queue(void) { return world.fresh; }
