@@ -127,3 +127,20 @@ static void write_fates(const char *out, char *(*put_fate)(char *at, uint32_t n)
 	if (fclose(file))
 		die(5, "the fates");
 }
+
+/* Runs threads from a number up to an end, beside them the caller's own part, and behind them what is left; tells how many seconds that took. */
+static void run_threads(uint32_t first, uint32_t end, void *(*run)(void *), void *(*own)(void *), void (*behind)(void))
+{
+	pthread_t threads[64];
+	double start = seconds();
+
+	for (uint32_t i = first; i < end; i++)
+		if (pthread_create(&threads[i], NULL, run, (void *)(uintptr_t)i))
+			die(6, "no thread");
+	own(NULL);
+	for (uint32_t i = first; i < end; i++)
+		pthread_join(threads[i], NULL);
+	if (behind)
+		behind();
+	fprintf(stderr, "%.6f\n", seconds() - start);
+}

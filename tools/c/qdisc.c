@@ -191,9 +191,9 @@ static void netif_wake_queue(void)
 		schedule();
 }
 
-#ifdef STEPS_OF_RULES
 static void transmit(uint32_t sender, uint32_t rank, struct packet *p)
 {
+#ifdef STEPS_OF_RULES
 	uint64_t turn = 2 * (uint64_t)rank;
 
 	atomic_compare_exchange_strong(&turns[sender].word, &turn, turn + 1);
@@ -201,14 +201,11 @@ static void transmit(uint32_t sender, uint32_t rank, struct packet *p)
 	dev_xmit_skb(p);
 	atomic_fetch_sub(&inside, 1);
 	store(&turns[sender].word, turn + 2);
-}
 #else
-static void transmit(uint32_t sender, uint32_t rank, struct packet *p)
-{
 	(void)sender, (void)rank;
 	dev_xmit_skb(p);
-}
 #endif
+}
 
 static void *send_all(void *arg)
 {
@@ -246,19 +243,14 @@ static void send_what_is_left(void)
 	}
 }
 
-static uint8_t band_of(const uint8_t *frame, uint32_t len)
+static void classify(struct packet *p, const uint8_t *frame, uint32_t len)
 {
 	/* ip_tos2prio of net/ipv4/route.c, and prio2band of net/sched/sch_generic.c */
 	static const uint8_t prio[16] = { 0, 0, 0, 0, 2, 2, 2, 2, 6, 6, 6, 6, 4, 4, 4, 4 };
 	static const uint8_t band[16] = { 1, 2, 2, 2, 1, 2, 0, 0, 1, 1, 1, 1, 1, 1, 1, 1 };
 	bool is_ipv4 = len >= 34 && frame[12] == 8 && frame[13] == 0 && frame[14] >> 4 == 4;
 
-	return band[is_ipv4 ? prio[(frame[15] & 0x1e) / 2] : 0];
-}
-
-static void classify(struct packet *p, const uint8_t *frame, uint32_t len)
-{
-	p->band = band_of(frame, len);
+	p->band = band[is_ipv4 ? prio[(frame[15] & 0x1e) / 2] : 0];
 }
 
 static char *put_fate(char *at, uint32_t n)
@@ -270,23 +262,13 @@ static char *put_fate(char *at, uint32_t n)
 
 static void send(uint32_t len)
 {
-	pthread_t threads[MAX_SENDERS];
-	double start;
-
 	fates = have(calloc(count + 1, sizeof(*fates)));
 	sent = have(malloc((count + 1) * sizeof(*sent)));
 	for (int band = 0; band < BANDS; band++)
 		if (ptr_ring_init(&rings[band], len, 0))
 			die(6, "no memory");
-	start = seconds();
-	for (uint32_t i = 1; i < senders; i++)
-		if (pthread_create(&threads[i], NULL, send_all, (void *)(uintptr_t)i))
-			die(6, "no thread");
-	send_all(NULL);
-	for (uint32_t i = 1; i < senders; i++)
-		pthread_join(threads[i], NULL);
-	send_what_is_left();
-	fprintf(stderr, "%.6f\n", seconds() - start);
+	/* this thread is the first sender */
+	run_threads(1, senders, send_all, send_all, send_what_is_left);
 }
 
 int main(int words, char **word)

@@ -57,7 +57,7 @@ static void lose(void *p)
 	lost_count++;
 }
 
-static void read_all(void)
+static void *read_all(void *none)
 {
 	void *batch[MAX_BATCH];
 
@@ -66,7 +66,7 @@ static void read_all(void)
 		int many = ptr_ring_consume_batched(&ring, batch, most), half = many - many / 2;
 
 		if (!many && over)
-			return;
+			return none;
 		for (int i = 0; i < half; i++)
 			taken[taken_count++] = (struct packet *)batch[i] - packets;
 		if (many)
@@ -76,21 +76,11 @@ static void read_all(void)
 
 static void run(uint32_t len)
 {
-	pthread_t threads[MAX_SENDERS];
-	double start;
-
 	fates = have(calloc(count + 1, sizeof(*fates)));
 	taken = have(malloc((count + 1) * sizeof(*taken)));
 	if (ptr_ring_init(&ring, len, 0))
 		die(6, "no memory");
-	start = seconds();
-	for (uint32_t i = 0; i < senders; i++)
-		if (pthread_create(&threads[i], NULL, put_all, (void *)(uintptr_t)i))
-			die(6, "no thread");
-	read_all();
-	for (uint32_t i = 0; i < senders; i++)
-		pthread_join(threads[i], NULL);
-	fprintf(stderr, "%.6f\n", seconds() - start);
+	run_threads(0, senders, put_all, read_all, NULL);
 }
 
 static char *put_fate(char *at, uint32_t n)

@@ -57,44 +57,8 @@ function mailbox_gone?
 function mailbox_empty
 function mailbox_post
 """
-CUT = """#line 2 "include/box.h"
-#define MAILBOX_LETTER 0
-
-#line 3 "include/box.h"
-#define MAILBOX_LONG(m) \\
-\t(READ_ONCE((m)->flags) \\
-\t & 1UL << MAILBOX_LETTER)
-
-#line 7 "include/box.h"
-enum mailbox_state {
-\tMAILBOX_OPEN,
-\tMAILBOX_SHUT, // a }
-};
-#line 12 "include/box.h"
-struct mailbox {
-\tunsigned long flags;
-\tspinlock_t lock;
-};
-#line 17 "include/box.h"
-static const char mailbox_name[] = { 'a', '}', 0 };
-#line 20 "include/box.h"
-static inline int
-mailbox_empty(const struct mailbox *m)
-{
-\treturn !MAILBOX_LONG(m); /* } */
-}
-#line 2 "box.c"
-int mailbox_post(struct mailbox *m)
-{
-\tset_bit(MAILBOX_LETTER, &m->flags);
-\tif (!spin_trylock(&m->lock))
-\t\treturn 0;
-\tif (!mailbox_empty(m) && test_and_clear_bit(MAILBOX_LETTER, &m->flags))
-\t\tmailbox_out("}");
-\tspin_unlock(&m->lock);
-\treturn 1;
-}
-"""
+# what is cut, in its order: the file, and the first and the last line of each definition
+CUT = [("include/box.h", 2, 2), ("include/box.h", 3, 5), ("include/box.h", 7, 10), ("include/box.h", 12, 15), ("include/box.h", 17, 17), ("include/box.h", 20, 24), ("box.c", 2, 11)]
 # the mend: the holder looks again behind the release
 MEND = (("mailbox_post", r"if \(!spin_trylock", "again: if (!spin_trylock"), ("mailbox_post", r"return 1;", "if (!mailbox_empty(m)) goto again; return 1;"))
 MENDED = [word for change in MEND for word in ("--change", *change)]
@@ -158,8 +122,9 @@ def refusal(top, *given):
 def inside_calls_extractor():
     top = tree("box")
     cut = extract.cut(top, top / "worlds/tap.names")
-    # each definition ends with a line end of its own
-    if "".join(line + "\n" for line in cut.text.split("\n") if line) != "".join(line + "\n" for line in CUT.split("\n") if line) or (cut.definitions, cut.changed) != (7, 0):
+    texts = {"include/box.h": HEADER.split("\n"), "box.c": POST.split("\n")}
+    wanted = [line for file, first, last in CUT for line in (f'#line {first} "{file}"', *texts[file][first - 1 : last])]
+    if [line for line in cut.text.split("\n") if line] != wanted or (cut.definitions, cut.changed) != (7, 0):
         fault(f"what is cut out of a tree is another: {cut}")
     mended = extract.cut(top, top / "worlds/tap.names", [extract.Change(*change) for change in MEND])
     wanted = cut.text.replace("\tif (!spin", "\tagain: if (!spin").replace("\treturn 1;", "\tif (!mailbox_empty(m)) goto again; return 1;")
