@@ -28,6 +28,7 @@ def show_schedule():
         expect(f"show-schedule {name}", said, 0, f"\n{steps:5}  ", "held 0: nothing is left")
         expect_none(f"show-schedule {name}", said, f"\n{steps + 1:5}  ")
     said = run(HERE / "show-schedule", schedule("second-try"))
+    expect("show-schedule, a third packet in a band", run(HERE / "show-schedule", schedule("second-try-finds-nothing")), 0, "packet 2 into band 1\n")
     expect("show-schedule, a line", said, 0, "   22    16     1  miss              try2                 1    27  MISSED set\n", "          9     1  begins send 1")
     picture = ROOM / "picture.svg"
     for mistake, (name, left) in LEFT.items():
