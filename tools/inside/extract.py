@@ -147,7 +147,8 @@ def places_of(tree, names):
 def code_of(tree, names):
     """Of each definition, by its kind and name, its text without comments and with one blank between words."""
     found, _ = places_of(tree, read_names(names))
-    return {(wanted.kind, wanted.name): " ".join((source.text if wanted.kind == "macro" else source.bare)[start:end].split()) for wanted, source, (start, end) in found}
+    texts = ((wanted, (source.text if wanted.kind == "macro" else source.bare)[start:end]) for wanted, source, (start, end) in found)
+    return {(wanted.kind, wanted.name): " ".join(text.split()) for wanted, text in texts}
 
 
 def cut(tree, names, changes=()):

@@ -6,9 +6,8 @@
 #include <string.h>
 #include "stub.h"
 #include "ktext.inc"
-#line 9 "path.c"
+#line 10 "path.c"
 #define PLAIN __attribute__((no_sanitize("thread")))
-#define ROOM (NEW_LEN > LEN ? NEW_LEN : LEN)
 
 /* what has come, and what may still come; not the kernel's */
 struct counts {
@@ -23,10 +22,8 @@ struct world {
 	struct net_device dev;
 	struct softnet_data sd[SEATS];
 	void *slot[CHILDREN][3][LEN];
-#if NEW_LEN
-	void *fresh[CHILDREN][3][NEW_LEN]; /* what a change of the length allocates */
+	void *fresh[CHILDREN][3][NEW_LEN + 1]; /* what a change of the length allocates */
 	void **queues[3];
-#endif
 	struct sk_buff skb[PACKETS];
 	struct counts counts;
 };
@@ -162,23 +159,12 @@ PLAIN static void wait_for(int question)
 
 PLAIN static void *begin_resize(void)
 {
-#if NEW_LEN
 	COUNTS->alone = seat_now();
 	COUNTS->spare = 0;
 	return world.queues;
-#else
-	return NULL;
-#endif
 }
 
-PLAIN static void **new_queue(void)
-{
-#if NEW_LEN
-	return world.fresh[0][COUNTS->spare++];
-#else
-	return NULL;
-#endif
-}
+PLAIN static void **new_queue(void) { return world.fresh[0][COUNTS->spare++]; }
 
 PLAIN static void end_resize(void) { COUNTS->alone = -1; }
 
@@ -220,13 +206,11 @@ void world_run(int seat, struct start it)
 		dev_activate(&world.dev);
 		set_down(0);
 		break;
-#if NEW_LEN
 	case CHANGE_LENGTH:
 		world.dev.tx_queue_len = NEW_LEN;
 		dev_qdisc_change_tx_queue_len(&world.dev);
 		set_down(0);
 		break;
-#endif
 	}
 	leave(seat);
 }

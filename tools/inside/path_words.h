@@ -85,9 +85,7 @@ PLAIN static void name_ring(struct ptr_ring *r, int c, int b, int run_lock)
 	int lock = NAME(text[b][1], r->producer_lock, SHARED, 0, c);
 
 	names[NAME(text[b][0], world.slot[c][b], SHARED, 0, c)].is_pointer = 1;
-#if NEW_LEN
 	names[NAME(text[b][0], world.fresh[c][b], SHARED, 0, c)].is_pointer = 1;
-#endif
 	NAME(text[b][2], r->producer, GUARDED, lock, c);
 	NAME(text[b][3], r->consumer_head, GUARDED, run_lock, c);
 	NAME(text[b][4], r->consumer_tail, GUARDED, run_lock, c);
@@ -173,9 +171,7 @@ PLAIN int world_words(struct word *to)
 	NAME("output queue", world.sd, OWN, 0, -1);
 	NAME("packet", world.skb, OWN, 0, -1);
 	NAME("device", world.dev, OPTION(LENGTHS) ? OWN : CONSTANT, 0, -1);
-#if NEW_LEN
 	NAME("queues", world.queues, OWN, 0, -1);
-#endif
 	return name_count;
 }
 

@@ -35,14 +35,15 @@ static string place_text(const Op &o)
 
 static string text_of(const Op &o)
 {
+	static const char *const bits[] = {"set", "clear", "test", "test_and_set", "test_and_clear"};
 	static const char *const barriers[] = {"smp_mb", "smp_wmb", "smp_rmb", "smp_mb__before_atomic", "smp_mb__after_atomic"};
 	char text[MOST_TEXT] = "";
 	string w = place_text(o);
 	switch (o.kind) {
 	case READ: return (o.is_volatile ? "READ_ONCE " : "load ") + w + ": " + value_text(o, o.result);
 	case WRITE: return (o.is_volatile ? "WRITE_ONCE " : "store ") + w + " = " + value_text(o, o.arg);
-	case SETB: case CLRB: return string(o.kind == SETB ? "set" : "clear") + "_bit(" + bit_text(o) + ", " + w + ")";
-	case TESTB: case TAS: case TAC: return string(o.kind == TESTB ? "test" : o.kind == TAS ? "test_and_set" : "test_and_clear") + "_bit(" + bit_text(o) + ", " + w + "): " + to_string(o.result);
+	case SETB: case CLRB: return bits[o.kind - SETB] + ("_bit(" + bit_text(o) + ", " + w + ")");
+	case TESTB: case TAS: case TAC: return bits[o.kind - SETB] + ("_bit(" + bit_text(o) + ", " + w + "): ") + to_string(o.result);
 	case TRYLOCK: return "spin_trylock(" + w + "): " + (o.result ? "got" : "held");
 	case LOOKLOCK: return "looks at " + w + ": " + (o.result ? "held" : "free");
 	case LOCK: return "spin_lock(" + w + ")";

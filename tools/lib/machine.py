@@ -219,8 +219,10 @@ def why_not_begin(m, i, start):
 
 def begin(m, i, start, number):
     """The machine after a seat has begun a call: ("send", band), ("softirq",) or ("wake",)."""
-    begun = {"send": {"at": "enter", "band": start[-1], "packet": Packet(number, i, start[-1])}, "softirq": {"at": "enter", "how": INTERRUPT, "raised": 0}, "wake": {"at": "wake", "how": WAKER}}
-    return m.with_seat(i, m.qdisc, m.seats[i]._replace(**begun[start[0]]))
+    name, *band = start
+    begun = {"softirq": {"at": "enter", "how": INTERRUPT, "raised": 0}, "wake": {"at": "wake", "how": WAKER}}
+    changed = {"at": "enter", "band": band[0], "packet": Packet(number, i, band[0])} if band else begun[name]
+    return m.with_seat(i, m.qdisc, m.seats[i]._replace(**changed))
 
 
 def may_deactivate(m):

@@ -58,7 +58,8 @@ def make_module(tools, kernel, room, name):
     shutil.copy(HERE / f"{name}.c", room)
     (room / "Makefile").write_text(f"obj-m := {name}.o\n", encoding="utf-8")
     # type information of modules would need one more package
-    run(["make", "-s", "-C", str(kernel.headers()), f"M={room}", "CONFIG_DEBUG_INFO_BTF_MODULES=", *kernel.compiler(), "modules"], environment=tools.environment())
+    words = ["make", "-s", "-C", str(kernel.headers()), f"M={room}", "CONFIG_DEBUG_INFO_BTF_MODULES=", *kernel.compiler(), "modules"]
+    run(words, environment=tools.environment())
     return (room / f"{name}.ko").read_bytes()
 
 
@@ -109,13 +110,15 @@ def emulator(tools, kernel, image, processors, more=""):
     machine = "-M pc -accel tcg,thread=single -cpu qemu64 -m 512 -nographic -no-reboot -nic none".split()
     # on a busy host a kernel's test of its timer fails, and the kernel with it
     command_line = f"console=ttyS0 quiet ipv6.disable=1 panic=-1 no_timer_check {more}".strip()
-    return ["qemu-system-x86_64", *tools.firmware(), *machine, "-smp", str(processors), "-kernel", str(kernel.image()), "-initrd", str(image), "-append", command_line]
+    files = ["-kernel", str(kernel.image()), "-initrd", str(image), "-append", command_line]
+    return ["qemu-system-x86_64", *tools.firmware(), *machine, "-smp", str(processors), *files]
 
 
 def boot(tools, kernel, image, share, processors=1, patience=600, steer=None, nice=0):
     """Boots the guest, which works through SHARE/*.cases and leaves an .answers beside each. `steer` is told where the emulator's debugger
     listens, if the guest's order of steps is chosen; it needs the addresses of the System.map."""
-    words = ["nice", "-n", str(nice), *emulator(tools, kernel, image, processors, "nokaslr"), "-virtfs", f"local,path={share},mount_tag=share,security_model=none"]
+    words = ["nice", "-n", str(nice), *emulator(tools, kernel, image, processors, "nokaslr")]
+    words += ["-virtfs", f"local,path={share},mount_tag=share,security_model=none"]
     console = share / "console"
     with open(console, "wb") as said, tempfile.TemporaryDirectory(prefix="beside-linux-") as room:
         debugger = Path(room) / "debugger"

@@ -45,9 +45,10 @@ def table(results):
         counts = [found[order] for found in results.values()]
         yield f"{about:{width}}  " + "  ".join(f"{f'{count.with_left} of {count.rounds}':>12}" for count in counts)
     for name, found in results.items():
-        all_orders = Count(*map(sum, zip(*found.values())))
-        packets, left, purged = all_orders.rounds * PACKETS, all_orders.left, all_orders.purged
-        yield f"{name}: {packets} packets, {left} left, of which the next transmit took {all_orders.taken} along, {purged} purged, {packets - left - purged} sent"
+        total = Count(*map(sum, zip(*found.values())))
+        packets = total.rounds * PACKETS
+        sent = packets - total.left - total.purged
+        yield f"{name}: {packets} packets, {total.left} left, of which the next transmit took {total.taken} along, {total.purged} purged, {sent} sent"
 
 
 def image_of(tools, kernel, folder):

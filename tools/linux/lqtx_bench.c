@@ -237,15 +237,6 @@ static void probe_kfree_skb(void *data, struct sk_buff *skb, void *where,
 
 /* Making and freeing */
 
-static void free_logs(struct bench *b)
-{
-	u32 i;
-
-	for (i = 0; i < BENCH_QUEUES; i++)
-		vfree(b->unit[i].log);
-	vfree(b->drops);
-}
-
 /*
  * Devices are unregistered many at a time, since each time waits for a grace
  * period.
@@ -261,7 +252,7 @@ static void unregister_retired(void)
 	unregister_netdevice_many(&gone);
 	rtnl_unlock();
 	for (i = 0; i < retired_count; i++) {
-		free_logs(netdev_priv(retired[i]));
+		vfree(((struct bench *)netdev_priv(retired[i]))->drops);
 		free_netdev(retired[i]);
 	}
 	retired_count = 0;
@@ -301,20 +292,18 @@ static void set_params(struct bench *b, const u32 *params)
 		};
 }
 
+/* One block for all logs, which begins with that of the drops. */
 static bool make_logs(struct bench *b)
 {
+	size_t entry = sizeof(*b->drops) + unit_count(b) * sizeof(struct accepted);
+	struct accepted *log;
 	u32 i;
 
-	b->drops = vzalloc(array_size(b->room, sizeof(*b->drops)));
-	if (!b->drops)
-		return false;
-	for (i = 0; i < unit_count(b); i++) {
-		b->unit[i].log = vzalloc(array_size(b->room,
-						    sizeof(struct accepted)));
-		if (!b->unit[i].log)
-			return false;
-	}
-	return true;
+	b->drops = vzalloc(array_size(b->room, entry));
+	log = (struct accepted *)(b->drops + b->room);
+	for (i = 0; i < unit_count(b); i++)
+		b->unit[i].log = log + i * b->room;
+	return b->drops;
 }
 
 static int make_device(struct net_device *none, const u32 *n, const char *rest)
@@ -355,7 +344,7 @@ static int make_device(struct net_device *none, const u32 *n, const char *rest)
 	return 0;
 
 free:
-	free_logs(b);
+	vfree(b->drops);
 	free_netdev(dev);
 	return err;
 }

@@ -3,6 +3,7 @@ import pathlib
 import shutil
 import signal
 import subprocess
+from collections import namedtuple
 from typing import Iterator, List, NamedTuple, Optional, Tuple
 
 from lib.words import Failed
@@ -11,22 +12,27 @@ from orders import text
 HERE = pathlib.Path(__file__).resolve().parent
 
 
-class Size(NamedTuple):
-    """How large a machine is, and what may come to it."""
+# of each number of a size: what it is when nothing is said, the least, the most, and what it counts
+LIMITS = {
+    "seats": (2, 1, 8, "seats, each as a processor"),
+    "sends": (2, 1, 15, "transmits of each seat"),
+    "bands": (1, 1, 3, "bands that transmits use, of the three that a dequeue looks at"),
+    "len": (8, 1, 255, "slots of a ring"),
+    "queues": (1, 1, 4, "queues that share the bands"),
+    "bypass": (0, 0, 1, "1: a packet may go past the bands (TCQ_F_CAN_BYPASS)"),
+    "quota": (64, 1, 127, "packets of a run"),
+    "stops": (0, 0, 7, "how often the device accepts a packet and stops its queue"),
+    "hangs": (0, 0, 3, "how often it accepts a packet and hangs"),
+    "busys": (0, 0, 7, "how often it answers NETDEV_TX_BUSY"),
+    "downs": (0, 0, 3, "how often the device is deactivated and activated, in steps"),
+    "swaps": (0, 0, 3, "how often it is exchanged for another, in steps"),
+    "waits": (0, 0, 1, "1: a deactivation as Linux's, which waits until the lock is free and SCHED is clear; there a soft interrupt that finds DEACTIVATED leaves, and "
+              "a wake looks up its qdisc, which may be noop_qdisc. The proved machine needs no such wait"),
+}  # fmt: skip
 
-    seats: int = 2
-    sends: int = 2
-    bands: int = 1
-    len: int = 8
-    queues: int = 1
-    bypass: int = 0
-    quota: int = 64
-    stops: int = 0
-    hangs: int = 0
-    busys: int = 0
-    downs: int = 0
-    swaps: int = 0
-    waits: int = 0
+
+class Size(namedtuple("Size", LIMITS, defaults=[first for first, *_ in LIMITS.values()])):
+    """How large a machine is, and what may come to it."""
 
     def defines(self) -> List[str]:
         values = self._asdict()
@@ -50,23 +56,6 @@ class Size(NamedTuple):
         said += [how] * bool(self.downs + self.swaps)
         return ", ".join(said)
 
-
-LIMITS = {
-    "seats": (1, 8, "seats, each as a processor"),
-    "sends": (1, 15, "transmits of each seat"),
-    "bands": (1, 3, "bands that transmits use, of the three that a dequeue looks at"),
-    "len": (1, 255, "slots of a ring"),
-    "queues": (1, 4, "queues that share the bands"),
-    "bypass": (0, 1, "1: a packet may go past the bands (TCQ_F_CAN_BYPASS)"),
-    "quota": (1, 127, "packets of a run"),
-    "stops": (0, 7, "how often the device accepts a packet and stops its queue"),
-    "hangs": (0, 3, "how often it accepts a packet and hangs"),
-    "busys": (0, 7, "how often it answers NETDEV_TX_BUSY"),
-    "downs": (0, 3, "how often the device is deactivated and activated, in steps"),
-    "swaps": (0, 3, "how often it is exchanged for another, in steps"),
-    "waits": (0, 1, "1: a deactivation as Linux's, which waits until the lock is free and SCHED is clear; there a soft interrupt that finds DEACTIVATED leaves, and a "
-              "wake looks up its qdisc, which may be noop_qdisc. The proved machine needs no such wait"),  # fmt: skip
-}
 
 # what is searched where no size is given: together some seconds
 STANDARD = (

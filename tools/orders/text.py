@@ -86,7 +86,8 @@ def blocks(text: str) -> List[Block]:
             found.append(Block(name, ", ".join(re.findall(r"(\w+)(?:,|$)", parameters)), body))
     section = ""
     step = text[text.index("static int step(") :]
-    for title, name, comment, body in re.findall(r"^    (?:/\* ---- (.*?) ---- \*/\n|case (\w+):\s*(?:/\* (.*?) \*/)?(.*?)(?=^    case |^    /\* ----|^    \}$))", step, re.M | re.S):
+    pattern = r"^    (?:/\* ---- (.*?) ---- \*/\n|case (\w+):\s*(?:/\* (.*?) \*/)?(.*?)(?=^    case |^    /\* ----|^    \}$))"
+    for title, name, comment, body in re.findall(pattern, step, re.M | re.S):
         section = title or section
         if name:
             found.append(Block(name, "q, s, answer", body, True, comment, section))

@@ -29,7 +29,8 @@ def kernel(name, release="6.1.9", built="6.1.9", without=()):
         (room / file).parent.mkdir(parents=True)
     (room / "bzImage").write_bytes(image_of(release))
     (room / own.RELEASE).write_text(f'#define UTS_RELEASE "{built}"\n', encoding="utf-8")
-    (room / own.VALUES).write_text("".join(f"CONFIG_{name}={'m' if name == '9P_FS' else 'y'}\n" for name in own.MUST_HAVE if name not in without), encoding="utf-8")
+    values = (f"CONFIG_{option}={'m' if option == '9P_FS' else 'y'}\n" for option in own.MUST_HAVE if option not in without)
+    (room / own.VALUES).write_text("".join(values), encoding="utf-8")
     return ["--image", room / "bzImage", "--headers", room]
 
 

@@ -282,13 +282,13 @@ FENCES = {
     "smp_mb__after_spinlock": "after-spinlock", "smp_mb__after_unlock_lock": "after-unlock-lock", "barrier": "barrier",
     "rcu_read_lock": "rcu-lock", "rcu_read_unlock": "rcu-unlock", "synchronize_rcu": "sync-rcu", "synchronize_rcu_expedited": "sync-rcu",
 }  # fmt: skip
-LOADS = {"READ_ONCE": "once", "atomic_read": "once", "rcu_dereference": "once", "spin_is_locked": "once", "smp_load_acquire": "acquire", "atomic_read_acquire": "acquire"}
-STORES = {"WRITE_ONCE": "once", "atomic_set": "once", "smp_store_release": "release", "rcu_assign_pointer": "release", "atomic_set_release": "release"}
+LOADS = {"once": ("READ_ONCE", "atomic_read", "rcu_dereference", "spin_is_locked"), "acquire": ("smp_load_acquire", "atomic_read_acquire")}
+STORES = {"once": ("WRITE_ONCE", "atomic_set"), "release": ("smp_store_release", "rcu_assign_pointer", "atomic_set_release")}
 # by a call's name and the number of its arguments, of the place and the others, what it is
 FORMS = {
     **{(name, 0): lambda register, kind=kind: [Fence(kind)] for name, kind in FENCES.items()},
-    **{(name, 1): lambda register, place, order=order: [Load(register, place, order)] for name, order in LOADS.items()},
-    **{(name, 2): lambda register, place, value, order=order: [Store(place, value, order)] for name, order in STORES.items()},
+    **{(name, 1): lambda register, place, order=order: [Load(register, place, order)] for order, names in LOADS.items() for name in names},
+    **{(name, 2): lambda register, place, value, order=order: [Store(place, value, order)] for order, names in STORES.items() for name in names},
     ("smp_store_mb", 2): lambda register, place, value: [Store(place, value, "once"), Fence("mb")],
     ("spin_lock", 1): lambda register, place: [Lock(register, place, True)],
     ("spin_trylock", 1): lambda register, place: [Lock(register, place, False)],
