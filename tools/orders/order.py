@@ -1,4 +1,5 @@
 """An order that a search found: told step by step, as a schedule, and as a picture."""
+import itertools
 from typing import Dict, Iterator, List, NamedTuple, Optional, Tuple
 
 from lib import machine
@@ -147,50 +148,43 @@ def plain_moves(moves: Tuple[Move, ...]) -> List[Tuple[Optional[int], str]]:
     return found
 
 
-def schedule_lines(start: machine.Machine, moves: List[Tuple[Optional[int], str]]) -> List[str]:
-    """The order as the right machine does it, on to its end, with the names of the steps. What it can't do is left out."""
-    m, sends, lines, names = start, 0, [], []
+def grouped(entries: list) -> Iterator[str]:
+    """Lines as they are; steps of one seat, each a seat and a name, that follow each other as one line with the names above it."""
+    for seat, part in itertools.groupby(entries, lambda entry: None if isinstance(entry, str) else entry[0]):
+        if seat is None:
+            yield from part
+            continue
+        names = [name for _, name in part]
+        for at in range(0, len(names), 1000):
+            some = names[at : at + 1000]
+            yield from ("# " + ", ".join(some), f"{seat} step {len(some)}")
 
-    def end_run():
-        while names:
-            part = names[:1000]
-            del names[: len(part)]
-            lines.extend(["# " + ", ".join(name for _, name in part), f"{part[0][0]} step {len(part)}"])
+
+def schedule_lines(m: machine.Machine, moves: List[Tuple[Optional[int], str]]) -> Iterator[str]:
+    """The order as the right machine does it, on to its end, with the names of the steps. What it can't do is left out."""
+    sends, entries = 0, []
 
     def add(i, what):
         nonlocal m, sends
-        begun = (what.split()[0], *map(int, what.split()[1:]))
-        if begun[0] in machine.STARTS:
-            if machine.why_not_begin(m, i, begun):
-                return
-            end_run()
-            lines.append(f"{i} {what}")
+        name, *band = what.split()
+        begun, answer = (name, *map(int, band)), machine.answer_of(what)
+        if name in machine.STARTS and not machine.why_not_begin(m, i, begun):
+            entries.append(f"{i} {what}")
             m = machine.begin(m, i, begun, sends)
-            sends += begun[0] == "send"
-            return
-        answer = machine.answer_of(what)
-        if machine.why_not_step(m, i, answer):
-            return
-        if what != "step" or names and names[0][0] != i:
-            end_run()
-        if what == "step":
-            names.append((i, m.seats[i].name))
-        else:
-            lines.append(f"{i} {what}")
-        m = machine.step(m, i, answer)
+            sends += name == "send"
+        elif name not in machine.STARTS and not machine.why_not_step(m, i, answer):
+            entries.append((i, m.seats[i].name) if what == "step" else f"{i} {what}")
+            m = machine.step(m, i, answer)
 
     for i, what in moves:
         if i is None:
-            end_run()
-            lines.append(f"# here control {'deactivates' if what == 'down' else 'activates'} the station, which a schedule can't say")
+            entries.append(f"# here control {'deactivates' if what == 'down' else 'activates'} the station, which a schedule can't say")
         else:
             add(i, what)
-    end_run()
-    lines.append("# from here on the right machine goes on to its end")
+    entries.append("# from here on the right machine goes on to its end")
     for event in machine.to_the_end(m, None):
         add(event.seat, event.what)
-    end_run()
-    return lines
+    return grouped(entries)
 
 
 def schedule_of(found: Result, size: Size, about: str) -> str:
