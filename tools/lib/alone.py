@@ -292,7 +292,7 @@ class Station:
                     self.schedule()
 
     def held(self):
-        return len(self.requeued) + len(self.other_queue) + sum(it.held for it in self.rings)
+        return len(self.requeued) + len(self.other_queue) + sum(ring.held for ring in self.rings)
 
     # Control
 
@@ -346,7 +346,7 @@ class Device:
     def drain(self):
         # one soft interrupt of the kernel serves all qdiscs that were scheduled before it
         begun = self.softirqs
-        while raised := [it for it in self.stations if it.raised]:
+        while raised := [station for station in self.stations if station.raised]:
             self.softirqs += 1
             if self.softirqs - begun > self.endless:
                 raise Endless
@@ -360,7 +360,7 @@ class Device:
 
     def finish(self, most):
         rounds = 0
-        while not all(it.is_done() for it in self.stations):
+        while not all(station.is_done() for station in self.stations):
             rounds += 1
             if rounds > most:
                 raise Endless
@@ -369,7 +369,7 @@ class Device:
 
     def down(self, event):
         # a list, so that each station goes down
-        if any([it.down(event) for it in self.stations]):
+        if any([station.down(event) for station in self.stations]):
             self.softirqs += 1
 
     def up(self):
@@ -410,7 +410,7 @@ class Run:
         for of in self.plan.station:
             stations = [station(of, self.next_unit + child, places, self.trail, linux) for child in range(of.mq)]
             self.devices.append(Device(stations, endless))
-            self.at += [(self.devices[-1], it) for it in stations]
+            self.at += [(self.devices[-1], station) for station in stations]
             self.next_unit += of.mq
         card = self.plan.station[0].card
         self.wire = Wire(card, self.at[0][1], places) if card else None
@@ -436,7 +436,7 @@ class Run:
 
     def is_open(self):
         """Whether no queue is stopped; a queue of a device that hangs is never opened."""
-        return not any(STOPPED in it.stops for _, it in self.at)
+        return not any(STOPPED in station.stops for _, station in self.at)
 
     def step(self, what, number):
         """One step of the sender; the number of the error that a kernel answers to an event, or 0."""
@@ -456,21 +456,21 @@ class Run:
         return 0
 
     def event(self, number):
-        it = self.plan.event[number]
-        device = self.devices[it.station]
-        if it.kind == "down":
+        event = self.plan.event[number]
+        device = self.devices[event.station]
+        if event.kind == "down":
             device.down(number)
-        elif it.kind == "up":
+        elif event.kind == "up":
             device.up()
-        elif it.kind == "resize":
-            device.resize(it.len, number)
-        elif it.kind == "tx_queue_len":
-            return device.tx_queue_len(it.len, number)
+        elif event.kind == "resize":
+            device.resize(event.len, number)
+        elif event.kind == "tx_queue_len":
+            return device.tx_queue_len(event.len, number)
         else:
-            device.swap(number, self.next_unit, it)
+            device.swap(number, self.next_unit, event)
             self.next_unit += 1
         return 0
 
     def open_until_done(self):
         """Opens the queues of each device until nothing is held; how often."""
-        return [it.finish(len(self.places) + 2) for it in self.devices]
+        return [device.finish(len(self.places) + 2) for device in self.devices]

@@ -31,12 +31,12 @@ def digest(path):
 
 def digests(command):
     """The outputs that are there, by what follows OUT in their names."""
-    return {it: digest(f"{command.out}{it}") for it in command.written()}
+    return {tail: digest(f"{command.out}{tail}") for tail in command.written()}
 
 
 def kind_for(command, sources):
     """Which program without a proof is to answer: for small inputs that whose compiling takes less time, unless the other is there."""
-    sizes = [os.path.getsize(it) if os.path.isfile(it) else SMALL + 1 for it in command.inputs]
+    sizes = [os.path.getsize(name) if os.path.isfile(name) else SMALL + 1 for name in command.inputs]
     return kept.FOR_SMALL if command.words and sum(sizes) <= SMALL and not kept.is_made(sources.program(kept.UNPROVED)) else kept.UNPROVED
 
 
@@ -58,8 +58,8 @@ def make(program):
                 kind, _, sums = program.name.partition(".")
                 level = "-O0" if kind == kept.FOR_SMALL else "-O1"
                 without_proof.make("lqtx", program, level=level, module=program.with_name(f"{kept.MODULE}.{sums}"))
-                for it in (kept.UNPROVED, kept.FOR_SMALL, kept.MODULE):
-                    kept.drop_old(it)
+                for old in (kept.UNPROVED, kept.FOR_SMALL, kept.MODULE):
+                    kept.drop_old(old)
     except OSError as fault:
         raise without_proof.NotMade(f"{program.parent} can't be written; it would be kept there ({fault.strerror})") from fault
 
@@ -92,21 +92,21 @@ def run_apart(program, command):
         # the rest takes no time, and an answer that is said has its note
         ignore_signals()
         written, before = digests(own), command.written()
-        for it in written:
-            os.replace(f"{own.out}{it}", f"{command.out}{it}")
+        for tail in written:
+            os.replace(f"{own.out}{tail}", f"{command.out}{tail}")
         command.leave(before)
     return code, wrote, written
 
 
 def why_not(command):
     """Why there is no answer before the proof, if there is none."""
-    files = {file_of(it) for it in command.files()}
-    for it in command.inputs:
-        if not os.path.isfile(it):
-            return f"{it} is no regular file and is read once, by the proved program"
-        if file_of(it) in files:
-            return f"{it} has the name of an output of the program without its proof"
-    foreign = [it for it in command.files() if is_foreign(it, command.note)]
+    files = {file_of(file) for file in command.files()}
+    for name in command.inputs:
+        if not os.path.isfile(name):
+            return f"{name} is no regular file and is read once, by the proved program"
+        if file_of(name) in files:
+            return f"{name} has the name of an output of the program without its proof"
+    foreign = [file for file in command.files() if is_foreign(file, command.note)]
     if foreign:
         return f"{foreign[0]} is there, and wasn't left so by an earlier call"
     return f"less than {FREE / 2**30:.0f} GB of memory are free beside the proof" if without_proof.free_memory(FREE) < FREE else None
@@ -124,7 +124,7 @@ def answer(program, noted, given):
     except (without_proof.NotMade, without_proof.NoKit) as fault:
         tell(f"there is no answer before the proof, since the program wasn't compiled without it: {str(fault).splitlines()[0][:300]}")
         return
-    before, inputs = sorted(command.written()), {it: digest(it) for it in command.inputs}
+    before, inputs = sorted(command.written()), {name: digest(name) for name in command.inputs}
     code, wrote, written = run_apart(program, command)
     ignore_signals()
     wrote = wrote.decode("utf-8", "replace")
@@ -160,14 +160,14 @@ def difference(was, proved, status, command):
         return f"its exit code was {was['code']}, and the proved program's {status}"
     if was["wrote"] != wrote:
         return f"on standard output it wrote {was['wrote']!r}, and the proved program {wrote!r}"
-    names = sorted(it for it in {*was["written"], *written} if was["written"].get(it) != written.get(it))
+    names = sorted(tail for tail in {*was["written"], *written} if was["written"].get(tail) != written.get(tail))
     return f"its outputs differ: {', '.join(names)}" if names or code != status else None
 
 
 def compare(noted, proved, status, given):
     """Says how the two answers differ; 1 where they must not."""
     was, command, unproved = json.loads(noted.read_text(encoding="utf-8")), Command(given), Command(given, ".unproved")
-    if any(not os.path.isfile(it) or digest(it) != before for it, before in was["inputs"].items()):
+    if any(not os.path.isfile(name) or digest(name) != before for name, before in was["inputs"].items()):
         stay = f"; {unproved.names} stay" if was["written"] else ""
         tell(f"an input changed since the answer before the proof: the two aren't compared{stay}")
         return 0
@@ -196,7 +196,7 @@ def compare(noted, proved, status, given):
 def try_itself(command):
     """Runs the program by `rt try`, which keeps nothing: on the caller's paths, within its limits."""
     files = [*command.inputs, command.out]
-    given = [os.path.abspath(it) if it in files and place else it for place, it in enumerate(command.words)]
+    given = [os.path.abspath(word) if word in files and place else word for place, word in enumerate(command.words)]
     how = {"cwd": kept.TOP / "crates/lqtx", "stderr": subprocess.PIPE, "text": True, "start_new_session": True}
     process = subprocess.Popen(["rt", "try", "--steps", "0", "--", *given], **how)
     try:
@@ -207,7 +207,7 @@ def try_itself(command):
         return process.returncode
     if "within the time limit" in said:
         # of plan and capture the last is the long one
-        what = [f"{it} is too large for it" for it in command.inputs[-1:]] or ["that is too much for it"]
+        what = [f"{name} is too large for it" for name in command.inputs[-1:]] or ["that is too much for it"]
         tell(f"{what[0]}: it didn't end within 60 seconds, which is the limit of `rt try`")
     else:
         print("\n".join(without_proof.faults_in(said)[:20]), file=sys.stderr)

@@ -11,7 +11,7 @@ from lib.words import Failed
 PRIORITY = [0, 0, 0, 0, 2, 2, 2, 2, 6, 6, 6, 6, 4, 4, 4, 4]
 BAND = [1, 2, 2, 2, 1, 2, 0, 0, 1, 1, 1, 1, 1, 1, 1, 1]
 PRIORITY_OF_SERVICE = bytes(PRIORITY[(service & 0x1E) // 2] for service in range(256))
-BAND_OF_SERVICE = bytes(BAND[it] for it in PRIORITY_OF_SERVICE)
+BAND_OF_SERVICE = bytes(BAND[priority] for priority in PRIORITY_OF_SERVICE)
 CLASSIC = {b"\xd4\xc3\xb2\xa1": "<", b"\x4d\x3c\xb2\xa1": "<", b"\xa1\xb2\xc3\xd4": ">", b"\xa1\xb2\x3c\x4d": ">"}
 BLOCK = b"\x0a\x0d\x0d\x0a"
 IPV4, TAG = b"\x08\x00", b"\x81\x00"
@@ -210,8 +210,8 @@ def read(name, code=1):
     """The capture of a file; ends with a line that says what mends it, and this exit code, where it is none."""
     if str(name) == "-":
         raise Failed(STANDARD_INPUT, code)
-    with open(name, "rb") as it:
-        data = it.read()
+    with open(name, "rb") as file:
+        data = file.read()
     try:
         return Capture(data)
     except Broken as fault:
@@ -221,5 +221,5 @@ def read(name, code=1):
 def ethernet(frames, times=None):
     """The text of a classic capture of Ethernet frames, at these nanoseconds or a second apart."""
     head = struct.pack("<IHHiIII", 0xA1B2C3D4 if times is None else 0xA1B23C4D, 2, 4, 0, 0, 65535, 1)
-    moments = [(n, 0) for n in range(len(frames))] if times is None else [divmod(it, 10**9) for it in times]
-    return head + b"".join(struct.pack("<IIII", *moment, len(it), len(it)) + it for moment, it in zip(moments, frames))
+    moments = [(n, 0) for n in range(len(frames))] if times is None else [divmod(time, 10**9) for time in times]
+    return head + b"".join(struct.pack("<IIII", *moment, len(frame), len(frame)) + frame for moment, frame in zip(moments, frames))

@@ -21,10 +21,10 @@ def comments_of(file: Path) -> Iterator[Tuple[int, str]]:
     text = file.read_text(encoding="utf-8")
     if file.suffix == ".py" or re.match("#!/usr/bin/env (-S )?python3", text):
         before = tokenize.ENCODING
-        for it in tokenize.generate_tokens(io.StringIO(text).readline):
-            if it.type == tokenize.COMMENT or it.type == tokenize.STRING and before in STARTS:
-                yield it.start[0], it.string
-            before = before if it.type in (tokenize.COMMENT, tokenize.NL) else it.type
+        for token in tokenize.generate_tokens(io.StringIO(text).readline):
+            if token.type == tokenize.COMMENT or token.type == tokenize.STRING and before in STARTS:
+                yield token.start[0], token.string
+            before = before if token.type in (tokenize.COMMENT, tokenize.NL) else token.type
         return
     for found in (OF_C if file.suffix in (".c", ".h", ".cc", ".js") else OF_SHELL).finditer(text):
         yield text[: found.start()].count("\n") + 1, found[0]

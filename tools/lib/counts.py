@@ -43,7 +43,7 @@ def tell_late(run, waits, wanted):
 
 def requeues(run, station):
     """How many packets its busy devices gave back."""
-    params = [*run.tables, *(it for it in run.plan.event if it.kind == "swap")]
+    params = [*run.tables, *(event for event in run.plan.event if event.kind == "swap")]
     return sum(busy_answers(params[unit], len(run.numbers[unit])) for unit, _ in run.units[station])
 
 
@@ -54,7 +54,7 @@ def tell_group(run, waits, at, children, out):
     tell_late(run, waits, lambda station, band, queue: station in children)
     for number, child in enumerate(children):
         tell_counts(run, f"queue {number}: ", lambda station, band, queue: station == child)
-    print(f" requeues {sum(requeues(run, it) for it in children)}")
+    print(f" requeues {sum(requeues(run, child) for child in children)}")
     if pathlib.Path(joint_file(out, at)).exists():
         print(f" {joint_file(out, at)}: the packets that they sent, by serial")
 
@@ -70,7 +70,7 @@ def wait_words(packets, time, digits):
 
 def times_words(times):
     """The middle, the one that 99 of 100 don't exceed, and the greatest."""
-    return ", ".join(f"{microseconds(it)} {name}" for it, name in zip(times, ("in the middle", "for 99 of 100", "at most")))
+    return ", ".join(f"{microseconds(time)} {name}" for time, name in zip(times, ("in the middle", "for 99 of 100", "at most")))
 
 
 def passage_words(of):
@@ -84,7 +84,7 @@ def tell_waits(waits, station, band):
     if waits.wire:
         print(f"  backlog at most {greatest} pkt, {waits.greatest(station, [band], True)} bytes" + (f"; {passage_words(of)}" if of else ""))
         return
-    middle, most = ((wait_words(*it, waits.digits) for it in ((of.middle, of.middle_time), (of.greatest, of.greatest_time)))) if of else ("", "")
+    middle, most = ((wait_words(*wait, waits.digits) for wait in ((of.middle, of.middle_time), (of.greatest, of.greatest_time)))) if of else ("", "")
     waited = f"; wait {middle} in the middle, {most} at most" if of else ""
     late = waits.late_of(lambda at, its, queue: (at, its) == (station, band))
     print(f"  backlog at most {greatest} pkt{waited}" + (f"; {late} sent after the last packet" if late else ""))
@@ -126,10 +126,10 @@ def tell_link(wire, start):
     flights, rate = wire.flights, wire.card.rate_kbit
     if not flights:
         return
-    after, busy = sorted(it.ends // rate - wire.times[it.number] for it in flights), sum(it.ends - it.begins for it in flights)
-    span, octets = wire.free - start * rate, sum(bytes_of_wire(wire.card, it.length) for it in flights)
+    after, busy = sorted(flight.ends // rate - wire.times[flight.number] for flight in flights), sum(flight.ends - flight.begins for flight in flights)
+    span, octets = wire.free - start * rate, sum(bytes_of_wire(wire.card, flight.length) for flight in flights)
     print(f"link of {rate} kbit/s: {octets} bytes of the wire, busy for {busy / span:.1%} of {span / rate / SECOND:.6f} s")
-    print(f" from a packet's coming to the end of its frame {times_words([percentile(after, it) for it in (50, 99, 100)])}")
+    print(f" from a packet's coming to the end of its frame {times_words([percentile(after, number) for number in (50, 99, 100)])}")
 
 
 def tell_tap(run, batch):
@@ -165,6 +165,6 @@ def tell_flows(run, flows, waits):
         of[2 * kind + 1] += length
     print(f"{len(counts)} flows:")
     dropped = [sum(of[2::2]) for of in counts]
-    for at in sorted(range(len(counts)), key=lambda it: (-dropped[it], -counts[it][0], it)):
+    for at in sorted(range(len(counts)), key=lambda flow: (-dropped[flow], -counts[flow][0], flow)):
         packets, octets = ({kind: counts[at][2 * code + part] for code, kind in enumerate(run.KINDS)} for part in (0, 1))
         print(f" {words_of_flow(flows.flows[at])}: {line_of(run, packets, octets)}{waited[at]}")

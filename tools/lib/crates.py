@@ -57,14 +57,14 @@ def link_command(code, program):
 def folders_of(crate):
     """The folders in which its sources and proofs are."""
     for folder, folders, _ in os.walk(TOP / "crates" / crate):
-        folders[:] = [it for it in folders if it != "out"]
+        folders[:] = [folder for folder in folders if folder != "out"]
         yield pathlib.Path(folder)
 
 
 def files_of(crate):
     """The sources and proofs of a crate; files of editors don't count."""
-    files = (it for folder in folders_of(crate) for it in folder.iterdir() if it.suffix in (".rt", ".antt") and it.name[0] != ".")
-    return sorted(it for it in files if it.is_file() and not it.is_symlink())
+    files = (path for folder in folders_of(crate) for path in folder.iterdir() if path.suffix in (".rt", ".antt") and path.name[0] != ".")
+    return sorted(file for file in files if file.is_file() and not file.is_symlink())
 
 
 def crates_below(crate):
@@ -78,9 +78,9 @@ def crates_below(crate):
 def checksum_of_sources(crate="lqtx"):
     """The checksum of all that a crate is built from: sources, crates and what they may use."""
     order = crates_below(crate)
-    lines = [it for it in CRATES.read_bytes().splitlines(True) if it.replace(b":", b" ").split(b" ")[0].decode() in order]
-    sums = [f"{hashlib.sha256(it.read_bytes()).hexdigest()}  {it.relative_to(TOP / 'crates')}\n".encode() for below in order for it in files_of(below)]
-    handles = [it.read_bytes() for it in [TOP / "HANDLES"] if it.exists()]
+    lines = [line for line in CRATES.read_bytes().splitlines(True) if line.replace(b":", b" ").split(b" ")[0].decode() in order]
+    sums = [f"{hashlib.sha256(file.read_bytes()).hexdigest()}  {file.relative_to(TOP / 'crates')}\n".encode() for below in order for file in files_of(below)]
+    handles = [file.read_bytes() for file in [TOP / "HANDLES"] if file.exists()]
     return hashlib.sha256(b"".join(["\n".join(order).encode() + b"\n", *lines, *handles, *sorted(sums)])).hexdigest()[:32]
 
 

@@ -49,7 +49,7 @@ def module_of(path):
 
 def blank_strings_and_comments(text):
     """A file of code with nothing in its comments and in its texts, line for line."""
-    text = re.sub(r'"(?:[^"\\]|\\.)*"', lambda it: '""' + "\n" * it[0].count("\n"), text, flags=re.S)
+    text = re.sub(r'"(?:[^"\\]|\\.)*"', lambda match: '""' + "\n" * match[0].count("\n"), text, flags=re.S)
     return re.sub(r"//[^\n]*", "", text)
 
 
@@ -128,10 +128,10 @@ TYPE = re.compile(r"^(?:pub(?:\(crate\))? )?(struct|enum|trait) (\w+)", re.M)
 def end_of_braces(text, at):
     """Where the group that opens at a place ends."""
     depth = 0
-    for it in re.finditer(r"[{}]", text[at:]):
-        depth += 1 if it[0] == "{" else -1
+    for brace in re.finditer(r"[{}]", text[at:]):
+        depth += 1 if brace[0] == "{" else -1
         if depth == 0:
-            return at + it.end()
+            return at + brace.end()
     return len(text)
 
 
@@ -170,7 +170,7 @@ def as_contracts_see(item, models):
         values = [line for model in models for line in model.splitlines() if re.match(r"impl|\}| +ghost Value\b", line)]
         uses = [line for model in models for line in model.splitlines() if re.match(r" +ghost use ", line)]
         named = " ".join(values)
-        uses = [line for line in uses if any(re.search(rf"\b{it}\b", named) for it in re.findall(r"\w+(?=[,}])", line))]
+        uses = [line for line in uses if any(re.search(rf"\b{name}\b", named) for name in re.findall(r"\w+(?=[,}])", line))]
         return [*lines[: head + 1], *(["    .."] if lines[head].endswith("{") else []), "}", "", values[0], *uses, *values[1:]]
     return re.sub(r"^ +(pub )?ghost \w+: \{[^;]*?\},\n", "", item, flags=re.M).splitlines()
 
@@ -180,12 +180,12 @@ def types_of_code(for_reading):
     found = {}
     for path in code_files():
         text = path.read_text(encoding="utf-8")
-        for it in TYPE.finditer(text):
-            first, item = item_with_comment(text, it.start())
+        for match in TYPE.finditer(text):
+            first, item = item_with_comment(text, match.start())
             # what contracts see of a type stands in its model
             models = [
                 item_with_comment(text, model.start())[1]
-                for model in re.finditer(rf"^impl(?:<[^{{]*>)? Model for {it[2]}\b", text, re.M)
+                for model in re.finditer(rf"^impl(?:<[^{{]*>)? Model for {match[2]}\b", text, re.M)
             ]
             if for_reading:
                 lines = as_contracts_see(item, models)
@@ -194,7 +194,7 @@ def types_of_code(for_reading):
                 for model in models:
                     lines += ["", *model.splitlines()]
             module = ".".join(path.relative_to(CRATES).with_suffix("").parts)
-            found[module, it[2]] = Definition(module, it[2], it[1], path, first + 1, True, [], [], lines)
+            found[module, match[2]] = Definition(module, match[2], match[1], path, first + 1, True, [], [], lines)
     return found
 
 
@@ -209,16 +209,16 @@ class Repository:
                 self.files[module_of(path)] = read_definitions(path)
         for module, items in self.files.items():
             text = (CRATES / (module.replace(".", "/") + ".antt")).read_text(encoding="utf-8")
-            names[module] = Names(text, module, [it.name for it in items])
+            names[module] = Names(text, module, [item.name for item in items])
             for path, exported in re.findall(r"^pub use Rattle\.([\w.]+)\.\{([^}]*)\}", text, re.M):
-                self.reexports |= {(module, it): (path, it) for it in re.split(r",\s*", exported)}
-            for it in items:
-                self.definitions[it.key] = it
-        for it in self.definitions.values():
-            body = "\n".join(line for line in it.sections + it.lines if not line.lstrip().startswith("--"))
-            it.mentions = {self.meant(*key) for key in names[it.module].mentioned_in(body)} - {it.key, None}
-        for it in self.types.values():
-            it.mentions = self.mentioned_by_item(it.path, "\n".join(it.lines)) - {it.key}
+                self.reexports |= {(module, word): (path, word) for word in re.split(r",\s*", exported)}
+            for item in items:
+                self.definitions[item.key] = item
+        for definition in self.definitions.values():
+            body = "\n".join(line for line in definition.sections + definition.lines if not line.lstrip().startswith("--"))
+            definition.mentions = {self.meant(*key) for key in names[definition.module].mentioned_in(body)} - {definition.key, None}
+        for declared in self.types.values():
+            declared.mentions = self.mentioned_by_item(declared.path, "\n".join(declared.lines)) - {declared.key}
 
     def meant(self, module, name):
         """The definition that a module and a name mean, also through a type's own module, or None."""
@@ -230,7 +230,7 @@ class Repository:
         if declared:
             crate, inner, kind = declared.groups()
             modules = [f"{crate}.src.{inner}".rstrip("."), f"{crate}.src.{inner}lib", f"{crate}.src.lib"]
-            return next(((it, kind) for it in modules if (it, kind) in self.types), None)
+            return next(((module, kind) for module in modules if (module, kind) in self.types), None)
         outer, _, kind = module.rpartition(".")
         return (outer, kind) if (outer, kind) in self.definitions else None
 
@@ -273,7 +273,7 @@ class Repository:
                     if key in seen:
                         continue
                     seen.add(key)
-                    rest = iter(sorted(self.of(key).mentions, key=lambda it: (it[0], self.of(it).line)))
+                    rest = iter(sorted(self.of(key).mentions, key=lambda mention: (mention[0], self.of(mention).line)))
                 below = next(rest, None)
                 if below is None:
                     found.append(key)

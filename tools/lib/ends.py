@@ -28,7 +28,7 @@ def why_not_written(file):
 
 
 def say_signal(number):
-    name = {int(it): it.name[3:] for it in signal.Signals}.get(number, "")
+    name = {int(known): known.name[3:] for known in signal.Signals}.get(number, "")
     say(f"ended by signal {number} ({name}); the outputs may not be whole")
 
 
@@ -46,14 +46,14 @@ def full_disk(command):
     room = os.statvfs(os.path.dirname(command.out) or ".")
     if room.f_bavail * room.f_frsize > 65536 and (room.f_favail or not room.f_files):
         return None
-    files = [f"{command.out}{it}" for it in command.written()]
+    files = [f"{command.out}{tail}" for tail in command.written()]
     return f"the disk is full: {max(files, key=os.path.getmtime) if files else command.names}"
 
 
 def say_found(command, found, code):
     """What is found of the capture of a run: of a plan that is refused only that the two are exchanged, and of a capture that is refused `explain` says why."""
-    for it in found if code == 0 else [it for it in found if it.is_refused and code == 3]:
-        say(f"{command.inputs[-1]}: {it}")
+    for finding in found if code == 0 else [finding for finding in found if finding.is_refused and code == 3]:
+        say(f"{command.inputs[-1]}: {finding}")
 
 
 def told_by(tool, *given):

@@ -50,22 +50,22 @@ def simulate(share, several, processors, starts):
 
     SHARE is each crate's time by one process, SEVERAL those that as many check as there are processors, and STARTS(ended, under way) those that may start.
     """
-    seconds = {it: share[it] * widened(it in several, processors) for it in share}
+    seconds = {crate: share[crate] * widened(crate in several, processors) for crate in share}
     left, under_way = dict(seconds), {}
     plan = Plan({}, seconds, [0.0], [0.0])
     while len(plan.ends) < len(left):
         for crate in starts(plan.ends, under_way):
             under_way[crate] = processors if crate in several else 1
         many = sum(under_way.values())
-        speed = {it: under_way[it] * min(1, processors / many) for it in under_way}
-        step = max(min(left[it] / speed[it] for it in under_way), 1e-6)
+        speed = {crate: under_way[crate] * min(1, processors / many) for crate in under_way}
+        step = max(min(left[crate] / speed[crate] for crate in under_way), 1e-6)
         plan.times.append(plan.times[-1] + step)
         plan.work.append(plan.work[-1] + step * sum(speed.values()))
-        for it in list(under_way):
-            left[it] -= speed[it] * step
-            if left[it] <= 1e-6:
-                plan.ends[it] = plan.times[-1]
-                del under_way[it]
+        for running in list(under_way):
+            left[running] -= speed[running] * step
+            if left[running] <= 1e-6:
+                plan.ends[running] = plan.times[-1]
+                del under_way[running]
     return plan
 
 
@@ -94,14 +94,14 @@ class Estimate:
         if not self.used:
             return 1
         known = KNOWN * self.plan.work[-1]
-        planned = sum(self.plan.seconds[it] for it in self.used)
+        planned = sum(self.plan.seconds[crate] for crate in self.used)
         return (sum(self.used.values()) + USUAL * known) / (planned + known)
 
     def pace(self, now):
         """Seconds of the clock for a planned one, so far."""
         planned = {**self.plan.seconds}
-        done = sum(planned[it] for it in self.used)
-        done += sum(min(used / self.slower(), planned[it]) for it, used in self.running.items())
+        done = sum(planned[crate] for crate in self.used)
+        done += sum(min(used / self.slower(), planned[crate]) for crate, used in self.running.items())
         steady = STEADY * self.plan.whole()
         return (now + steady * self.slower()) / (self.plan.time_of(done) + steady)
 
@@ -115,7 +115,7 @@ class Estimate:
 
     def before(self):
         """What is said before a crate has ended."""
-        low, high = (minutes(self.plan.whole() * it) for it in RANGE)
+        low, high = (minutes(self.plan.whole() * share) for share in RANGE)
         return f"{low} to {high} min by machine" if low < high else f"about {low} min"
 
     def in_all(self, now):
@@ -161,11 +161,11 @@ def beside(text):
     """What a log said beside what it took, a line each; and of how many from the first minute on it was within a third."""
     rows = list(lines_of_log(text))
     took = max((at for at, *_ in rows), default=0)
-    said = [(at, it) for at, _, _, it in rows if it]
-    for at, it in said:
-        yield f"at {at // 60} min {at % 60:02} s it said {it / 60:.0f} min, {it / took - 1:+.0%} of what it took"
-    later = [it for at, it in said if at >= 60]
-    near = sum(abs(it / took - 1) <= 1 / 3 for it in later)
+    said = [(at, told) for at, _, _, told in rows if told]
+    for at, told in said:
+        yield f"at {at // 60} min {at % 60:02} s it said {told / 60:.0f} min, {told / took - 1:+.0%} of what it took"
+    later = [told for at, told in said if at >= 60]
+    near = sum(abs(told / took - 1) <= 1 / 3 for told in later)
     yield f"it took {took // 60} min {took % 60:02} s; from the first minute on {near} of {len(later)} lines were within a third"
 
 

@@ -76,7 +76,7 @@ class Run(Fates):
         self.tables, self.children, self.groups = plan.tables, plan.children, plan.groups
         self.placed = places = Places(plan, capture)
         self.stations, self.queues, self.senders, self.bands = places.stations, places.queues, places.senders, places.bands
-        self.units = [self.units_of(it) for it in range(len(self.tables))]
+        self.units = [self.units_of(station) for station in range(len(self.tables))]
         one = RunOfOne(places).go() if plan.senders == 1 else None
         self.trail, self.wire = (one.trail, one.wire) if one else (None, None)
         if self.trail and self.trail.text() == text:
@@ -118,7 +118,7 @@ class Run(Fates):
     def read(self):
         """The fates; ends where one can't be this plan's: another station's unit, an event that it doesn't have, a slot's packet of another band."""
         own = [{str(unit) for unit, _ in units} for units in self.units]
-        of_event = [self.children[it.station] for it in self.plan.event]
+        of_event = [self.children[event.station] for event in self.plan.event]
         stations, bands, codes = self.stations, self.bands, {kind: code for code, kind in enumerate(self.KINDS)}
         add, name, serial = self.kinds.append, self.names.append, self.serials.append
         number, line = 0, ""
@@ -161,14 +161,14 @@ class Run(Fates):
         for (station, band, _, code), (count, _) in self.counts.items():
             (full if code == FULL else let_in)[station, band] += count
         for station, band in full:
-            lengths = [it.len for it in self.plan.event if station in self.children[it.station] and it.len]
+            lengths = [event.len for event in self.plan.event if station in self.children[event.station] and event.len]
             least = min([self.tables[station].len, *lengths])
             if let_in[station, band] < least - Station.batch(least):
                 raise Failed(f"band {band} of station {station} dropped packets as full that let in {let_in[station, band]}, with rings of {least} slots: the fates are of another plan")
 
     def joint(self, children):
         """The packets that the children of a group sent, as its file has them. A child has one unit, of its own number."""
-        return joint([by_serial(self.numbers[it], self.serials_of(it)) for it in children])
+        return joint([by_serial(self.numbers[child], self.serials_of(child)) for child in children])
 
     def judge_times(self, out):
         """The file of times, if it is there, has those that were worked out."""

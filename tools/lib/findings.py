@@ -92,7 +92,7 @@ class Seen:
         if len(set(self.capture.links)) == 1 and min(self.captured) >= size:
             return (data[at : at + size] for at in self.frames)
         rows = zip(self.frames, self.captured, self.links)
-        return (data[at : at + size] for at, captured, it in rows if it == link and captured >= size)
+        return (data[at : at + size] for at, captured, own in rows if own == link and captured >= size)
 
     @cached_property
     def times(self):
@@ -132,10 +132,10 @@ def behind_the_queue(seen):
     """A capture of the link itself is as quick as the link where that is busy, and hardly quicker."""
     rate = seen.card.rate_kbit if seen.card else 0
     # a shaper counts the bytes of a frame alone
-    if seen.count <= STRETCH or not rate or any(it > QUICK * rate for it in rates_of(seen.times, seen.capture.lengths)):
+    if seen.count <= STRETCH or not rate or any(speed > QUICK * rate for speed in rates_of(seen.times, seen.capture.lengths)):
         return
-    full = list(rates_of(seen.times, [bytes_of_wire(seen.card, it) for it in frame_lengths(seen.capture)]))
-    busy = sum(it >= NEARLY * rate for it in full)
+    full = list(rates_of(seen.times, [bytes_of_wire(seen.card, length) for length in frame_lengths(seen.capture)]))
+    busy = sum(speed >= NEARLY * rate for speed in full)
     if busy >= OFTEN * len(full):
         said = f"no {STRETCH} packets in a row are quicker than the link, and {busy / len(full):.0%} of such nearly as quick: it seems to be taken on the link itself, behind its queue"
         yield Finding(f"{said}. What was dropped isn't in it, and 0 dropped is then no answer. To capture what comes to the queue", f"tcpdump -i INTERFACE -Q in -w {seen.new_name('.in.pcap')}")
@@ -143,7 +143,7 @@ def behind_the_queue(seen):
 
 def long_frames(seen):
     """Frames that offloads put together, which a link sends as several."""
-    long = sum(it > LONG_FRAME for it in seen.capture.lengths) if seen.card else 0
+    long = sum(length > LONG_FRAME for length in seen.capture.lengths) if seen.card else 0
     if long:
         said = f"{share(long, seen.count)} have more than {LONG_FRAME:,} bytes, up to {max(seen.capture.lengths):,}: each counts as one frame. If offloads put them together, capture without these"
         yield Finding(said, "ethtool -K INTERFACE tso off gso off gro off")
@@ -177,7 +177,7 @@ def directions_of_ethernet(seen):
             pairs[head[6:], head[:6]] += count
     least, by = both_ways(pairs)
     if least >= max(1, BOTH * seen.count):
-        host = max(by, key=lambda it: (by[it], sum(count for (source, _), count in pairs.items() if source == it)))
+        host = max(by, key=lambda address: (by[address], sum(count for (source, _), count in pairs.items() if source == address)))
         sent, got = (sum(count for pair, count in pairs.items() if pair[at] == host) for at in (0, 1))
         address = host.hex(":")
         said = f"both directions are in it: {sent:,} packets come from {address}, and {got:,} go to it. A device sends one direction. To keep what it sent (with eth.dst what it got)"
@@ -213,8 +213,8 @@ def interfaces(seen):
         return
     counts = Counter(captures.interface_at(capture, at) for at in capture.starts)
     if len(counts) > 1:
-        each = ", ".join(f"{counts[it]:,} of interface {it}" for it in sorted(counts))
-        most = max(counts, key=lambda it: counts[it])
+        each = ", ".join(f"{counts[interface]:,} of interface {interface}" for interface in sorted(counts))
+        most = max(counts, key=lambda interface: counts[interface])
         said = f"packets of {len(counts)} interfaces are in it ({each}), and a packet that was forwarded may be in it twice. To keep those of one"
         yield Finding(said, only(seen, f"frame.interface_id == {most}", f".{most}"))
 
@@ -256,9 +256,9 @@ def names_of_frames(seen):
     found = Counter()
     for link, count in Counter(seen.links).items():
         if link == ETHERNET:
-            types = Counter(it[12:18] if it[12:14] in TAGS else it[12:14] for it in seen.heads(link, 18))
-            for it, many in types.items():
-                name = name_of_ethernet(bytes(12) + it)
+            types = Counter(head[12:18] if head[12:14] in TAGS else head[12:14] for head in seen.heads(link, 18))
+            for kind, many in types.items():
+                name = name_of_ethernet(bytes(12) + kind)
                 if name:
                     found[name] += many
         elif link != RAW_IP:
@@ -339,8 +339,8 @@ def plan_at(file):
     """The plan of a file, if it is one; a plan itself."""
     if file is None or isinstance(file, plans.Plan):
         return file
-    with open(file, "rb") as it:
-        root, faults = plans.judge(it.read(65537))
+    with open(file, "rb") as stream:
+        root, faults = plans.judge(stream.read(65537))
     return None if faults else plans.plan_of(root)
 
 
@@ -380,8 +380,8 @@ def of(name, plan=None, capture=None):
     if isinstance(plan, (str, os.PathLike)) and exchanged(plan, name):
         return [Finding(exchanged(plan, name), "", True)]
     if capture is None:
-        with open(name, "rb") as it:
-            data = it.read(MOST_BYTES + 1)
+        with open(name, "rb") as file:
+            data = file.read(MOST_BYTES + 1)
         if len(data) > MOST_BYTES:
             return [Finding(ways_out.way_out(TOO_LONG, str(name)), "", True)]
         try:
@@ -413,6 +413,6 @@ def found_of(name, plan=None, capture=None):
 def tell(tool, name, plan=None, capture=None):
     """Says on standard error what is found of a capture; whether `lqtx` refuses it for that."""
     found = found_of(name, plan, capture)
-    for it in found:
-        say(tool, f"{name}: {it}")
-    return any(it.is_refused for it in found)
+    for finding in found:
+        say(tool, f"{name}: {finding}")
+    return any(finding.is_refused for finding in found)

@@ -21,7 +21,7 @@ def window(bit):
 def shares_of(place):
     """What each value of the byte at a place adds: the windows at its bits that are 1, without carry."""
     windows = [window(8 * place + bit) for bit in range(8)]
-    return [reduce(xor, (it for bit, it in enumerate(windows) if value >> (7 - bit) & 1), 0) for value in range(256)]
+    return [reduce(xor, (window for bit, window in enumerate(windows) if value >> (7 - bit) & 1), 0) for value in range(256)]
 
 
 SHARES = [shares_of(place) for place in range(MOST)]

@@ -1,8 +1,8 @@
 """What `./lqtx` does unless a built program can be started at once: it judges words and outputs, builds the program, runs it, and explains its exit code.
 
-    front.py WORD...                            as ./lqtx
-    front.py --after STATUS SIGNAL WORD...      explains the program's end once the shell has run it with these words; SIGNAL is the one that it got, or 0
-    front.py --answer PROGRAM NOTE WORD...      the answer of the program without its proof, on standard error, while the proof is under way
+    python3 tools WORD...                           as ./lqtx
+    python3 tools --after STATUS SIGNAL WORD...     explains the program's end once the shell has run it with these words; SIGNAL is the one that it got, or 0
+    python3 tools --answer PROGRAM NOTE WORD...     the answer of the program without its proof, on standard error, while the proof is under way
 """
 import contextlib
 import itertools
@@ -13,10 +13,9 @@ import shutil
 import subprocess
 import sys
 
-sys.path[0] = os.path.dirname(sys.path[0])
-from lib import answers, ends, kept, outputs, without_proof, words  # noqa: E402
-from lib.crates import NoKit  # noqa: E402
-from lib.words import Failed, Wrong  # noqa: E402
+from lib import answers, ends, kept, outputs, without_proof, words
+from lib.crates import NoKit
+from lib.words import Failed, Wrong
 
 TOP, say = kept.TOP, answers.tell
 PAGES = {
@@ -86,7 +85,7 @@ def judge_words(given):
     except (OSError, TypeError):
         return
     forms = {(form.split()[1], len(form.split()) - 1) for form in usage[len("usage: ") :].split(" | ")}
-    if (given[0] if given else "", len(given)) not in forms or any(it[:1] in ("", "-") for it in given):
+    if (given[0] if given else "", len(given)) not in forms or any(word[:1] in ("", "-") for word in given):
         print(usage)
         say(PAGES[2])
         raise SystemExit(2)
@@ -117,7 +116,7 @@ def build(call, sources):
         with contextlib.ExitStack() as stack:
             if call.given:
                 unproved = sources.program(answers.kind_for(outputs.Command(call.given), sources))
-                command = [sys.executable, "-S", "-B", __file__, "--answer", unproved, call.note, *call.given]
+                command = [sys.executable, "-S", "-B", TOP / "tools", "--answer", unproved, call.note, *call.given]
                 beside = subprocess.Popen(command, stdout=subprocess.DEVNULL)
                 stack.callback(beside.wait)
                 stack.callback(beside.terminate)
@@ -155,8 +154,8 @@ def run_once(call, program):
     before = call.command.written()
     try:
         return answers.try_itself(call.command) if call.is_tried else ended([program, *call.command.words], call.look)
-    except KeyboardInterrupt as it:
-        ends.say_signal(it.args[0])
+    except KeyboardInterrupt as interrupt:
+        ends.say_signal(interrupt.args[0])
         raise
     finally:
         call.command.leave(before, call.looked_at)
@@ -166,7 +165,7 @@ def run_program(call, program):
     """Runs it again where it came to its outputs, whose folder isn't there: it reads its inputs before it makes one."""
     code, command = run_once(call, program), call.command
     folder = os.path.dirname(command.out) if command.out is not None else ""
-    if code != 5 or not folder or os.path.exists(folder) or any(not os.path.isfile(it) or ends.why_not_read(it) for it in command.inputs):
+    if code != 5 or not folder or os.path.exists(folder) or any(not os.path.isfile(name) or ends.why_not_read(name) for name in command.inputs):
         return code
     try:
         os.makedirs(folder)
@@ -239,10 +238,10 @@ def main(given):
             call.note.unlink()
 
 
-if __name__ == "__main__":
+def run():
     words.heed_signals()
     try:
         # help is asked of the program
         sys.exit(words.code_of("lqtx", __doc__, lambda given: main(given[1:]), ["--", *sys.argv[1:]]))
-    except KeyboardInterrupt as it:
-        words.end_by(it.args[0])
+    except KeyboardInterrupt as interrupt:
+        words.end_by(interrupt.args[0])

@@ -24,21 +24,21 @@ class Sources:
 
     def __init__(self):
         # before they are summed: what changes meanwhile counts as changed afterwards
-        self.parts = [CRATES, TOP / "HANDLES", *told_by_toolchain(), *(it for crate in crates_below("lqtx") for it in [*folders_of(crate), *files_of(crate)])]
-        self.last_change = max(os.lstat(it).st_ctime_ns for it in self.parts if os.path.lexists(it))
+        self.parts = [CRATES, TOP / "HANDLES", *told_by_toolchain(), *(path for crate in crates_below("lqtx") for path in [*folders_of(crate), *files_of(crate)])]
+        self.last_change = max(os.lstat(part).st_ctime_ns for part in self.parts if os.path.lexists(part))
         self.checksum, self.toolchain = checksum_of_sources(), checksum_of_toolchain()
 
     def program(self, kind):
         if self.toolchain:
             return KEPT / f"{kind}.{self.checksum}.{self.toolchain}"
         # with no toolchain a program of these sources stands for what any would build
-        found = sorted(KEPT.glob(f"{kind}.{self.checksum}.*"), key=lambda it: it.stat().st_mtime)
+        found = sorted(KEPT.glob(f"{kind}.{self.checksum}.*"), key=lambda path: path.stat().st_mtime)
         return found[-1] if found else KEPT / f"{kind}.{self.checksum}.none"
 
     def tell_shell(self, kind):
         """Notes that this program is that of the sources as they are, and the files and folders of which none may have changed since their last change."""
         with contextlib.suppress(OSError, NoKit):
-            names = "".join(f"{os.path.relpath(it, TOP)}\0" for it in self.parts)
+            names = "".join(f"{os.path.relpath(part, TOP)}\0" for part in self.parts)
             for name, text in (("sources", names), ("current", f"{self.program(kind).name}\n{kit()}/bin/rt\n")):
                 whole = KEPT / f"{name}.{PROVED if kind == PROVED else UNPROVED}"
                 part = whole.with_name(f"{whole.name}.{os.getpid()}")
@@ -48,6 +48,6 @@ class Sources:
 
 
 def drop_old(kind):
-    kept = sorted((it for it in KEPT.glob(f"{kind}.*.*") if it.is_file()), key=lambda it: it.stat().st_mtime, reverse=True)
-    for it in kept[STAYING[kind] :]:
-        it.unlink()
+    kept = sorted((path for path in KEPT.glob(f"{kind}.*.*") if path.is_file()), key=lambda path: path.stat().st_mtime, reverse=True)
+    for old in kept[STAYING[kind] :]:
+        old.unlink()

@@ -21,13 +21,13 @@ def place_words(run):
     for where in zip(sender, *places) if run.has_units else zip(sender):
         if where not in made:
             names = ["station", "queue", "band"] if run.has_units else ["sender"]
-            made[where] = "".join(f", {name} {it}" for name, it in zip(names, where[run.has_units :])).encode()
+            made[where] = "".join(f", {name} {place}" for name, place in zip(names, where[run.has_units :])).encode()
         yield made[where]
 
 
 def comments(run, waits, first):
     """A comment for each packet: its fate as OUT.fates has it, its station, queue and band, how long it waited for a card, and whether it left only after the last packet."""
-    ends, has_units, kinds = [b"", b", after the last packet"], run.has_units, [it.encode() for it in run.KINDS]
+    ends, has_units, kinds = [b"", b", after the last packet"], run.has_units, [kind.encode() for kind in run.KINDS]
     late = map(waits.end.__eq__, waits.left) if waits else repeat(False)
     accepted = waits.accepted if waits else {}
     for n, (kind, name, serial, place, is_late) in enumerate(zip(run.kinds, run.names, run.serials, place_words(run), late)):
@@ -101,13 +101,13 @@ def of_blocks(capture, told):
 
 def write(file, capture, told):
     """The marked capture; the answer is how many packets have no place for a comment."""
-    with outputs.writing(file, "wb") as it:
-        it.writelines(of_blocks(capture, told) if capture.is_pcapng() else of_classic(capture, told))
+    with outputs.writing(file, "wb") as out:
+        out.writelines(of_blocks(capture, told) if capture.is_pcapng() else of_classic(capture, told))
         head, long = struct.unpack_from(capture.order + "I8xq", capture.data, 4) if capture.is_pcapng() else (0, -1)
         if long != -1:
             # the section's header says how long the rest is
-            rest = it.tell() - head
-            it.seek(16)
-            it.write(struct.pack(capture.order + "q", rest))
+            rest = out.tell() - head
+            out.seek(16)
+            out.write(struct.pack(capture.order + "q", rest))
     kind = struct.Struct(capture.order + "I").unpack_from
     return sum(kind(capture.data, at)[0] == SIMPLE for at in capture.starts) if capture.is_pcapng() else 0

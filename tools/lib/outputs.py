@@ -30,7 +30,7 @@ class Command:
     def __init__(self, given: List[str], ending: str = ""):
         places, self.place = COMMANDS.get((given[0] if given else "", len(given)), ([], None))
         self.words = list(given)
-        self.inputs = [given[it] for it in places]
+        self.inputs = [given[place] for place in places]
         self.out = None if self.place is None else given[self.place] + ending
         if self.out is not None:
             self.words[self.place] = self.out
@@ -41,11 +41,11 @@ class Command:
 
     def tails(self, units: int = UNITS, groups: int = GROUPS) -> List[str]:
         """What follows OUT in the names of the files that it may write: `gen` writes its capture to the very name."""
-        of_run = [*(f".{it}.pcap" for it in range(units)), *(f".mq{it}.pcap" for it in range(groups)), ".fates", ".times"]
+        of_run = [*(f".{number}.pcap" for number in range(units)), *(f".mq{number}.pcap" for number in range(groups)), ".fates", ".times"]
         return {"run": of_run, "tap": [".pcap", ".fates"], "gen": [""]}[self.words[0]] if self.out is not None else []
 
     def files(self, *counts: int) -> List[str]:
-        return [f"{self.out}{it}" for it in self.tails(*counts)]
+        return [f"{self.out}{tail}" for tail in self.tails(*counts)]
 
     @property
     def names(self) -> str:
@@ -58,21 +58,21 @@ class Command:
 
     def written(self) -> Dict[str, str]:
         """The outputs that are there, by what follows OUT in their names, each with its state."""
-        states = {it: state_of(f"{self.out}{it}") for it in self.tails()}
-        return {it: state for it, state in states.items() if state}
+        states = {tail: state_of(f"{self.out}{tail}") for tail in self.tails()}
+        return {tail: state for tail, state in states.items() if state}
 
     def refuse_foreign(self, *counts: int) -> None:
         refuse_foreign(self.files(*counts), self.note)
 
     def state_of_inputs(self) -> str:
         """Of each input the device and the state; nothing where one is no file."""
-        states = [(it, state_of(it)) for it in self.inputs]
-        return "".join(f"{os.stat(it).st_dev}.{state} " for it, state in states) if all(state for _, state in states) else ""
+        states = [(name, state_of(name)) for name in self.inputs]
+        return "".join(f"{os.stat(name).st_dev}.{state} " for name, state in states) if all(state for _, state in states) else ""
 
     def leave(self, before: Dict[str, str], looked_at: str = "") -> None:
         """Notes which outputs a run left: those that were others before, and those that an earlier one left. LOOKED_AT is the state of its inputs."""
         own = noted(self.note) if self.out is not None else []
-        left = [f"{self.out}{it}" for it, state in self.written().items() if state != before.get(it) or state in own]
+        left = [f"{self.out}{tail}" for tail, state in self.written().items() if state != before.get(tail) or state in own]
         if left:
             note(self.note, left, looked_at)
 
@@ -110,7 +110,7 @@ def spelled(path: str) -> str:
     folder, name = os.path.split(os.path.realpath(path))
     with contextlib.suppress(OSError):
         names = os.listdir(folder)
-        name = name if name in names else next((it for it in names if it.casefold() == name.casefold()), name)
+        name = name if name in names else next((other for other in names if other.casefold() == name.casefold()), name)
     return os.path.join(spelled(folder), name) if name else folder
 
 
@@ -126,19 +126,19 @@ def file_exists_as(path: str, opened: int) -> bool:
 def refuse_inputs(inputs: Iterable[str], files: Iterable[str]) -> None:
     """Wrong where an output is one of the inputs, or one of the other outputs."""
     inputs = list(map(str, inputs))
-    read, taken, small = {file_of(it): it for it in inputs}, {}, {os.path.realpath(it).casefold(): it for it in inputs}
-    for it in map(str, files):
-        file = file_of(it)
+    read, taken, small = {file_of(name): name for name in inputs}, {}, {os.path.realpath(name).casefold(): name for name in inputs}
+    for output in map(str, files):
+        file = file_of(output)
         if file is None:
             continue
-        found, other = read.get(file), small.get(os.path.realpath(it).casefold())
-        if not found and other and os.path.exists(it) and spelled(it) == spelled(other):
+        found, other = read.get(file), small.get(os.path.realpath(output).casefold())
+        if not found and other and os.path.exists(output) and spelled(output) == spelled(other):
             found = other
         if found:
-            raise Wrong(f"{it} is an input" + (f", {found}" if it != found else "") + ": the outputs need another name")
+            raise Wrong(f"{output} is an input" + (f", {found}" if output != found else "") + ": the outputs need another name")
         if file in taken:
-            raise Wrong(f"{it} and {taken[file]} are one file: each output needs a name of its own")
-        taken[file] = it
+            raise Wrong(f"{output} and {taken[file]} are one file: each output needs a name of its own")
+        taken[file] = output
 
 
 # which were left here
@@ -162,8 +162,8 @@ def note_of(name: str) -> str:
 
 def noted(name: str) -> List[str]:
     try:
-        with open(note_of(name), encoding="ascii") as it:
-            return it.read().split()
+        with open(note_of(name), encoding="ascii") as file:
+            return file.read().split()
     except (OSError, ValueError):
         return []
 
@@ -172,8 +172,8 @@ def note(name: str, files: Iterable[str], looked_at: str = "") -> None:
     """Notes how files are left. Where that can't be written they count as the user's."""
     with contextlib.suppress(OSError):
         os.makedirs(os.path.dirname(note_of(name)), exist_ok=True)
-        with open(note_of(name), "w", encoding="ascii") as it:
-            it.write(looked_at + "".join(f"{state} " for state in map(state_of, files) if state) + "\n")
+        with open(note_of(name), "w", encoding="ascii") as file:
+            file.write(looked_at + "".join(f"{state} " for state in map(state_of, files) if state) + "\n")
 
 
 def is_foreign(path: str, name: str) -> bool:
@@ -183,7 +183,7 @@ def is_foreign(path: str, name: str) -> bool:
 
 
 def refuse_foreign(files: Iterable[str], name: Optional[str] = None) -> None:
-    found = [] if words.forced else [str(it) for it in files if is_foreign(it, name or it)]
+    found = [] if words.forced else [str(file) for file in files if is_foreign(file, name or file)]
     if found:
         are = "is there, and wasn't" if len(found) == 1 else "are there, and weren't"
         raise Wrong(f"{', '.join(found)} {are} left so by an earlier call: --force overwrites {'it' if len(found) == 1 else 'them'}")
@@ -204,8 +204,8 @@ def writing(path: str, mode: str = "w", newline: Optional[str] = None) -> Iterat
     is_beside = os.access(folder, os.W_OK) and (os.path.isfile(target) or not is_there)
     place = os.path.join(folder, f".lqtx.{os.getpid()}.{time.monotonic_ns()}") if is_beside else target
     try:
-        with open(place, mode.replace("w", "x") if is_beside else mode, encoding=None if "b" in mode else "utf-8", newline=newline) as it:
-            yield it
+        with open(place, mode.replace("w", "x") if is_beside else mode, encoding=None if "b" in mode else "utf-8", newline=newline) as file:
+            yield file
         if is_beside:
             if is_there:
                 shutil.copymode(target, place)
@@ -222,5 +222,5 @@ def writing(path: str, mode: str = "w", newline: Optional[str] = None) -> Iterat
 
 def write(path: str, whole) -> None:
     """Writes a text, or bytes."""
-    with writing(path, "wb" if isinstance(whole, bytes) else "w") as it:
-        it.write(whole)
+    with writing(path, "wb" if isinstance(whole, bytes) else "w") as file:
+        file.write(whole)

@@ -35,22 +35,22 @@ def forget(library):
 
 def _pack(library):
     part = file_of(library).with_suffix(".part")
-    with tarfile.open(part, "w:gz", compresslevel=1) as it:
-        it.add(library, library.name)
+    with tarfile.open(part, "w:gz", compresslevel=1) as file:
+        file.add(library, library.name)
     part.rename(file_of(library))
     shutil.rmtree(library)
 
 
 def _unpack(library):
     shutil.rmtree(library, ignore_errors=True)
-    with tarfile.open(file_of(library)) as it:
-        it.extractall(library.parent)
+    with tarfile.open(file_of(library)) as file:
+        file.extractall(library.parent)
     file_of(library).unlink()
 
 
 def pack(libraries):
     with ThreadPoolExecutor(os.cpu_count()) as pool:
-        list(pool.map(_pack, (it for it in libraries if it.is_dir() and not file_of(it).is_file())))
+        list(pool.map(_pack, (library for library in libraries if library.is_dir() and not file_of(library).is_file())))
     with contextlib.suppress(OSError):
         FOLDERS.rmdir()
         FOLDERS.parent.rmdir()
@@ -60,7 +60,7 @@ def unpack(libraries):
     libraries = list(libraries)
     FOLDERS.mkdir(parents=True, exist_ok=True)
     with ThreadPoolExecutor(os.cpu_count()) as pool:
-        list(pool.map(_unpack, (it for it in libraries if file_of(it).is_file())))
+        list(pool.map(_unpack, (library for library in libraries if file_of(library).is_file())))
     for at, library in enumerate(libraries):
         share(library, libraries[:at])
 
@@ -68,8 +68,8 @@ def unpack(libraries):
 def share(library, others):
     """Each library has the interfaces of those below it: the files that another library has too become one file with it."""
     for file in filter(pathlib.Path.is_file, library.glob("below/**/*")):
-        same = (it / file.relative_to(library) for it in others)
-        found = next((it for it in same if it.is_file() and filecmp.cmp(it, file, shallow=False)), None)
+        same = (other / file.relative_to(library) for other in others)
+        found = next((other for other in same if other.is_file() and filecmp.cmp(other, file, shallow=False)), None)
         if found and not found.samefile(file):
             file.unlink()
             os.link(found, file)

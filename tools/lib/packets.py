@@ -13,7 +13,7 @@ SIMPLE = 3  # the type of a packet block of pcapng that has no time and is of in
 PROTOCOLS = {1: "icmp", 2: "igmp", 6: "tcp", 17: "udp", 33: "dccp", 47: "gre", 50: "esp", 58: "icmpv6", 89: "ospf", 132: "sctp", 136: "udplite"}
 WITH_PORTS = frozenset((6, 17, 33, 132, 136))
 # bytes 6 and 7 of an IPv4 header that isn't a later fragment, which has no ports
-FIRST = frozenset(bytes([it << 5, 0]) for it in range(8))
+FIRST = frozenset(bytes([bits << 5, 0]) for bits in range(8))
 # where the type of what a frame carries stands, by link type: Ethernet, and the two of `tcpdump -i any`
 TYPE_AT = {1: 12, 113: 14, 276: 0}
 # how long the header of a frame is, by link type; those without a type of what they carry have IP alone
@@ -93,7 +93,7 @@ def flow_of_ipv6(data, head, until):
         first = first and (protocol != 44 or struct.unpack_from(">H", data, at + 2)[0] < 8)
         protocol, at = data[at], at + (8 if protocol == 44 else 8 * (data[at + 1] + 1))
     ports = ports_at(data, at, until) if protocol in WITH_PORTS and first else (None, None)
-    source, destination = (socket.inet_ntop(socket.AF_INET6, data[it : it + 16]) for it in (head + 8, head + 24))
+    source, destination = (socket.inet_ntop(socket.AF_INET6, data[place : place + 16]) for place in (head + 8, head + 24))
     return (struct.unpack_from(">H", data, head)[0] >> 6) & 63, Flow(PROTOCOLS.get(protocol, str(protocol)), source, ports[0], destination, ports[1])
 
 
@@ -102,7 +102,7 @@ class Packets:
 
     def __init__(self, capture):
         self.capture, self.digits = capture, digits_of(capture)
-        self.times = array("q", (NO_TIME if it is None or not -(2**63) <= it < 2**63 else it for it in times_of(capture)))
+        self.times = array("q", (NO_TIME if time is None or not -(2**63) <= time < 2**63 else time for time in times_of(capture)))
         self.frames, self.captured, self.links = array("Q"), array("I"), repeat(capture.links[0] if capture.links else 0)
         if capture.is_pcapng():
             self.read_blocks()

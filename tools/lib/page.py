@@ -30,11 +30,11 @@ def packed(values, type_of=None):
 def columns_of(shown):
     """What the page knows of each packet; times are nanoseconds after the first one."""
     run, packets, flows, waits, count = shown.run, shown.packets, shown.flows, shown.waits, len(shown.run.capture)
-    start = next((it for it in packets.times if it != NO_TIME), 0)
+    start = next((time for time in packets.times if time != NO_TIME), 0)
     nan = float("nan")
     sender, *places = run.places()
     found = {
-        "time": packed([nan if it == NO_TIME else it - start for it in packets.times], "f64"),
+        "time": packed([nan if time == NO_TIME else time - start for time in packets.times], "f64"),
         "length": packed(run.capture.lengths), "sender": packed(sender), "dscp": packed(flows.services), "flow": packed(flows.of),
         "fate": packed(run.kinds), "names": packed(run.names, "u32"), "serial": packed(run.serials),
     }  # fmt: skip
@@ -42,14 +42,14 @@ def columns_of(shown):
         found[name] = packed(bytes([UNKNOWN]) * count if values is None else values)
     if run.has_units and run.plan.by_time:
         first = min(run.placed.times, default=0)
-        found["moment"] = packed([it - first for it in run.placed.times], "f64")
+        found["moment"] = packed([time - first for time in run.placed.times], "f64")
     if waits:
         found["gone"] = packed(waits.left, "u32")
         found["waited"] = packed([(left + 1) // 2 - 1 - n for n, left in enumerate(waits.left)])
         if waits.by_time:
-            found["wait"] = packed([nan if it is None else it for it in map(waits.time, range(count))], "f64")
+            found["wait"] = packed([nan if time is None else time for time in map(waits.time, range(count))], "f64")
         if waits.wire:
-            ends = {it.number: it.ends // waits.wire.card.rate_kbit - start for it in waits.wire.flights}
+            ends = {flight.number: flight.ends // waits.wire.card.rate_kbit - start for flight in waits.wire.flights}
             found["ends"] = packed([ends.get(n, nan) for n in range(count)], "f64")
         found["late"] = packed([left == waits.end for left in waits.left])
     return found, start
@@ -59,11 +59,11 @@ def data_of(shown, first):
     """All that the page knows, as JSON that may stand in a page."""
     run = shown.run
     columns, start = columns_of(shown)
-    events = [pictures.event_words(number, it, first) for number, it in enumerate(run.plan.event)] if run.has_units else []
+    events = [pictures.event_words(number, event, first) for number, event in enumerate(run.plan.event)] if run.has_units else []
     about = {
         "count": len(run.capture), "first": first, "kinds": run.KINDS, "colours": pictures.DROP_COLOURS, "units": run.has_units,
         "many_units": run.has_units and len(run.numbers) > 1, "waits": bool(shown.waits), "digits": shown.waits.digits if shown.waits else shown.packets.digits, "start": str(start),
-        "flows": [list(it) for it in shown.flows.flows], "events": events, "left": pictures.LEFT, "width": pictures.WIDTH, "columns": columns,
+        "flows": [list(flow) for flow in shown.flows.flows], "events": events, "left": pictures.LEFT, "width": pictures.WIDTH, "columns": columns,
         "span": getattr(pictures.axis_of(run, first), "span", 0),
     }  # fmt: skip
     return json.dumps(about, separators=(",", ":")).replace("<", "\\u003c")
@@ -97,17 +97,17 @@ def counts_table(shown):
     kinds = [kind for kind in run.KINDS[1:] if total[kind]]
     heads = ["", run.KINDS[0], "bytes", *(["after the last packet"] if waits else []), *kinds]
     heads += ["greatest backlog", "middle wait", "greatest wait", "middle wait, s", "wait of 99 of 100, s", "greatest wait, s"] if waits else []
-    yield "<table><thead><tr>" + "".join(f'<th scope="col">{it}</th>' for it in heads) + "</tr></thead><tbody>"
+    yield "<table><thead><tr>" + "".join(f'<th scope="col">{head}</th>' for head in heads) + "</tr></thead><tbody>"
     for name, is_whole, wanted, band in classes_of(run):
         packets, octets = run.of_kinds(wanted)
         cells = [html.escape(name), packets[run.KINDS[0]], octets[run.KINDS[0]], *([waits.late_of(wanted)] if waits else []), *(packets[kind] for kind in kinds)]
         if waits and band:
             of = waits.of_sent(*band)
-            times = [seconds(it, waits.digits) if it is not None else "" for it in (of.middle_time, of.most_time, of.greatest_time)] if of else [""] * 3
+            times = [seconds(time, waits.digits) if time is not None else "" for time in (of.middle_time, of.most_time, of.greatest_time)] if of else [""] * 3
             cells += [waits.greatest(band[0], [band[1]]), *([of.middle, of.greatest] if of else ["", ""]), *times]
         elif waits:
             cells += [""] * 6
-        yield f'<tr{" class=whole" if is_whole else ""}>' + "".join(f"<td>{it}</td>" for it in cells) + "</tr>"
+        yield f'<tr{" class=whole" if is_whole else ""}>' + "".join(f"<td>{cell}</td>" for cell in cells) + "</tr>"
     yield "</tbody></table>"
 
 
@@ -143,4 +143,4 @@ def whole(shown, drawn, first):
     }  # fmt: skip
     page = re.split("@([A-Z]+)@", (HERE / "page.html").read_text(encoding="utf-8"))
     # every second piece is the name of a part
-    return "".join(parts[it] if at % 2 else it for at, it in enumerate(page))
+    return "".join(parts[piece] if at % 2 else piece for at, piece in enumerate(page))

@@ -43,7 +43,7 @@ class Panel:
 
     def rows(self, run):
         """The rows below the dots: kind, class, and the packets."""
-        for (of, kind), numbers in sorted(self.dropped.items(), key=lambda it: it[0][::-1]):
+        for (of, kind), numbers in sorted(self.dropped.items(), key=lambda item: item[0][::-1]):
             wanted = [n for n in numbers if self.since <= n < self.until]
             if wanted:
                 yield run.KINDS[kind], self.names[of][0], wanted
@@ -73,7 +73,7 @@ class ByNumber:
 
     def marks(self):
         """The ticks: where, and what stands there."""
-        return [((it - self.first + 0.5) / self.whole, it) for it in ticks(self.first, self.first + self.count - 1, 10)]
+        return [((tick - self.first + 0.5) / self.whole, tick) for tick in ticks(self.first, self.first + self.count - 1, 10)]
 
 
 class ByTime:
@@ -98,7 +98,7 @@ class ByTime:
         return self.at(self.times[n]) if n < len(self.times) else 1
 
     def marks(self):
-        return [(it / self.span, f"{it / SECOND:.9f}".rstrip("0").rstrip(".")) for it in ticks(0, self.span, 10)]
+        return [(tick / self.span, f"{tick / SECOND:.9f}".rstrip("0").rstrip(".")) for tick in ticks(0, self.span, 10)]
 
 
 def axis_of(run, first):
@@ -113,9 +113,9 @@ def axis_of(run, first):
 def axes(top, most, said, wide=WIDTH):
     """The frame of a panel, with numbers upwards."""
     yield f'<rect class="frame" x="{LEFT}" y="{top}" width="{wide}" height="{HEIGHT}" fill="none" stroke="#bbb"/>'
-    for it in ticks(0, most, 5):
-        y = top + HEIGHT - (HEIGHT - 8) * it / max(most, 1)
-        yield line(LEFT - 4, y, LEFT, y, 'stroke="#888"') + text(LEFT - 7, y + 4, it if most < 100000 else f"{it // 1000}k", "end")
+    for tick in ticks(0, most, 5):
+        y = top + HEIGHT - (HEIGHT - 8) * tick / max(most, 1)
+        yield line(LEFT - 4, y, LEFT, y, 'stroke="#888"') + text(LEFT - 7, y + 4, tick if most < 100000 else f"{tick // 1000}k", "end")
     yield text(14, top + HEIGHT / 2, said, "middle", f' transform="rotate(-90 14 {top + HEIGHT / 2:.0f})"')
 
 
@@ -131,7 +131,7 @@ def mixed(points):
     for x, y, of in points:
         places.setdefault((x, y), []).append(of)
     for (x, y), classes in sorted(places.items()):
-        of = min(classes, key=lambda it: (drawn.get(it, 0), it))
+        of = min(classes, key=lambda kind: (drawn.get(kind, 0), kind))
         drawn[of] = drawn.get(of, 0) + 1
         yield x, y, of
 
@@ -249,7 +249,7 @@ def panels_of(run, waits, first):
     for station in range(len(run.tables)):
         for at, children in run.groups:
             if station == children[0]:
-                dropped = {(it, kind): numbers for (it, kind), numbers in run.dropped_by(run.stations).items() if it in children}
+                dropped = {(child, kind): numbers for (child, kind), numbers in run.dropped_by(run.stations).items() if child in children}
                 yield group_panel(run, at, children, dropped)
         yield from unit_panels(run, waits, station, by_station[station], first)
 
@@ -313,7 +313,7 @@ def picture_of_tap(run, of, first):
 def curve(waiting, most, top, colour):
     """How many packets wait, over packet numbers: where several share a column of half a pixel, from the fewest to the most; at last those left, which go."""
     count = len(waiting)
-    up = lambda it: f"{top + HEIGHT - (HEIGHT - 8) * it / most:.1f}"
+    up = lambda value: f"{top + HEIGHT - (HEIGHT - 8) * value / most:.1f}"
     columns, path = min(2 * WIDTH, count), []
     for column in range(columns):
         start, end = -(-column * count // columns), -(-(column + 1) * count // columns)
@@ -326,7 +326,7 @@ def curve(waiting, most, top, colour):
 
 def curve_by_time(changes, axis, most, top, colour):
     """How many packets wait, over time: in each column of half a pixel from the fewest to the most, and from column to column what waits between."""
-    up = lambda it: f"{top + HEIGHT - (HEIGHT - 8) * it / most:.1f}"
+    up = lambda value: f"{top + HEIGHT - (HEIGHT - 8) * value / most:.1f}"
     waiting, columns = 0, {}
     for time, change in changes:
         column = min(round(axis.at(time) * axis.whole), axis.whole)
@@ -338,7 +338,7 @@ def curve_by_time(changes, axis, most, top, colour):
     for column, levels in sorted(columns.items()):
         low, high, last = min(levels), max(levels), levels[-1]
         points = [levels[0], *((high, low) if last - low < high - last else (low, high)), last]
-        path += [f"{LEFT + column / 2:g},{up(it)}" for place, it in enumerate(points) if not place or it != points[place - 1]]
+        path += [f"{LEFT + column / 2:g},{up(level)}" for place, level in enumerate(points) if not place or level != points[place - 1]]
     yield f'<path d="M{"L".join(path)}" fill="none" stroke="{colour}" stroke-width="1.3"/>'
     if waiting:
         yield from tail(waiting, most, top, colour)
@@ -381,8 +381,8 @@ def use_of(wire, axis):
     """In which share of its time the wire carries a frame, in each column of four half pixels."""
     scale, columns = wire.card.rate_kbit, WIDTH // 2
     wide, busy = axis.span * scale / columns, [0.0] * columns
-    for it in wire.flights:
-        begins, ends = (it.begins - axis.start * scale) / wide, (it.ends - axis.start * scale) / wide
+    for flight in wire.flights:
+        begins, ends = (flight.begins - axis.start * scale) / wide, (flight.ends - axis.start * scale) / wide
         for column in range(int(begins), min(int(ends) + 1, columns)):
             busy[column] += min(ends, column + 1) - max(begins, column)
     return busy
@@ -393,7 +393,7 @@ def use_panel(wire, axis, top):
     top += TITLE
     yield text(LEFT, top - 6, f"use of the link: per cent of each {axis.span / SECOND / (WIDTH // 2):.3g} s")
     yield from axes(top, 100, "per cent")
-    path = "".join(f"M{LEFT + 2 * column + 1},{top + HEIGHT}v-{(HEIGHT - 8) * it:.1f}" for column, it in enumerate(use_of(wire, axis)) if it > 0)
+    path = "".join(f"M{LEFT + 2 * column + 1},{top + HEIGHT}v-{(HEIGHT - 8) * share:.1f}" for column, share in enumerate(use_of(wire, axis)) if share > 0)
     yield f'<path d="{path}" stroke="#4e79a7" stroke-width="2" fill="none"/>'
     yield from marks_below(top + HEIGHT, axis)
 
@@ -405,13 +405,13 @@ def backlog(run, waits, of, first):
     for station in range(len(run.tables)):
         for at, children in run.groups:
             if station == children[0]:
-                names = [(f"queue {it}", colour) for it, colour in zip(range(len(children)), EIGHT_COLOURS)]
+                names = [(f"queue {queue}", colour) for queue, colour in zip(range(len(children)), EIGHT_COLOURS)]
                 lines += legend(top + TITLE - 6, names, LEFT + WIDTH - sum(26 + 6 * len(name) for name, _ in names))
                 curves = [((child,), colour) for child, colour in zip(children, EIGHT_COLOURS)]
-                late = waits.late_of(lambda it, band, queue: it in children)
+                late = waits.late_of(lambda its, band, queue: its in children)
                 lines += backlog_panel(waits, axis, top, f"mq {at}: packets that wait in each queue", curves, late)
                 top += TITLE + HEIGHT + FOOT
-        late = waits.late_of(lambda it, band, queue: it == station)
+        late = waits.late_of(lambda its, band, queue: its == station)
         for of_bytes in (False, True) if waits.wire else (False,):
             curves = [((station, [band], of_bytes), colour) for band, colour in enumerate(BAND_COLOURS)]
             curves = curves if waits.by_time else [(of[:2], colour) for of, colour in curves]

@@ -39,20 +39,20 @@ class Places:
         routes, sources = self.capture.routes, self.capture.sources
         if self.plan.spread == "bytes":
             return routes, sources
-        halves = [(route, source) if it is None else (it & 0xFFFF, it >> 16) for it, route, source in zip(self.hashes, routes, sources)]
-        return array("H", (it[0] for it in halves)), array("H", (it[1] for it in halves))
+        halves = [(route, source) if flow is None else (flow & 0xFFFF, flow >> 16) for flow, route, source in zip(self.hashes, routes, sources)]
+        return array("H", (half[0] for half in halves)), array("H", (half[1] for half in halves))
 
     def stations_of(self):
         """By the route number the plan's station, and by the source number its child."""
         children = self.plan.children
         if len(children) == 1 and len(children[0]) == 1:
             return bytearray(len(self))
-        groups = [children[it % len(children)] for it in self.routes]
+        groups = [children[route % len(children)] for route in self.routes]
         return bytearray(group[source % len(group)] for group, source in zip(groups, self.sources))
 
     def queues_of(self):
         """By the source number, of the queues that share the rings of a station."""
-        many = [it.queues for it in self.plan.tables]
+        many = [table.queues for table in self.plan.tables]
         if max(many) == 1:
             return bytearray(len(self))
         return bytearray(source % many[station] for source, station in zip(self.sources, self.stations))
@@ -62,9 +62,9 @@ class Places:
         """The sender of each packet, which is its owner: by its number, its source byte, or its flow's hash."""
         many, sources = self.plan.senders, self.capture.sources
         if self.plan.split == "source":
-            return sources.translate(bytes(it % many for it in range(256)))
+            return sources.translate(bytes(byte % many for byte in range(256)))
         if self.plan.split == "flow":
-            return bytes((source if it is None else it) % many for it, source in zip(self.hashes, sources))
+            return bytes((source if flow is None else flow) % many for flow, source in zip(self.hashes, sources))
         return bytes(range(many)) * (len(self) // many) + bytes(range(len(self) % many))
 
     @cached_property
@@ -122,7 +122,7 @@ def steps_of(places, sender=0, is_open=lambda: False, openings=None):
     Where no queue is stopped, as `is_open` may say, an opening does nothing, and those that are left before the next packet are passed over.
     """
     events, opened = list(enumerate(places.plan.event)) if sender == 0 else [], 0
-    own = range(len(places)) if places.plan.senders == 1 else [n for n, it in enumerate(places.senders) if it == sender]
+    own = range(len(places)) if places.plan.senders == 1 else [n for n, owner in enumerate(places.senders) if owner == sender]
     events.reverse()
     for n in own:
         while events and events[-1][1].before <= n:

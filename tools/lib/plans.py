@@ -59,7 +59,7 @@ def greatest_len(place):
 
 def tables_at(root, name):
     value = root.get(name)
-    return [it for it in value if isinstance(it, dict)] if isinstance(value, list) else []
+    return [table for table in value if isinstance(table, dict)] if isinstance(value, list) else []
 
 
 # the greatest number of each, by version
@@ -75,8 +75,8 @@ PARAMS = [
     Key("hang_after", "number", 0, 1000000, 0, about="the device hangs once it has accepted so many packets"),
 ]
 ROOT = [
-    Key("version", "number", 1, lambda it: it.version, 1, about="the version of the format"),
-    Key("senders", "number", 1, lambda it: SENDERS[it.version], 1, about="threads that send"),
+    Key("version", "number", 1, lambda place: place.version, 1, about="the version of the format"),
+    Key("senders", "number", 1, lambda place: SENDERS[place.version], 1, about="threads that send"),
     Key("split", "round|source|flow:4", default="round", about="how packets are split among the senders"),
     Key("spread", "bytes|flow", default="bytes", since=4, about="by what a packet's station, queue and child are chosen"),
     Key("classify", "tos|none", default="tos", since=5, about="how a packet gets its priority"),
@@ -94,8 +94,8 @@ CARD = [
     Key("mpu", "number", 0, 1000, 84, since=5, about="bytes of the wire that a frame takes at least, with those"),
 ]
 STATION = [
-    Key("len", "number", 1, lambda it: LENGTH[it.version], 1000, about="slots of each of its three rings"),
-    Key("max_len", "number", lambda it: number_at(it.table, "len", 1000), lambda it: LENGTH[it.version], about="slots that a resize may give them; else `len`"),
+    Key("len", "number", 1, lambda place: LENGTH[place.version], 1000, about="slots of each of its three rings"),
+    Key("max_len", "number", lambda place: number_at(place.table, "len", 1000), lambda place: LENGTH[place.version], about="slots that a resize may give them; else `len`"),
     Key("bypass", "flag", default=True, about="whether a packet may go past the rings"),
     Key("queues", "number", 1, 8, 1, since=2, about="transmit queues of its device, which share the rings"),
     Key("mq", "number", 1, CHILDREN, 1, since=3, about="children of its multi-queue root: one for each transmit queue of its device, with rings of its own"),
@@ -105,7 +105,7 @@ STATION = [
 EVENT = [
     Key("before", "number", 0, 1000000, required=True, about="the number of the packet before which it comes"),
     Key("kind", "|".join(KINDS), required=True, about="what it does"),
-    Key("station", "number", 0, lambda it: max(len(tables_at(it.root, "station")) - 1, 0), required=True, about="the station's number"),
+    Key("station", "number", 0, lambda place: max(len(tables_at(place.root, "station")) - 1, 0), required=True, about="the station's number"),
     Key("len", "number", 1, greatest_len, about="the new length of the rings"),
     *PARAMS,
 ]
@@ -129,12 +129,12 @@ def version_of(root):
 
 def keys_for(section, place):
     """The keys that a table may have, and those that it must have; of an event by its kind."""
-    keys = [it for it in TABLES[section] if it.since <= place.version]
-    required = {it.name for it in keys if it.required}
+    keys = [key for key in TABLES[section] if key.since <= place.version]
+    required = {key.name for key in keys if key.required}
     if section == "event" and place.table.get("kind") in KINDS:
         takes = KINDS[place.table["kind"]]
-        unknown = {"len"} - set(takes) | ({it.name for it in PARAMS} if "params" not in takes else set())
-        return [it for it in keys if it.name not in unknown], required | set(takes) & {"len"}
+        unknown = {"len"} - set(takes) | ({key.name for key in PARAMS} if "params" not in takes else set())
+        return [key for key in keys if key.name not in unknown], required | set(takes) & {"len"}
     return keys, required
 
 
@@ -144,7 +144,7 @@ def bound(of, place):
 
 def texts_of(key, place):
     """The texts that a key may be in this version."""
-    return [text for text, _, since in (it.partition(":") for it in key.kind.split("|")) if int(since or 1) <= place.version]
+    return [text for text, _, since in (word.partition(":") for word in key.kind.split("|")) if int(since or 1) <= place.version]
 
 
 def wanted(key, place):
@@ -155,7 +155,7 @@ def wanted(key, place):
         return "true or false"
     if key.kind == "tables":
         return f"{key.low} to {key.high} tables, each begun by [[{key.name}]]"
-    return "one of " + ", ".join(f'"{it}"' for it in texts_of(key, place))
+    return "one of " + ", ".join(f'"{text}"' for text in texts_of(key, place))
 
 
 def has_kind(key, value):
@@ -164,7 +164,7 @@ def has_kind(key, value):
     if key.kind == "flag":
         return type(value) is bool
     if key.kind == "tables":
-        return isinstance(value, list) and all(isinstance(it, dict) for it in value)
+        return isinstance(value, list) and all(isinstance(table, dict) for table in value)
     return isinstance(value, str)
 
 
@@ -188,30 +188,30 @@ def lines_of_keys(text):
             found.setdefault((section, at, None), number)
             found.setdefault(("", 0, section), number)
         elif key:
-            found.setdefault((section, at if section else 0, next(it for it in key.groups() if it is not None)), number)
+            found.setdefault((section, at if section else 0, next(name for name in key.groups() if name is not None)), number)
     return found
 
 
 def hint_for_unknown(section, name, place):
     """What was meant by a key that a table doesn't have."""
-    if any(it.name == name for it in TABLES[section]):
-        row = next(it for it in TABLES[section] if it.name == name)
+    if any(key.name == name for key in TABLES[section]):
+        row = next(key for key in TABLES[section] if key.name == name)
         if row.since > place.version:
             return f"it needs `version = {row.since}` at the top"
         if section == "event":
             return f"an event of kind \"{place.table.get('kind')}\" doesn't have it"
-    if section and any(it.name == name for it in ROOT):
+    if section and any(key.name == name for key in ROOT):
         return f"it is a key of the top, which comes before the first [[{section}]]"
-    if not section and any(it.name == name for it in STATION):
+    if not section and any(key.name == name for key in STATION):
         return "it is a key of a station: it comes after [[station]]"
-    near = difflib.get_close_matches(name.lower().replace("-", "_"), [it.name for it in keys_for(section, place)[0]], 1, 0.6)
-    return f"did you mean `{near[0]}`?" if near else "the keys are " + ", ".join(f"`{it.name}`" for it in keys_for(section, place)[0])
+    near = difflib.get_close_matches(name.lower().replace("-", "_"), [key.name for key in keys_for(section, place)[0]], 1, 0.6)
+    return f"did you mean `{near[0]}`?" if near else "the keys are " + ", ".join(f"`{key.name}`" for key in keys_for(section, place)[0])
 
 
 def faults_of_table(section, at, place, lines):
     where = f"{section} {at}" if section else "the top"
     keys, required = keys_for(section, place)
-    by_name = {it.name: it for it in keys}
+    by_name = {key.name: key for key in keys}
 
     def fault(reason, name, said):
         line = lines.get((section, at, name)) or lines.get((section, at, None))
@@ -276,7 +276,7 @@ def numbered(counts):
 
 def faults_of_groups(root, lines):
     """What may not be together in a plan of groups: too many children, several queues of a child, a swap of what they share."""
-    children = numbered([number_at(it, "mq", 1) for it in tables_at(root, "station")])
+    children = numbered([number_at(table, "mq", 1) for table in tables_at(root, "station")])
     if sum(map(len, children)) > CHILDREN:
         yield Fault(RANGE, None, "the top, `station`", f"{sum(map(len, children))} children in all are more than {CHILDREN}")
     for at, table in enumerate(tables_at(root, "station")):
@@ -302,9 +302,9 @@ def faults_of_cards(root, lines):
             return Fault(RANGE, lines.get((where, number, name)), f"{where} {number}, `{name}`" if where else f"the top, `{name}`", said)
 
         if "rate_kbit" not in table:
-            yield from (fault(it.name, "it is of a card: it needs `rate_kbit` beside it") for it in CARD if it.name in table)
+            yield from (fault(key.name, "it is of a card: it needs `rate_kbit` beside it") for key in CARD if key.name in table)
             continue
-        yield from (fault(it, f"the card of station {at} opens the queue", "", 0) for it in ("irq_every", "irq_us") if it in root)
+        yield from (fault(name, f"the card of station {at} opens the queue", "", 0) for name in ("irq_every", "irq_us") if name in root)
         if number_at(table, "burst", 1) != 1:
             yield fault("burst", "beside `rate_kbit` it is 1: the device stops its queue at each packet, and the card opens it while there is room")
         for name in ("busy_every", "hang_after"):
@@ -312,7 +312,7 @@ def faults_of_cards(root, lines):
                 yield fault(name, "it is 0 beside `rate_kbit`")
         if number_at(table, "overhead", 24) + number_at(table, "mpu", 84) == 0:
             yield fault("mpu", "a frame without bytes takes no time: `overhead` or `mpu` is above 0")
-        yield from (fault("kind", f'no "swap" of a card\'s device, which station {at} has', "event", it) for it, event in enumerate(tables_at(root, "event")) if event.get("kind") == "swap")
+        yield from (fault("kind", f'no "swap" of a card\'s device, which station {at} has', "event", number) for number, event in enumerate(tables_at(root, "event")) if event.get("kind") == "swap")
 
 
 def faults_of_links(root, lines):
@@ -335,7 +335,7 @@ def excess_of(value, depth=0):
     if isinstance(value, (dict, list)):
         if depth > NESTED:
             return toml_text.TOO_DEEP
-        return next(filter(None, (excess_of(it, depth + 1) for it in (value.values() if isinstance(value, dict) else value))), None)
+        return next(filter(None, (excess_of(part, depth + 1) for part in (value.values() if isinstance(value, dict) else value))), None)
     return toml_text.TOO_LARGE if type(value) is int and not -(2**63) <= value < 2**63 else None
 
 
@@ -372,7 +372,7 @@ def judge(data):
         faults += faults_of_order(root, lines)
     if version > 4:
         faults += faults_of_links(root, lines)
-    return root, sorted(faults, key=lambda it: (it.reason, it.line or 0))
+    return root, sorted(faults, key=lambda fault: (fault.reason, fault.line or 0))
 
 
 # WHAT A PLAN SAYS
@@ -380,7 +380,7 @@ def judge(data):
 
 def record(name, keys):
     """What has a field for each key, with the key's default."""
-    return namedtuple(name, [it.name for it in keys], defaults=[it.default for it in keys])
+    return namedtuple(name, [key.name for key in keys], defaults=[key.default for key in keys])
 
 
 Event = record("Event", EVENT)
@@ -408,17 +408,17 @@ class Plan(record("Plan", ROOT)):
     @property
     def children(self):
         """The numbers of the children of each station."""
-        return numbered([it.mq for it in self.station])
+        return numbered([station.mq for station in self.station])
 
     @property
     def tables(self):
         """Each child's station."""
-        return [it for it in self.station for _ in range(it.mq)]
+        return [station for station in self.station for _ in range(station.mq)]
 
     @property
     def groups(self):
         """The stations that have several children, each with these."""
-        return [(at, it) for at, it in enumerate(self.children) if len(it) > 1]
+        return [(at, child) for at, child in enumerate(self.children) if len(child) > 1]
 
     @property
     def by_time(self):
@@ -433,18 +433,18 @@ class Plan(record("Plan", ROOT)):
     @property
     def units(self):
         """How many units it needs: one for each child, and one for each swap."""
-        return sum(it.mq for it in self.station) + sum(it.kind == "swap" for it in self.event)
+        return sum(station.mq for station in self.station) + sum(event.kind == "swap" for event in self.event)
 
 
 def plan_of(root):
     """The plan that a document is in which nothing is wrong."""
-    return Plan(**{**root, "station": [Station(**it) for it in root["station"]], "event": [Event(**it) for it in root.get("event", [])]})
+    return Plan(**{**root, "station": [Station(**station) for station in root["station"]], "event": [Event(**event) for event in root.get("event", [])]})
 
 
 def read(name, code=1):
     """The plan of a file; ends with a line, and this exit code, where it is none."""
-    with open(name, "rb") as it:
-        root, faults = judge(it.read())
+    with open(name, "rb") as file:
+        root, faults = judge(file.read())
     if faults:
         raise Failed(f"{name} is no plan: tools/check-plan {name} says why", code)
     return plan_of(root)
@@ -453,11 +453,11 @@ def read(name, code=1):
 def text_of(root):
     """The text of a document."""
 
-    def value(it):
-        return str(it).lower() if isinstance(it, bool) else json.dumps(it)
+    def value(given):
+        return str(given).lower() if isinstance(given, bool) else json.dumps(given)
 
-    lines = [f"{name} = {value(it)}" for name, it in root.items() if not isinstance(it, list)]
+    lines = [f"{name} = {value(given)}" for name, given in root.items() if not isinstance(given, list)]
     for name in ("station", "event"):
         for table in root.get(name, []):
-            lines += [f"[[{name}]]", *(f"{key} = {value(it)}" for key, it in table.items())]
+            lines += [f"[[{name}]]", *(f"{key} = {value(given)}" for key, given in table.items())]
     return "\n".join(lines) + "\n"

@@ -23,7 +23,7 @@ def program_for(tool, is_unproved):
     proved, unproved = sources.program(kept.PROVED), sources.program(kept.UNPROVED)
     if not is_unproved and kept.is_made(proved):
         return proved
-    if not is_unproved and not any(kept.is_made(sources.program(it)) for it in (kept.UNPROVED, kept.FOR_SMALL)):
+    if not is_unproved and not any(kept.is_made(sources.program(kind)) for kind in (kept.UNPROVED, kept.FOR_SMALL)):
         raise Failed("no program is built: --unproved compiles one without its proof, in a minute or two; `./lqtx run PLAN CAPTURE OUT` proves and builds one")
     if not kept.is_made(unproved):
         said = subprocess.run([TOP / "lqtx", "--unproved"], env=os.environ | {"LQTX_SHOW_PROGRAM": "1"}, stdout=subprocess.DEVNULL, stdin=subprocess.DEVNULL)

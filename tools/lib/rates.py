@@ -11,7 +11,7 @@ from lib.wire import bytes_of_wire, frame_lengths
 from lib.words import Failed, Wrong
 
 UNITS = {"bit": 1, "kbit": 10**3, "mbit": 10**6, "gbit": 10**9, "tbit": 10**12}
-MOST_KBIT = next(it.high for it in plans.CARD if it.name == "rate_kbit")
+MOST_KBIT = next(key.high for key in plans.CARD if key.name == "rate_kbit")
 # by driver what its source has, the file below drivers/net of Linux 6.1, and what is to be known of it
 BQL_TOO = "It has byte queue limits too, which Linux changes by itself and this plan leaves out. Where they bind first, `limit` of /sys/class/net/*/queues/tx-*/byte_queue_limits says how many bytes, for --bql"
 PRESETS = {
@@ -58,7 +58,7 @@ def keys_of(given, rate_kbit):
     if "ring" in asked and asked.get("bql"):
         raise Wrong("--ring and --bql: a card has one of the two limits, since with both Linux takes several packets at once")
     limit = {} if {"ring", "bql"} & set(asked) else {"ring": preset.get("ring", 1)}
-    keys = {"classify": given.classify, "len": 1000, "rate_kbit": rate_kbit, **limit, **{it: value for it, value in preset.items() if it != "ring"}, **asked}
+    keys = {"classify": given.classify, "len": 1000, "rate_kbit": rate_kbit, **limit, **{key: value for key, value in preset.items() if key != "ring"}, **asked}
     _, faults = plans.judge(plans.text_of(root_of(keys)).encode())
     if faults:
         raise Wrong(f"{faults[0].where.partition(', ')[2].replace('`', '')}: {faults[0].said}")
@@ -85,7 +85,7 @@ def seconds_of(number):
 
 def load_of(capture, card):
     """How long the wire needs for all packets of a capture, and within which time they come."""
-    times, octets = list(moments_of(capture)), sum(bytes_of_wire(card, it) for it in frame_lengths(capture))
+    times, octets = list(moments_of(capture)), sum(bytes_of_wire(card, length) for length in frame_lengths(capture))
     return Fraction(8 * octets, 1000 * card.rate_kbit), Fraction(max(times) - min(times), SECOND)
 
 
@@ -110,5 +110,5 @@ def sentences_of(given, keys, capture):
 
 
 def plan_text(given, keys, capture):
-    comments = (textwrap.fill(it, 110, initial_indent="# ", subsequent_indent="# ") for it in sentences_of(given, keys, capture))
+    comments = (textwrap.fill(sentence, 110, initial_indent="# ", subsequent_indent="# ") for sentence in sentences_of(given, keys, capture))
     return "\n".join(comments) + "\n" + plans.text_of(root_of(keys))

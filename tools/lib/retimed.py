@@ -11,10 +11,10 @@ RECORD = struct.Struct("<IIII")
 
 def records(of, flights, rate_kbit):
     data = of.capture.data
-    for it in flights:
-        seconds, part = divmod(it.ends // rate_kbit, SECOND)
-        at, captured = of.frames[it.number], of.captured[it.number]
-        yield RECORD.pack(seconds, part, captured, of.capture.lengths[it.number]) + data[at : at + captured]
+    for flight in flights:
+        seconds, part = divmod(flight.ends // rate_kbit, SECOND)
+        at, captured = of.frames[flight.number], of.captured[flight.number]
+        yield RECORD.pack(seconds, part, captured, of.capture.lengths[flight.number]) + data[at : at + captured]
 
 
 def write(file, run, unit):
@@ -30,6 +30,6 @@ def write(file, run, unit):
     if flights and flights[-1].ends // run.wire.card.rate_kbit >= SECOND << 32:
         raise Failed(f"{file} isn't written: it has no times after the year 2106")
     head = HEAD.pack(0xA1B23C4D, 2, 4, 0, 0, 2**18, min(links, default=1))
-    with outputs.writing(file, "wb") as it:
-        it.write(head)
-        it.writelines(records(of, flights, run.wire.card.rate_kbit))
+    with outputs.writing(file, "wb") as out:
+        out.write(head)
+        out.writelines(records(of, flights, run.wire.card.rate_kbit))

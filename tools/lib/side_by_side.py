@@ -18,15 +18,15 @@ def table(before, after):
     yield f"{'seconds of a processor':24}{'before':>8}{'after':>8}"
     for crate in sorted({*before, *after}):
         yield f"{crate:24}{before.get(crate, ''):>8}{after.get(crate, ''):>8}"
-    both = [it for it in before if it in after]
-    yield f"{f'{len(both)} crates of both':24}{sum(before[it] for it in both):>8}{sum(after[it] for it in both):>8}"
+    both = [crate for crate in before if crate in after]
+    yield f"{f'{len(both)} crates of both':24}{sum(before[crate] for crate in both):>8}{sum(after[crate] for crate in both):>8}"
     yield f"{'all':24}{sum(before.values()):>8}{sum(after.values()):>8}"
 
 
 def main(given):
-    if len(given) != 2 or any(it.startswith("-") for it in given):
+    if len(given) != 2 or any(word.startswith("-") for word in given):
         raise words.Wrong("usage: PYTHONPATH=tools python3 -m lib.side_by_side BEFORE AFTER")
-    print("\n".join(table(*(seconds_by_crate(pathlib.Path(it).read_text(encoding="utf-8", errors="replace")) for it in given))))
+    print("\n".join(table(*(seconds_by_crate(pathlib.Path(log).read_text(encoding="utf-8", errors="replace")) for log in given))))
 
 
 if __name__ == "__main__":

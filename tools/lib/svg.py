@@ -4,7 +4,7 @@ import html
 
 def escaped(words):
     """A text of whatever a file's name has: what can't be shown is no XML either."""
-    return html.escape("".join(it if it.isprintable() else "\ufffd" for it in str(words)))
+    return html.escape("".join(letter if letter.isprintable() else "\ufffd" for letter in str(words)))
 
 
 def text(x, y, words, anchor="start", more=""):

@@ -24,8 +24,8 @@ class Csv:
     start, row, between, end, none = ",".join(COLUMNS) + "\n", "%s\n", "", "", ""
 
     @staticmethod
-    def value(it):
-        return "" if it is None else str(it).lower() if isinstance(it, bool) else str(it)
+    def value(given):
+        return "" if given is None else str(given).lower() if isinstance(given, bool) else str(given)
 
     @staticmethod
     def template(names):
@@ -38,12 +38,12 @@ class Json:
     start, row, between, end, none = "[", "\n{%s}", ",", "\n]\n", "null"
 
     @staticmethod
-    def value(it):
-        return json.dumps(it)
+    def value(given):
+        return json.dumps(given)
 
     @staticmethod
     def template(names):
-        return ",".join(f'"{it}":%s' for it in names)
+        return ",".join(f'"{name}":%s' for name in names)
 
 
 class JsonLines(Json):
@@ -67,7 +67,7 @@ class Made(dict):
 
 def places_of(run):
     """Of each packet its sender, station, queue and band."""
-    return zip(*(repeat(None) if it is None else it for it in run.places()))
+    return zip(*(repeat(None) if place is None else place for place in run.places()))
 
 
 def part_of(form, names, values):
@@ -92,7 +92,7 @@ def waits_of(run, waits, form, digits):
     if not waits:
         yield from (unknown for _ in run.kinds)
         return
-    template, late, end = form.template(WAIT), [form.value(it) for it in (False, True)], waits.end
+    template, late, end = form.template(WAIT), [form.value(is_late) for is_late in (False, True)], waits.end
     for n, (left, opening) in enumerate(zip(waits.left, waits.trail.openings)):
         if left == 2 * n + 1 and not opening:
             yield at_once
@@ -114,10 +114,10 @@ def rows(run, waits, packets, flows, form, first):
 
 def write(file, form, lines):
     """The table of these rows."""
-    with outputs.writing(file, newline="") as it:
-        it.write(form.start)
+    with outputs.writing(file, newline="") as out:
+        out.write(form.start)
         between = ""
         for batch in iter(lambda: list(islice(lines, ROWS)), []):
-            it.write(between + form.between.join(batch))
+            out.write(between + form.between.join(batch))
             between = form.between
-        it.write(form.end)
+        out.write(form.end)

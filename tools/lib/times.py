@@ -41,7 +41,7 @@ def clock_of(block, order):
 
 def clocks_of(capture):
     """The clock of each interface of a pcapng capture."""
-    return [clock_of(it, capture.order) for it in capture.head[1:]]
+    return [clock_of(block, capture.order) for block in capture.head[1:]]
 
 
 def times_of(capture):
@@ -73,5 +73,5 @@ def moments_of(capture):
 def digits_of(capture):
     """How many digits of a second its times have, 6 or 9."""
     if capture.is_pcapng():
-        return 9 if any(10**6 % it.ticks for it in clocks_of(capture)) else 6
+        return 9 if any(10**6 % clock.ticks for clock in clocks_of(capture)) else 6
     return 9 if bytes(capture.data[:4]) in NANOSECONDS else 6

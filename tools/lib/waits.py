@@ -36,7 +36,7 @@ class Waits:
         self.run, self.trail, self.left, self.end = run, run.trail, run.trail.left, run.trail.end
         self.by_time, self.wire = run.plan.by_time, run.wire
         self.times, self.digits = run.placed.times if self.by_time else packets.times, 9 if self.wire else packets.digits
-        self.accepted = {it.number: it.accepted // self.wire.card.rate_kbit for it in self.wire.flights} if self.wire else {}
+        self.accepted = {flight.number: flight.accepted // self.wire.card.rate_kbit for flight in self.wire.flights} if self.wire else {}
         self.waiting_of, self.sent_of = {}, {}
         # the packets that didn't leave when they came, by station and band
         self.held = {(station, band): array("I") for station in range(len(run.tables)) for band in range(3)}
@@ -94,11 +94,11 @@ class Waits:
             found.append((2 * n + 1, 0, self.times[n], many))
             if self.wire or not self.is_late(n):
                 found.append((self.left[n], self.trail.openings[n], self.time_left(n), -many))
-        return [it[2:] for it in sorted(found)]
+        return [change[2:] for change in sorted(found)]
 
     def greatest(self, station, bands=(0, 1, 2), of_bytes=False):
         """The most packets of these bands that wait at once, or the most bytes."""
-        waiting = accumulate(it for _, it in self.changes(station, bands, of_bytes)) if self.by_time else self.waiting(station, bands)
+        waiting = accumulate(change for _, change in self.changes(station, bands, of_bytes)) if self.by_time else self.waiting(station, bands)
         return max(waiting, default=0)
 
     def of_sent(self, station, band):
@@ -115,4 +115,4 @@ class Waits:
         packets, times, zeros = sorted(map(self.packets, held)), list(map(self.time, held)), many - len(held)
         known = None not in times
         times = sorted(times) if known else []
-        return Waited(*(percentile(packets, it, zeros) for it in (50, 100)), *(percentile(times, it, zeros) if known else None for it in (50, 99, 100)))
+        return Waited(*(percentile(packets, number, zeros) for number in (50, 100)), *(percentile(times, number, zeros) if known else None for number in (50, 99, 100)))

@@ -19,8 +19,8 @@ IN_A_PART = 500000
 
 
 def head_of(name, size=4):
-    with open(name, "rb") as it:
-        return it.read(size)
+    with open(name, "rb") as file:
+        return file.read(size)
 
 
 def quoted(word):
@@ -35,10 +35,10 @@ def is_taken(name):
 def new_name(capture, ending):
     """A name in the caller's folder for what is made of a capture: its own with another ending."""
     base = os.path.basename(capture)
-    for it in ENDINGS:
-        base = base[: -len(it)] if base.endswith(it) else base
+    for known in ENDINGS:
+        base = base[: -len(known)] if base.endswith(known) else base
     base = f"./{base}" if base.startswith("-") else base or "capture"
-    return quoted(next(it for n in itertools.count(1) for it in [f"{base}-{n}{ending}" if n > 1 else base + ending] if not is_taken(it)))
+    return quoted(next(name for n in itertools.count(1) for name in [f"{base}-{n}{ending}" if n > 1 else base + ending] if not is_taken(name)))
 
 
 def link_types(data):
@@ -77,7 +77,7 @@ def whole(capture, why):
 
 
 def unpacked(capture):
-    tool = next((it for begins, it in PACKED.items() if head_of(capture).startswith(begins)), None)
+    tool = next((program for begins, program in PACKED.items() if head_of(capture).startswith(begins)), None)
     if tool:
         source = f" ({tool} is in Debian's {tool[:-3]})" if tool in ("zstdcat", "lz4cat") and not shutil.which(tool) else ""
         return f"it is compressed{source}: {tool} <{quoted(capture)} >{new_name(capture, '.pcap')}"

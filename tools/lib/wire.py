@@ -99,4 +99,4 @@ class Wire:
 
 def times_text(flights, rate_kbit):
     """The text of OUT.times."""
-    return "".join(f"{it.number} {it.accepted // rate_kbit} {it.ends // rate_kbit}\n" for it in flights)
+    return "".join(f"{flight.number} {flight.accepted // rate_kbit} {flight.ends // rate_kbit}\n" for flight in flights)

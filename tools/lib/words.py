@@ -47,14 +47,14 @@ def say(tool: str, line: object) -> None:
 
 def usage_of(about: str) -> str:
     """The lines of a tool's text that show how it is called, or else its first."""
-    shown = [it for it in about.splitlines() if it.startswith(("    tools/", "    lqtx-"))]
+    shown = [line for line in about.splitlines() if line.startswith(("    tools/", "    lqtx-"))]
     return "\n".join(shown) if shown else about.partition("\n")[0]
 
 
 def line_of(fault: OSError) -> str:
     """A fault of a file, as a line: its name, where it is known, and what the system says."""
     said = fault.strerror or str(fault)
-    names = [str(it) for it in (fault.filename, fault.filename2) if it is not None]
+    names = [str(name) for name in (fault.filename, fault.filename2) if name is not None]
     return ": ".join([*(names or ["standard output"]), said])
 
 
@@ -117,7 +117,7 @@ def without_force(given: List[str]) -> List[str]:
     global forced
     options = given[: given.index("--")] if "--" in given else given
     forced = "--force" in options
-    return [it for it in options if it != "--force"] + given[len(options) :]
+    return [option for option in options if option != "--force"] + given[len(options) :]
 
 
 def code_of(tool: str, about: str, main: Main, given: List[str]) -> int:
@@ -133,27 +133,27 @@ def code_of(tool: str, about: str, main: Main, given: List[str]) -> int:
             code = main(given)
         sys.stdout.flush()
         return code or 0
-    except Wrong as it:
-        if str(it):
-            say(tool, it)
+    except Wrong as fault:
+        if str(fault):
+            say(tool, fault)
         else:
             print(usage_of(about), file=sys.stderr)
         return 2
-    except Failed as it:
-        say(tool, it)
-        return it.code
+    except Failed as fault:
+        say(tool, fault)
+        return fault.code
     except BrokenPipeError:
         leave_output()
         return 128 + signal.SIGPIPE
-    except OSError as it:
-        say(tool, line_of(it))
+    except OSError as fault:
+        say(tool, line_of(fault))
         leave_output()
         return 1
-    except UnicodeError as it:
-        say(tool, f"a text isn't UTF-8: {it}")
+    except UnicodeError as fault:
+        say(tool, f"a text isn't UTF-8: {fault}")
         return 1
-    except (subprocess.CalledProcessError, subprocess.TimeoutExpired) as it:
-        say(tool, f"{it.cmd if isinstance(it.cmd, str) else ' '.join(map(str, it.cmd))}: {ending_of(it)}")
+    except (subprocess.CalledProcessError, subprocess.TimeoutExpired) as fault:
+        say(tool, f"{fault.cmd if isinstance(fault.cmd, str) else ' '.join(map(str, fault.cmd))}: {ending_of(fault)}")
         return 1
     except MemoryError:
         say(tool, "not enough memory")
@@ -170,7 +170,7 @@ def run(tool: str, about: str, main: Main) -> None:
         if INTERRUPTS:
             # nothing is left to be closed but by the interpreter's end
             signal.signal(signal.SIGINT, signal.SIG_DFL)
-    except KeyboardInterrupt as it:
+    except KeyboardInterrupt as interrupt:
         # a tool that catches other signals says which
-        end_by(it.args[0] if it.args else signal.SIGINT)
+        end_by(interrupt.args[0] if interrupt.args else signal.SIGINT)
     sys.exit(code)

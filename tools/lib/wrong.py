@@ -45,7 +45,7 @@ class Edit:
 
     @property
     def targets(self):
-        return [self.by] if self.by else [it.path for it in self.functions]
+        return [self.by] if self.by else [function.path for function in self.functions]
 
 
 class Tried(NamedTuple):
@@ -71,7 +71,7 @@ def modules_of(crate):
     """The files of a crate's code, each with its module."""
     root = TOP / "crates" / crate / "src"
     for path in sorted(root.rglob("*.rt")):
-        yield path, [it for it in path.relative_to(root).with_suffix("").parts if it not in ("lib", "main", "mod")]
+        yield path, [name for name in path.relative_to(root).with_suffix("").parts if name not in ("lib", "main", "mod")]
 
 
 def functions_of(crate):
@@ -100,7 +100,7 @@ def span_of(lines, at, indent):
             return body, body
         opens = lines[body] == f"{indent}{{" or lines[body].rstrip().endswith("{") and not lines[body].startswith(f"{indent}    ")
         if opens:
-            return body, next(it for it in range(body, len(lines)) if lines[it] == f"{indent}}}")
+            return body, next(end for end in range(body, len(lines)) if lines[end] == f"{indent}}}")
         if lines[body].rstrip().endswith(";"):
             return None
     return None
@@ -142,10 +142,10 @@ def bodies_changed(edit, functions):
         if old.startswith(("use ", "ghost use ")):
             # what a body needs besides
             continue
-        here = [it for it in functions if it.file == file and it.first <= line <= it.last and (it.body <= line or it.body == it.last)]
+        here = [function for function in functions if function.file == file and function.first <= line <= function.last and (function.body <= line or function.body == function.last)]
         if text.count(old) != 1 or not here:
             return []
-        found.append(max(here, key=lambda it: it.first))
+        found.append(max(here, key=lambda function: function.first))
     return list(dict.fromkeys(found))
 
 
@@ -159,19 +159,19 @@ def text_of(function, crate):
 
 def calls_of(edit, names):
     """The functions that the bodies of an edit call, before it or after it, by name."""
-    whole = "\n".join([*(text_of(it, edit.crate) for it in edit.functions), *(new for _, _, new in edit.pairs)])
+    whole = "\n".join([*(text_of(function, edit.crate) for function in edit.functions), *(new for _, _, new in edit.pairs)])
     return {name for name in names if re.search(rf"\b{name}\b", whole)}
 
 
 def rounds_of(edits, functions):
     """Edits that can be tried together: of different functions, of which none calls another."""
-    names = {it.path.rpartition("::")[2] for it in functions}
-    calls = {id(it): calls_of(it, names) for it in edits}
-    own = {id(it): {path.rpartition("::")[2] for path in it.targets} for it in edits}
+    names = {function.path.rpartition("::")[2] for function in functions}
+    calls = {id(edit): calls_of(edit, names) for edit in edits}
+    own = {id(edit): {path.rpartition("::")[2] for path in edit.targets} for edit in edits}
     rounds = []
     for edit in edits:
         for there in rounds:
-            if not any(own[id(edit)] & (own[id(it)] | calls[id(it)]) or own[id(it)] & calls[id(edit)] for it in there):
+            if not any(own[id(edit)] & (own[id(other)] | calls[id(other)]) or own[id(other)] & calls[id(edit)] for other in there):
                 there.append(edit)
                 break
         else:
@@ -190,23 +190,23 @@ def words_of_check(crate):
     uses, folder = uses_of_crates(), kit()
     root = "src/main.rt" if (TOP / "crates" / crate / "src/main.rt").is_file() else "src/lib.rt"
     found = [str(folder / "bin/rattle"), "check", "--crate-name", crate, root, "-L", f"dependency={folder}/rlibs"]
-    for it in ["std", *uses[crate]]:
-        found += ["--extern", f"{it}={folder_of_library(it) if it in uses else folder / 'rlibs'}/{it}.rlib"]
-    for it in in_order(uses, crate)[:-1]:
-        found += ["-L", f"dependency={folder_of_library(it)}"]
+    for used in ["std", *uses[crate]]:
+        found += ["--extern", f"{used}={folder_of_library(used) if used in uses else folder / 'rlibs'}/{used}.rlib"]
+    for low in in_order(uses, crate)[:-1]:
+        found += ["-L", f"dependency={folder_of_library(low)}"]
     found += ["--antt-project", f"{folder}/rattle/logic/antt-project.json", "--logic-built", f"{folder}/logic_built", "--jobs", "1"]
     return [*found, "--links", f"{crate}="]
 
 
 def make_holes(room, crate, functions):
     """A hole in the place of the proof of each of these functions, but where another proof file cites a lemma beside it."""
-    for it in functions:
-        folder = room / "proofs" / it.path.replace("::", "/")
-        place = f"Rattle.{crate}.proofs.{it.path.replace('::', '.')}"
+    for function in functions:
+        folder = room / "proofs" / function.path.replace("::", "/")
+        place = f"Rattle.{crate}.proofs.{function.path.replace('::', '.')}"
         for old in folder.glob("*.antt"):
             old.unlink()
         folder.mkdir(parents=True, exist_ok=True)
-        name = it.path.rpartition("::")[2]
+        name = function.path.rpartition("::")[2]
         text = f"use {place}.Statement.{{statement}}\n\npub {name}_spec : {{M : Type 1}} → statement M\n{name}_spec = ?\n"
         (folder / "Proof.antt").write_text(text, encoding="utf-8")
 
@@ -223,7 +223,7 @@ def check(crate, edits, targets, holes):
                 text = (room / file).read_text(encoding="utf-8")
                 (room / file).write_text(text.replace(old, new), encoding="utf-8")
         make_holes(room, crate, holes)
-        only = [word for it in targets for word in ("--only", it)]
+        only = [word for target in targets for word in ("--only", target)]
         how = {"cwd": room, "stdin": subprocess.DEVNULL, "stdout": subprocess.PIPE, "stderr": subprocess.STDOUT, "text": True, "errors": "replace"}
         return subprocess.run([*words_of_check(crate), *["--allow-holes"] * bool(only), *only], **how).stdout
 
@@ -261,36 +261,36 @@ def judged(edit, said):
 
 def holes_for(edits, functions):
     """The functions that edited bodies call: they have holes for their proofs."""
-    names = {it.path.rpartition("::")[2] for it in functions}
-    called = set().union(*(calls_of(it, names) for it in edits))
-    targets = {path for it in edits for path in it.targets}
-    return [it for it in functions if it.path.rpartition("::")[2] in called and it.path not in targets]
+    names = {function.path.rpartition("::")[2] for function in functions}
+    called = set().union(*(calls_of(edit, names) for edit in edits))
+    targets = {path for edit in edits for path in edit.targets}
+    return [function for function in functions if function.path.rpartition("::")[2] in called and function.path not in targets]
 
 
 def control(crate, edits, functions):
     """A check without an edit: the functions that may have holes, and those of the edited ones that it doesn't prove as they stand."""
-    paths = {it.path for it in functions}
+    paths = {function.path for function in functions}
     # a function that an edit adds isn't there without it
-    targets = list(dict.fromkeys(path for it in edits for path in it.targets if path in paths))
+    targets = list(dict.fromkeys(path for edit in edits for path in edit.targets if path in paths))
     said = check(crate, [], targets, holes_for(edits, functions))
     # an impl for a type with arguments has another name
-    unknown = {it.replace("/", "::") for it in re.findall(r"^\./proofs/(\S+)/Proof\.antt: error: ", said, re.M)}
+    unknown = {name.replace("/", "::") for name in re.findall(r"^\./proofs/(\S+)/Proof\.antt: error: ", said, re.M)}
     if unknown:
-        functions = [it for it in functions if it.path not in unknown]
+        functions = [function for function in functions if function.path not in unknown]
         said = check(crate, [], targets, holes_for(edits, functions))
-    return functions, {it for it in targets if not lines_of(it, said, crate)[0].startswith(("no holes", "depends on a hole", "proved"))}
+    return functions, {target for target in targets if not lines_of(target, said, crate)[0].startswith(("no holes", "depends on a hole", "proved"))}
 
 
 def tried(crate, edits):
     """What comes of each edit of a crate."""
     functions = functions_of(crate)
-    together = [it for it in edits if it.targets]
+    together = [edit for edit in edits if edit.targets]
     functions, broken = control(crate, together, functions) if together else (functions, set())
-    together = [it for it in together if not broken & set(it.targets)]
-    left = [it for it in edits if it not in together]
-    alone = [[it] for it in together if it.by]
-    for there in [*alone, *rounds_of([it for it in together if not it.by], functions)]:
-        said = check(crate, there, [path for it in there for path in it.targets], holes_for(there, functions))
+    together = [edit for edit in together if not broken & set(edit.targets)]
+    left = [edit for edit in edits if edit not in together]
+    alone = [[edit] for edit in together if edit.by]
+    for there in [*alone, *rounds_of([edit for edit in together if not edit.by], functions)]:
+        said = check(crate, there, [path for edit in there for path in edit.targets], holes_for(there, functions))
         for edit in there:
             came = judged(edit, said)
             if came:
@@ -304,8 +304,8 @@ def tried(crate, edits):
 def by_itself(edit):
     """An edit tried with its whole crate."""
     said = check(edit.crate, [edit], [], [])
-    notes = [it for it in said.splitlines() if re.match(r"(note: )?(\./)?\S+:\d+:\d+: ", it) and (": error" in it or it.startswith("note: "))]
-    told = next((it for it in notes if not NAMES_ALONE.match(it)), None)
+    notes = [line for line in said.splitlines() if re.match(r"(note: )?(\./)?\S+:\d+:\d+: ", line) and (": error" in line or line.startswith("note: "))]
+    told = next((note for note in notes if not NAMES_ALONE.match(note)), None)
     if "\nlogic=not-proved" in said and notes:
         return Tried(edit, True, f"refused: {(told or 'only names of a proof file: ' + notes[0])[:200]}")
     last = said.rstrip().splitlines()[-1:]
@@ -316,20 +316,20 @@ def by_itself(edit):
 
 
 def crates_with_edits():
-    return sorted({it.parent.parent.name for folder in (GATE, BESIDE) for it in TOP.glob(f"crates/*/{folder}/*.edit")})
+    return sorted({path.parent.parent.name for folder in (GATE, BESIDE) for path in TOP.glob(f"crates/*/{folder}/*.edit")})
 
 
 def is_fresh(crate):
     """Whether a crate's library is there and later than what it was built from: `rt ci` and `rt lib` leave it."""
     made = folder_of_library(crate) / f"{crate}.rlib/format"
-    files = [it for below in in_order(uses_of_crates(), crate) for part in PARTS for it in (TOP / "crates" / below / part).rglob("*.*t*")]
-    return made.is_file() and all(it.stat().st_mtime <= made.stat().st_mtime for it in files)
+    files = [path for below in in_order(uses_of_crates(), crate) for part in PARTS for path in (TOP / "crates" / below / part).rglob("*.*t*")]
+    return made.is_file() and all(file.stat().st_mtime <= made.stat().st_mtime for file in files)
 
 
 def build_below(crates):
     """Builds the libraries below these crates that aren't there, or are older than their files."""
     uses = uses_of_crates()
-    for crate in dict.fromkeys(it for crate in crates for it in in_order(uses, crate)[:-1]):
+    for crate in dict.fromkeys(low for crate in crates for low in in_order(uses, crate)[:-1]):
         if not is_fresh(crate):
             subprocess.run(["rt", "lib"], cwd=TOP / "crates" / crate, stdin=subprocess.DEVNULL, check=True)
 
@@ -337,21 +337,21 @@ def build_below(crates):
 def contracts_of(crate):
     """The sources of a crate without the bodies of its functions."""
     bodies: Dict[str, List[Function]] = {}
-    for it in functions_of(crate):
-        bodies.setdefault(it.file, []).append(it)
+    for function in functions_of(crate):
+        bodies.setdefault(function.file, []).append(function)
     for path, _ in modules_of(crate):
-        inside = {line for it in bodies.get(str(path.relative_to(TOP / "crates" / crate)), []) for line in range(it.body, it.last + 1)}
+        inside = {line for function in bodies.get(str(path.relative_to(TOP / "crates" / crate)), []) for line in range(function.body, function.last + 1)}
         yield "\n".join(line for at, line in enumerate(path.read_text(encoding="utf-8").splitlines()) if at not in inside)
 
 
 def sum_of(crate):
     """The checksum that a note has: of the crate, of the contracts and definitions below it, of its edits, and of the kit."""
     whole = hashlib.sha256((kit() / "KIT-ID").read_bytes())
-    files = [it for part in (*PARTS, BESIDE) for it in (TOP / "crates" / crate / part).rglob("*") if it.suffix in (".rt", ".antt", ".edit")]
+    files = [path for part in (*PARTS, BESIDE) for path in (TOP / "crates" / crate / part).rglob("*") if path.suffix in (".rt", ".antt", ".edit")]
     below = in_order(uses_of_crates(), crate)[:-1]
-    files += [it for low in below for it in (TOP / "crates" / low / "specs").rglob("*.antt")]
-    for it in sorted(files):
-        whole.update(f"{it.relative_to(TOP)}\n".encode() + it.read_bytes())
+    files += [path for low in below for path in (TOP / "crates" / low / "specs").rglob("*.antt")]
+    for file in sorted(files):
+        whole.update(f"{file.relative_to(TOP)}\n".encode() + file.read_bytes())
     for text in [text for low in below for text in contracts_of(low)]:
         whole.update(text.encode())
     return whole.hexdigest()

@@ -18,15 +18,15 @@ class Browser:
     def __init__(self, path: str, room: pathlib.Path) -> None:
         # Chromium reads from 3 and writes to 4; ours are moved out of their way
         ends = os.pipe() + os.pipe()
-        commands, self.out, self.answers, said = (fcntl.fcntl(it, fcntl.F_DUPFD_CLOEXEC, 10) for it in ends)
+        commands, self.out, self.answers, said = (fcntl.fcntl(end, fcntl.F_DUPFD_CLOEXEC, 10) for end in ends)
         self.process = subprocess.Popen([path, *OPTIONS, f"--user-data-dir={room}/profile", "about:blank"], pass_fds=(3, 4), stdout=subprocess.DEVNULL,
                                         stderr=subprocess.DEVNULL, preexec_fn=lambda: (os.dup2(commands, 3), os.dup2(said, 4)))
-        for it in (*ends, commands, said):
-            os.close(it)
+        for end in (*ends, commands, said):
+            os.close(end)
         self.number, self.read, self.session = 0, b"", ""
 
     def attach(self) -> None:
-        target = next((it for it in self.call("Target.getTargets").get("targetInfos", ()) if it["type"] == "page"), None)
+        target = next((page for page in self.call("Target.getTargets").get("targetInfos", ()) if page["type"] == "page"), None)
         if not target:
             raise EOFError("Chromium has no page")
         self.session = self.call("Target.attachToTarget", targetId=target["targetId"], flatten=True)["sessionId"]

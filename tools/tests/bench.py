@@ -1,4 +1,4 @@
-"""What the cases of tools/test-tools share: how a tool is run, what is expected of it, and the files that it is given."""
+"""What the cases of tools/test-tools and tools/test-wrapper share: how they are run, what is expected of a tool, and the files that it is given."""
 import importlib.machinery
 import importlib.util
 import pathlib
@@ -12,6 +12,7 @@ import xml.etree.ElementTree
 from lib import captures, plans
 from lib.alone import Run
 from lib.places import Places
+from lib.words import Wrong
 
 HERE = pathlib.Path(__file__).resolve().parent.parent
 TOP = HERE.parent
@@ -30,9 +31,42 @@ def fault(text):
     print(f"tools: {text}")
 
 
+def main(what, folder, wanted):
+    """Runs the cases of a folder, each file of which has those of one topic, or the cases whose names have one of these words; whether any failed."""
+    for module in sorted(folder.glob("*.py")):
+        importlib.import_module(".".join(module.relative_to(HERE).with_suffix("").parts))
+    cases = [function for function in CASES if not wanted or any(word in function.__name__ for word in wanted)]
+    if not cases or any(word.startswith("-") for word in wanted):
+        raise Wrong("no case has such a name: " + " ".join(wanted))
+    try:
+        for function in cases:
+            function()
+    finally:
+        shutil.rmtree(ROOM, ignore_errors=True)
+    print(f"{what}: {len(FAULTS)} faults" if FAULTS else f"{what}: all {len(cases)} cases pass")
+    return bool(FAULTS)
+
+
+def write(path, text):
+    """Writes a file, of a text or of bytes, in a folder that may be new; a script can be run."""
+    path.parent.mkdir(parents=True, exist_ok=True)
+    path.write_bytes(text if isinstance(text, bytes) else text.encode())
+    if text[:2] in ("#!", b"#!"):
+        path.chmod(0o755)
+
+
+def room_of(name, files=()):
+    """A folder of a case, with these files."""
+    room = ROOM / name
+    room.mkdir(parents=True, exist_ok=True)
+    for path, text in dict(files).items():
+        write(room / path, text)
+    return room
+
+
 def run(*words, cwd=None, env=None):
     """A tool's exit code, and what it wrote to standard output and to standard error."""
-    said = subprocess.run([str(it) for it in words], cwd=cwd, env=env, capture_output=True, text=True, timeout=300)
+    said = subprocess.run([str(word) for word in words], cwd=cwd, env=env, capture_output=True, text=True, timeout=300)
     return said.returncode, said.stdout, said.stderr
 
 
@@ -80,8 +114,7 @@ def repository(name, files):
             shutil.copy(tool, top / "tools" / tool.name)
     shutil.copytree(HERE / "lib", top / "tools/lib")
     for path, text in files.items():
-        (top / path).parent.mkdir(parents=True, exist_ok=True)
-        (top / path).write_text(text, encoding="utf-8")
+        write(top / path, text)
     return top
 
 
@@ -104,8 +137,8 @@ def expect_picture(name, file, *parts):
     text = file.read_text(encoding="utf-8")
     try:
         xml.etree.ElementTree.fromstring(text)
-    except xml.etree.ElementTree.ParseError as it:
-        fault(f"{name}: the picture is no XML: {it}")
+    except xml.etree.ElementTree.ParseError as wrong:
+        fault(f"{name}: the picture is no XML: {wrong}")
     for part in parts:
         if part not in text:
             fault(f"{name}: the picture lacks {part!r}")

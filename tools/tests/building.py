@@ -39,7 +39,7 @@ def first_build():
     said = run(top / "tools/first-build", "--beside", "no-such-commit", room, env=os.environ | {"PATH": f"{room}:{os.environ['PATH']}"})
     expect("first-build, no such commit", said, 1, "no-such-commit")
     expect("first-build, no commit", run(top / "tools/first-build", "--beside"), 2, "tools/first-build --beside COMMIT")
-    if sorted(it.name for it in room.iterdir()) != ["rt"]:
+    if sorted(path.name for path in room.iterdir()) != ["rt"]:
         fault("first-build leaves files behind")
     if not shutil.which("rt", path="/usr/bin:/bin"):
         expect("first-build, no rt", run(top / "tools/first-build", room, env=os.environ | {"PATH": "/usr/bin:/bin"}), 1, "there is no 'rt' on the PATH")
@@ -50,23 +50,23 @@ def packed_libraries():
     """Equal interfaces are one file, others aren't; a packed library comes back as it was, and counts where a part of its folder is there too."""
     room, texts = ROOM / "libraries", {"low": "a", "high": "a", "other": "b"}
     packed.FILES = packed.FOLDERS = room
-    libraries = [room / f"{it}.rlib" for it in texts]
+    libraries = [room / f"{text}.rlib" for text in texts]
     for library, text in zip(libraries, texts.values()):
         file = library / "below/std/interface/toolchain/mir.json"
         file.parent.mkdir(parents=True)
         file.write_text(text, encoding="utf-8")
         packed.share(library, libraries)
-    is_equal("equal interfaces", sorted(it.stat().st_nlink for it in room.rglob("mir.json")), [1, 2, 2])
+    is_equal("equal interfaces", sorted(path.stat().st_nlink for path in room.rglob("mir.json")), [1, 2, 2])
     packed.pack(libraries)
-    is_equal("packed libraries", sorted(it.name for it in room.iterdir()), ["high.packed", "low.packed", "other.packed"])
+    is_equal("packed libraries", sorted(path.name for path in room.iterdir()), ["high.packed", "low.packed", "other.packed"])
     (libraries[0] / "part").mkdir(parents=True)
     packed.unpack(libraries)
-    is_equal("unpacked libraries", {it.parts[-6]: it.read_text(encoding="utf-8") for it in room.rglob("*.json")}, {it.name: text for it, text in zip(libraries, texts.values())})
-    is_equal("equal interfaces, unpacked", sorted(it.stat().st_nlink for it in room.rglob("mir.json")), [1, 2, 2])
+    is_equal("unpacked libraries", {path.parts[-6]: path.read_text(encoding="utf-8") for path in room.rglob("*.json")}, {library.name: text for library, text in zip(libraries, texts.values())})
+    is_equal("equal interfaces, unpacked", sorted(path.stat().st_nlink for path in room.rglob("mir.json")), [1, 2, 2])
     is_equal("what a packing left in part", [*room.rglob("part"), *room.glob("*.packed")], [])
     packed.pack(libraries)
     packed.forget(libraries[0])
-    is_equal("libraries that are there", [packed.is_there(it) for it in libraries], [False, True, True])
+    is_equal("libraries that are there", [packed.is_there(library) for library in libraries], [False, True, True])
 
 
 # a stand-in for the gate: provers of two crates, with tests and edits, that take some processor time

@@ -1,4 +1,3 @@
-#!/usr/bin/env python3
 """A stand-in for the program, where it isn't built: `run` with one sender, `gen`, `trace`, and `tap` through a ring with room for all.
 
 It goes by the tools' own restatement of the rules, which `tools/compare PROGRAM` compares with the program. Nothing of it is proved.
@@ -8,13 +7,11 @@ import pathlib
 import struct
 import sys
 
-sys.dont_write_bytecode = True
-sys.path.insert(0, str(pathlib.Path(__file__).resolve().parent.parent))
-from lib import captures, machine, plans  # noqa: E402
-from lib.alone import Run  # noqa: E402
-from lib.places import Places  # noqa: E402
-from lib.trail import KINDS, SENT, joint_lists, sent_by_units  # noqa: E402
-from lib.wire import times_text  # noqa: E402
+from lib import captures, machine, plans
+from lib.alone import Run
+from lib.places import Places
+from lib.trail import KINDS, SENT, joint_lists, sent_by_units
+from lib.wire import times_text
 
 GENERATED_PLAN = plans.plan_of({"irq_every": 64, "station": [{"len": 32, "burst": 48}]})
 
@@ -24,12 +21,12 @@ def counts_of(plan, stations, trail):
     units = collections.Counter(unit for kind, unit in zip(trail.kinds, trail.names) if kind == SENT)
     kinds = collections.Counter((station, KINDS[kind]) for station, kind in zip(stations, trail.kinds))
     drops = KINDS[1:]
-    lines = [f"unit {it} sent {units[it]}" for it in range(plan.units)]
-    lines += [f"station {it} " + " ".join(f"{drop} {kinds[it, drop]}" for drop in drops) for it in range(len(plan.tables))]
-    every = " ".join(f"{drop} {sum(kinds[it, drop] for it in range(plans.CHILDREN))}" for drop in drops)
+    lines = [f"unit {unit} sent {units[unit]}" for unit in range(plan.units)]
+    lines += [f"station {station} " + " ".join(f"{drop} {kinds[station, drop]}" for drop in drops) for station in range(len(plan.tables))]
+    every = " ".join(f"{drop} {sum(kinds[station, drop] for station in range(plans.CHILDREN))}" for drop in drops)
     lines.append(f"total {len(trail.kinds)} sent {sum(units.values())} {every}")
-    lines += [f"mq {at} queues {len(children)} sent {sum(units[it] for it in children)}" for at, children in plan.groups]
-    return "".join(f"{it}\n" for it in lines)
+    lines += [f"mq {at} queues {len(children)} sent {sum(units[child] for child in children)}" for at, children in plan.groups]
+    return "".join(f"{line}\n" for line in lines)
 
 
 def run_of(plan, capture):

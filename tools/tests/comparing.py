@@ -33,7 +33,7 @@ def compare_tree():
         stand_in.write_text(STAND_IN.format(**{"called": called, "cut": 0, "finds": 1, "order": ORDER} | row), encoding="utf-8")
         stand_in.chmod(0o755)
         with contextlib.redirect_stdout(io.StringIO()) as told:
-            ended = compare.main([str(HERE / "tests/by_the_rules.py"), "0", "--tree", str(room / "tree")])
+            ended = compare.main([str(HERE / "tests/by-the-rules"), "0", "--tree", str(room / "tree")])
         expect(f"compare --tree, {row}", (int(ended), told.getvalue(), ""), code, said)
     is_equal("the tree that compare names", set(called.read_text(encoding="utf-8").split()), {str(room / "tree")})
     expect("inside-calls of no tree", run(TOP / "tools/inside-calls", room / "none"), 3, "none is no folder")

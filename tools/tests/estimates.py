@@ -11,7 +11,7 @@ from tests.bench import HERE, ROOM, case, fault, is_equal, load, run
 def two_crates():
     """Two processors check `low`, 60 s by one, in 36 s: 72 s of a processor. Then one checks `high` in 30 s, while the other is idle."""
     def starts(ended, under_way):
-        return [it for it in ("low", "high") if it not in ended and it not in under_way and (it == "low" or "low" in ended)]
+        return [name for name in ("low", "high") if name not in ended and name not in under_way and (name == "low" or "low" in ended)]
 
     return estimate.simulate({"low": 60, "high": 30}, {"low"}, 2, starts)
 
@@ -19,25 +19,25 @@ def two_crates():
 @case
 def estimates():
     plan = two_crates()
-    is_equal("the plan's ends", {it: round(at, 3) for it, at in plan.ends.items()}, {"low": 36, "high": 66})
-    is_equal("the plan's processor time", [round(it, 3) for it in plan.work], [0, 72, 102])
+    is_equal("the plan's ends", {crate: round(at, 3) for crate, at in plan.ends.items()}, {"low": 36, "high": 66})
+    is_equal("the plan's processor time", [round(seconds, 3) for seconds in plan.work], [0, 72, 102])
     is_equal("half of it", round(plan.time_of(36), 3), 18)
     is_equal("more than all of it", round(plan.time_of(1000), 3), 66)
-    it = estimate.Estimate(plan)
-    is_equal("before a crate has ended", it.in_all(10), "1 to 3 min by machine")
-    it.under_way({"low": 100})
-    is_equal("the same with a crate under way", it.in_all(10), "1 to 3 min by machine")
-    is_equal("no crate has ended when all were to", it.in_all(100), "about 3 min in all, 1 on idle processors")
-    it.ended("low", 144)
+    known = estimate.Estimate(plan)
+    is_equal("before a crate has ended", known.in_all(10), "1 to 3 min by machine")
+    known.under_way({"low": 100})
+    is_equal("the same with a crate under way", known.in_all(10), "1 to 3 min by machine")
+    is_equal("no crate has ended when all were to", known.in_all(100), "about 3 min in all, 1 on idle processors")
+    known.ended("low", 144)
     # 2.55 s of a processor are taken as known beforehand, at 1.3 times: (144 + 3.3) / (72 + 2.55). Of the pace 5.28 planned seconds: (72 + 10.4) / (36 + 5.28)
-    is_equal("twice as slow", (round(it.slower(), 2), round(it.whole(72)), it.in_all(72)), (1.98, 132, "about 2 min in all"))
-    is_equal("it is said", it.on_this_machine(72), "this machine takes 2.0 times the processor time of the one that these minutes are of: 2 to 3 min in all")
-    is_equal("a third of the processors is at other work", (round(it.whole(108)), it.in_all(108)), (189, "about 3 min in all, 2 on idle processors"))
-    it.under_way({"high": 30})
+    is_equal("twice as slow", (round(known.slower(), 2), round(known.whole(72)), known.in_all(72)), (1.98, 132, "about 2 min in all"))
+    is_equal("it is said", known.on_this_machine(72), "this machine takes 2.0 times the processor time of the one that these minutes are of: 2 to 3 min in all")
+    is_equal("a third of the processors is at other work", (round(known.whole(108)), known.in_all(108)), (189, "about 3 min in all, 2 on idle processors"))
+    known.under_way({"high": 30})
     # 72 and 15.2 planned seconds are done: second 51.2 of 66
-    is_equal("half of the last crate", round(it.whole(102)), 131)
-    it.under_way({"high": 1000})
-    is_equal("a crate that takes longer than planned", round(it.whole(500)), 500)
+    is_equal("half of the last crate", round(known.whole(102)), 131)
+    known.under_way({"high": 1000})
+    is_equal("a crate that takes longer than planned", round(known.whole(500)), 500)
 
 
 @case
@@ -48,10 +48,10 @@ def several_processes():
     """
     build = load("build")
     build.SHARES, build.Kit = {"low": 10, "middle": 60, "high": 30, "lqtx": 5}, type("Kit", (), {"__init__": lambda *_: None, "has": lambda *_: False})
-    it = build.Build({"low": [], "middle": ["low"], "high": ["middle"], "lqtx": ["high"]}, 2)
-    is_equal("crates with several processes", it.several, {"middle", "high"})
-    is_equal("the first crate", it.rank("low"), (build.NEAR_ONE, 1))
-    is_equal("the second", it.rank("middle"), (build.NEAR_ONE, 2))
+    work = build.Build({"low": [], "middle": ["low"], "high": ["middle"], "lqtx": ["high"]}, 2)
+    is_equal("crates with several processes", work.several, {"middle", "high"})
+    is_equal("the first crate", work.rank("low"), (build.NEAR_ONE, 1))
+    is_equal("the second", work.rank("middle"), (build.NEAR_ONE, 2))
 
 
 # a first build of this program: when each crate began and ended, on four processors that had nothing else to do for four minutes, and then up to
@@ -71,24 +71,24 @@ def estimate_of(build, crates):
     """The estimate of a build of these crates alone: others of the program came later."""
     build.Kit = type("Kit", (), {"__init__": lambda *_: None, "has": lambda *_: False})
     uses = build.crates_of_program()
-    return build.Build({crate: [it for it in uses[crate] if it in crates or it not in uses] for crate in uses if crate in crates}, 4).estimate
+    return build.Build({crate: [low for low in uses[crate] if low in crates or low not in uses] for crate in uses if crate in crates}, 4).estimate
 
 
 @case
 def estimate_of_a_first_build():
     """From the first minute on it is right within a third for a machine that stays as it is, and soon after other work came."""
-    it = estimate_of(load("build"), ONCE)
+    known = estimate_of(load("build"), ONCE)
     ends = {crate: end for crate, (_, end) in ONCE.items()}
-    took, slower = max(ends.values()), 52 * 60 / sum(it.plan.seconds.values())
-    planned = {crate: slower * it.plan.seconds.get(crate, 5) for crate in ONCE}
+    took, slower = max(ends.values()), 52 * 60 / sum(known.plan.seconds.values())
+    planned = {crate: slower * known.plan.seconds.get(crate, 5) for crate in ONCE}
     for now in range(60, took, 30):
         for crate, end in ends.items():
-            if end <= now and crate not in it.used:
-                it.ended(crate, planned[crate])
-        it.under_way({crate: planned[crate] * (now - began) / (ends[crate] - began) for crate, (began, _) in ONCE.items() if began < now < ends[crate]})
+            if end <= now and crate not in known.used:
+                known.ended(crate, planned[crate])
+        known.under_way({crate: planned[crate] * (now - began) / (ends[crate] - began) for crate, (began, _) in ONCE.items() if began < now < ends[crate]})
         true = QUIET if now <= 240 else took if now >= 570 else None
-        if true and abs(it.whole(now) / true - 1) > 1 / 3:
-            fault(f"the estimate at {now} s: {it.whole(now):.0f} s, where it took {true} s")
+        if true and abs(known.whole(now) / true - 1) > 1 / 3:
+            fault(f"the estimate at {now} s: {known.whole(now):.0f} s, where it took {true} s")
 
 
 # another: when each crate began and ended, and its processor time, on four processors of half the speed with nothing else to do but the unproved build
@@ -108,15 +108,15 @@ def estimate_of_a_slow_first_build():
     """From the first minute on it is right within a third, though the first crates are small and the unproved build has a processor meanwhile."""
     build = load("build")
     build.SHARES["lq_model"] = 42  # which it took then
-    it = estimate_of(build, SLOW)
+    known = estimate_of(build, SLOW)
     took = max(end for _, end, _ in SLOW.values())
     for now in range(60, took, 20):
         for crate, (_, end, used) in SLOW.items():
-            if end <= now and crate not in it.used:
-                it.ended(crate, used)
-        it.under_way({crate: used * (now - began) / (end - began) for crate, (began, end, used) in SLOW.items() if began < now < end})
-        if abs(it.whole(now) / took - 1) > 1 / 3:
-            fault(f"the estimate at {now} s: {it.whole(now):.0f} s, where it took {took} s")
+            if end <= now and crate not in known.used:
+                known.ended(crate, used)
+        known.under_way({crate: used * (now - began) / (end - began) for crate, (began, end, used) in SLOW.items() if began < now < end})
+        if abs(known.whole(now) / took - 1) > 1 / 3:
+            fault(f"the estimate at {now} s: {known.whole(now):.0f} s, where it took {took} s")
 
 
 @case
@@ -126,7 +126,7 @@ def said_beside_took():
     lines += ["proved low by 14 s of a processor, 1 of 2 crates, 0 min 14 s so far, about 3 min in all; under way: high"]
     lines += ["1 of 2 crates, 1 min 00 s so far, about 4 min in all, 2 on idle processors; under way: high"]
     lines += ["proved high by 60 s of a processor, 2 of 2 crates, 5 min 00 s so far, done; under way: none"]
-    log.write_text("".join(f"lqtx: {it}\n" for it in lines), encoding="utf-8")
+    log.write_text("".join(f"lqtx: {line}\n" for line in lines), encoding="utf-8")
     of_lib = [sys.executable, "-m", "lib.estimate"]
     said = run(*of_lib, log, cwd=HERE)
     wanted = "at 0 min 14 s it said 3 min, -40% of what it took\nat 1 min 00 s it said 4 min, -20% of what it took\n"

@@ -9,10 +9,10 @@ import subprocess
 import sys
 from concurrent.futures import ThreadPoolExecutor
 
-from tests.bench import HERE, ROOM, TOP, case, expect, expect_none, expect_picture, fates_of, fault, heeding, repository, run
+from tests.bench import HERE, TOP, case, expect, expect_none, expect_picture, fates_of, fault, heeding, repository, room_of, run
 from lib import toml_text
 
-TOOLS = sorted(it for it in HERE.iterdir() if it.is_file() and os.access(it, os.X_OK))
+TOOLS = sorted(path for path in HERE.iterdir() if path.is_file() and os.access(path, os.X_OK))
 
 
 @case
@@ -21,10 +21,10 @@ def help_and_wrong_words():
     if len(TOOLS) < 20:
         fault(f"there are {len(TOOLS)} tools")
     with ThreadPoolExecutor(4) as pool:
-        for tool, said in zip(TOOLS, pool.map(lambda it: run(it, "--help"), TOOLS)):
+        for tool, said in zip(TOOLS, pool.map(lambda tool: run(tool, "--help"), TOOLS)):
             if said[0] or len(said[1]) < 60 or said[2]:
                 fault(f"{tool.name} --help: ends with {said[0]}, {len(said[1])} bytes on standard output, on standard error {said[2][:200]!r}")
-        for tool, said in zip(TOOLS, pool.map(lambda it: run(it, "--no-such-word"), TOOLS)):
+        for tool, said in zip(TOOLS, pool.map(lambda tool: run(tool, "--no-such-word"), TOOLS)):
             if said[0] != 2 or said[1] or not said[2] or "Traceback" in said[2]:
                 fault(f"{tool.name} --no-such-word: ends with {said[0]}, says {said[1][:200]!r} and {said[2][:200]!r}")
 
@@ -63,18 +63,12 @@ OTHERS = {
 WRITES = re.compile(r'write_text\(|write_bytes\(|writing\(|open\([^)\n]*"[wa]b?"|mktemp')
 
 
-def inputs_of(room, ending):
-    """Fresh inputs of each kind, by what they are."""
-    room.mkdir()
-    files = {it: room / f"{it}{ending}" for it in ("plan", "capture", "program", "hosts", "schedule")} | {"fates": room / "run.fates"}
-    shutil.copy(TOP / "examples/drops.toml", files["plan"])
-    shutil.copy(TOP / "examples/loopback.pcap", files["capture"])
-    shutil.copy(TOP / "examples/schedules/second-try.schedule", files["schedule"])
-    files["program"].write_text("#!/bin/sh\nexit 0\n", encoding="utf-8")
-    files["program"].chmod(0o755)
-    files["hosts"].write_text("1/:\n", encoding="utf-8")
-    files["fates"].write_text(example_fates(), encoding="utf-8")
-    return files
+def inputs_of(name, ending):
+    """A folder with fresh inputs of each kind, and these by what they are."""
+    example = lambda path: (TOP / "examples" / path).read_bytes()
+    texts = {"plan": example("drops.toml"), "capture": example("loopback.pcap"), "schedule": example("schedules/second-try.schedule"), "program": "#!/bin/sh\nexit 0\n", "hosts": "1/:\n"}
+    room = room_of(name, {f"{kind}{ending}": text for kind, text in texts.items()} | {"run.fates": example_fates()})
+    return room, {kind: room / f"{kind}{ending}" for kind in texts} | {"fates": room / "run.fates"}
 
 
 @functools.cache
@@ -84,14 +78,13 @@ def example_fates():
 
 
 def contents(room):
-    return {str(it.relative_to(room)): it.read_bytes() for it in room.rglob("*") if it.is_file()}
+    return {str(path.relative_to(room)): path.read_bytes() for path in room.rglob("*") if path.is_file()}
 
 
 def try_output(job):
     """A call whose output is an input, by one way of naming it: it ends with 2, says one line and changes no file."""
     number, tool, call, ending, which, how = job
-    room = ROOM / f"outputs{number}"
-    files = inputs_of(room, ending)
+    room, files = inputs_of(f"outputs{number}", ending)
     out = room / f"out{ending}"
     (room / "way").symlink_to(".")
     if how == "hard link":
@@ -104,7 +97,7 @@ def try_output(job):
     else:
         out = room / how / files[which].name
     before = contents(room)
-    said = run(HERE / tool, *(it.format(out=out, **files) for it in call.split()), cwd=room)
+    said = run(HERE / tool, *(word.format(out=out, **files) for word in call.split()), cwd=room)
     return f"{tool}: {call}, {out.name} is the {which} by {how}", said, before == contents(room)
 
 
@@ -121,14 +114,14 @@ def no_output_is_an_input():
     jobs = []
     for tool, call, ending, inputs in CALLS:
         for place, which in enumerate(inputs.split()):
-            is_first = tool not in {it[0] for it in jobs}
+            is_first = tool not in {job[0] for job in jobs}
             jobs += [(tool, call, ending, which, how) for how in (WAYS if is_first else WAYS[:3] if place == 0 else WAYS[2:3])]
     with ThreadPoolExecutor(4) as pool:
-        for name, said, is_kept in pool.map(try_output, ((number, *it) for number, it in enumerate(jobs))):
+        for name, said, is_kept in pool.map(try_output, ((number, *job) for number, job in enumerate(jobs))):
             expect(name, said, 2, " is an input")
             if said[1] or said[2].count("\n") != 1 or not is_kept:
                 fault(f"{name}: says {said[1]!r} and {said[2]!r}, the files are {'as before' if is_kept else 'others'}")
-    told = {it[0] for it in CALLS} | set(OTHERS)
+    told = {call[0] for call in CALLS} | set(OTHERS)
     for tool in TOOLS:
         if WRITES.search(tool.read_text(encoding="utf-8")) and tool.name not in told:
             fault(f"{tool.name} writes files, and none of its outputs is tried")
@@ -137,8 +130,7 @@ def no_output_is_an_input():
 @case
 def outputs_of_a_run_and_of_a_build():
     """Outputs whose names are made of a word: none of them is an input either."""
-    room = ROOM / "prefixes"
-    files = inputs_of(room, "")
+    room, files = inputs_of("prefixes", "")
     for name in ("run.0.pcap", "run.15.pcap", "run.mq7.pcap", "run.fates", "run.linux.fates", "run.linux.answers"):
         (room / name).unlink(missing_ok=True)
         os.link(files["capture"], room / name)
@@ -157,12 +149,11 @@ def outputs_of_a_run_and_of_a_build():
 def outputs_that_are_the_user_s():
     """A file that isn't as a tool left it is overwritten only with --force, and then it is the tool's."""
     for number, (tool, call, ending, _) in enumerate(CALLS):
-        room = ROOM / f"own{number}"
-        files = inputs_of(room, ending)
+        room, files = inputs_of(f"own{number}", ending)
         (room / "run.pcap").write_bytes(b"")
         out = room / f"out{ending}"
         shutil.copy(files["capture"], out)
-        words = [HERE / tool, *(it.format(out=out, **files) for it in call.split())]
+        words = [HERE / tool, *(word.format(out=out, **files) for word in call.split())]
         before = contents(room)
         said = run(*words, cwd=room)
         expect(f"{tool}: {call}, a file of the user's", said, 2, "out" + ending + " is there, and wasn't left so by an earlier call: --force overwrites it")
@@ -174,16 +165,15 @@ def outputs_that_are_the_user_s():
             expect(f"{tool}: {call}, once more", said, 0)
             if said[2] or out.read_bytes() == before[out.name]:
                 fault(f"{tool}: {call}, once more: says {said[2]!r}")
-            with open(out, "ab") as it:
-                it.write(b"\n")
+            with open(out, "ab") as file:
+                file.write(b"\n")
             expect(f"{tool}: {call}, once the file is changed", run(*words, cwd=room), 2, "--force")
 
 
 @case
 def outputs_of_the_program_without_its_proof():
     """They are shown where there are no others, which is said, and none of them is written."""
-    room = ROOM / "unproved"
-    files = inputs_of(room, "")
+    room, files = inputs_of("unproved", "")
     call = [HERE / "show-run", files["plan"], files["capture"], "run"]
     expect_none("show-run, outputs of the proved program", run(*call, cwd=room), "unproved")
     files["fates"].rename(room / "run.unproved.fates")
@@ -201,8 +191,7 @@ def short_of_room():
 @case
 def no_room_for_an_output():
     """A fault of the disk names the output. What was there is there still, and no part of the new file is left."""
-    room = ROOM / "no room"
-    files = inputs_of(room, "")
+    room, files = inputs_of("no room", "")
     for words in ("out.svg", "--dropped out.pcap", "--table out.csv", "--html out.html", "--marked out.pcapng"):
         call = [HERE / "show-run", files["plan"], files["capture"], room / "run", *words.split()]
         name = words.split()[-1]
@@ -217,8 +206,7 @@ def no_room_for_an_output():
 def names_that_are_no_text():
     """Names with a control character, or with bytes that aren't UTF-8: pictures and pages are well formed."""
     for number, name in enumerate(("a\x1bb", os.fsdecode(b"a\xffb"), "a\nb")):
-        room = ROOM / f"names{number}"
-        files = inputs_of(room, "")
+        room, files = inputs_of(f"names{number}", "")
         plan, capture = files["plan"].rename(room / f"{name}.toml"), files["capture"].rename(room / f"{name}.pcap")
         said = subprocess.run([HERE / "show-run", plan, capture, room / "run", room / f"{name}.svg", "--html", room / f"{name}.html"], capture_output=True)
         if said.returncode or said.stderr:
@@ -233,8 +221,7 @@ def names_that_are_no_text():
 @case
 def outputs_that_are_there():
     """A tool's own outputs are replaced; pictures are SVG and named so; two outputs are two files."""
-    room = ROOM / "there"
-    files = inputs_of(room, "")
+    room, files = inputs_of("there", "")
     show = lambda *words: run(HERE / "show-schedule", files["schedule"], *words, cwd=room)
     for again in ("a picture", "a picture again"):
         said = show("a.svg")
@@ -255,8 +242,7 @@ def outputs_that_are_there():
 @case
 def what_goes_wrong_outside():
     """A full disk, a closed pipe, a file that isn't there and an interrupt: a line or nothing, an exit code, and no traceback."""
-    room = ROOM / "outside"
-    files = inputs_of(room, "")
+    room, files = inputs_of("outside", "")
     calls = {
         "check-plan": [files["plan"]], "show-schedule": [files["schedule"]], "show-run": [files["plan"], files["capture"], room / "run"], "reading-list": ["--help"],
         "dead": ["--help"], "compare": ["--help"], "sweep": ["--help"], "gate-cost": ["--help"],

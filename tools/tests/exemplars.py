@@ -59,7 +59,7 @@ def paths_of(top, line):
 def files_of(top):
     """All files of the repository but this page, each with its bytes."""
     for folder, folders, names in os.walk(top):
-        folders[:] = sorted(it for it in folders if it not in LEFT_OUT)
+        folders[:] = sorted(folder for folder in folders if folder not in LEFT_OUT)
         for name in sorted(names):
             file = pathlib.Path(folder, name)
             if file != top / PAGE and file.is_file():
@@ -82,15 +82,15 @@ def pieces(text, mark):
             found.append("")
         else:
             found[-1] += at
-    return [it.strip() for it in found]
+    return [piece.strip() for piece in found]
 
 
 def has_catch_all_definition(kind, text):
     """Whether a definition whose type names the kind has `_` in the place of such an argument."""
     for name, type_of in re.findall(r"^(?:abbrev |unfoldable )?pub (\S+) : (.*)$", text, re.M):
-        places = [at for at, it in enumerate(pieces(type_of, "→")[:-1]) if re.search(rf"\b{kind}\b", it)]
+        places = [at for at, piece in enumerate(pieces(type_of, "→")[:-1]) if re.search(rf"\b{kind}\b", piece)]
         for line in re.findall(rf"^{re.escape(name)} ([^=\n]*)=", text, re.M) if places else []:
-            given = [it for it in pieces(line, " ") if it]
+            given = [piece for piece in pieces(line, " ") if piece]
             if any(given[at : at + 1] == ["_"] for at in places):
                 return True
     return False

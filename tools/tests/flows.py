@@ -66,5 +66,5 @@ def flows_without_ports():
             if flow_hash.flow_of(framed(of), ETHERNET) != wanted:
                 fault(f"{name}: the flow is {flow_hash.flow_of(framed(of), ETHERNET)}, and not {wanted}")
     odd = [(b"", ETHERNET), (framed(data, b"\x88\xa8\0\5"), ETHERNET), (framed(data, b"\x81\0\0\5\x81\0\0\5"), ETHERNET), (b"\x65" + data[1:], COOKED), (b"\x75" + bytes(60), RAW_IP), (framed(b"\x55" + bytes(60)), ETHERNET)]
-    if any(flow_hash.flow_of(*it) is not None for it in odd):
-        fault(f"frames without a flow have {[flow_hash.flow_of(*it) for it in odd]}")
+    if any(flow_hash.flow_of(*given) is not None for given in odd):
+        fault(f"frames without a flow have {[flow_hash.flow_of(*given) for given in odd]}")

@@ -11,7 +11,8 @@ import subprocess
 from lib import captures, findings
 from tests.bench import HERE, ROOM, TOP, case, expect, expect_none, fates_of, fault, is_equal, run
 from tests.flows import ICMP, TCP, UDP, packet
-from tests.made_captures import block, classic, padded
+from tests import wireshark
+from tests.made_captures import block, classic, enhanced, interface, padded, section
 
 START = 1_700_000_000 * 10**9
 HERE_MAC, THERE_MAC, GROUP = b"\2\0\0\0\0\1", b"\2\0\0\0\0\2", b"\1\0\x5e\0\0\1"
@@ -30,25 +31,12 @@ IPV4_FRAME = ether(UDP_PACKET)
 
 
 def at_once(frames, link=1, step=1000):
-    return classic([START + step * it for it in range(len(frames))], frames, link=link)
+    return classic([START + step * number for number in range(len(frames))], frames, link=link)
 
 
 def cut(frame, captured, length=1500, link=1):
     """A capture of one frame that is cut."""
     return at_once([frame[:captured]], link)[:36] + struct.pack("<I", length) + frame[:captured]
-
-
-def section(order, *blocks):
-    """A section of pcapng with so many interfaces, each with its link type, and these blocks."""
-    return block(order, 0x0A0D0D0A, struct.pack(order + "IHHq", 0x1A2B3C4D, 1, 0, -1)) + b"".join(blocks)
-
-
-def interface(order, link=1):
-    return block(order, 1, struct.pack(order + "HHI", link, 0, 0))
-
-
-def enhanced(order, frame, at=0, time=0):
-    return block(order, 6, struct.pack(order + "IIIII", at, time >> 32, time & 0xFFFFFFFF, len(frame), len(frame)) + padded(frame))
 
 
 def of_old_kind(order, frame, time=0):
@@ -128,7 +116,7 @@ def mended(room, command, said):
     words = command.replace("tools/", f"{HERE}/")
     done = subprocess.run(words, shell=True, cwd=room, capture_output=True, text=True, timeout=100)
     made = re.search(r">(\S+)$|-w (\S+)|(\S+)$", command)
-    file = room / next(it for it in made.groups() if it)
+    file = room / next(group for group in made.groups() if group)
     if done.returncode or not file.exists():
         fault(f"{said}: {command}: ends with {done.returncode}: {done.stderr[-300:]}")
         return None
@@ -142,7 +130,7 @@ def try_found(name, data, plan, parts, count):
     (room / "p.toml").write_text(plan or "", encoding="utf-8")
     said = run(HERE / "check-capture", f"{name}.cap", *["p.toml"] * bool(plan), cwd=room)
     expect(f"check-capture, {name}", said, 4 if name in ("sections", "other-order", "cut-off", "cut-block", "empty", "text", "gz", "xz", "bz2", "zstd", "lz4") else 1, *parts)
-    line = next((it for it in said[1].splitlines() if parts[0] in it), "")
+    line = next((line for line in said[1].splitlines() if parts[0] in line), "")
     command = re.search(r": ((?:editcap|reordercap|mergecap|tshark|zcat|xzcat|bzcat|zstdcat|lz4cat|tools/check-capture) .*)", line)
     if count is None:
         return
@@ -156,8 +144,8 @@ def try_found(name, data, plan, parts, count):
 
 @case
 def findings_of_captures():
-    for it in FOUND:
-        try_found(*it)
+    for row in FOUND:
+        try_found(*row)
 
 
 @case
@@ -189,8 +177,8 @@ def exchanged_and_piped():
     expect("check-capture, a dash", run(HERE / "check-capture", "-"), 4, "/dev/stdin", "cat >capture.pcap")
     expect("at-rate, a dash", run(HERE / "at-rate", "-", "10mbit"), 1, "/dev/stdin")
     expect("check-capture, no file", run(HERE / "check-capture", ROOM / "none"), 1, "No such file")
-    with open(capture, "rb") as it:
-        said = subprocess.run([HERE / "check-capture", "/dev/stdin"], stdin=it, capture_output=True, text=True)
+    with open(capture, "rb") as file:
+        said = subprocess.run([HERE / "check-capture", "/dev/stdin"], stdin=file, capture_output=True, text=True)
     is_equal("check-capture of standard input", said.stdout, "/dev/stdin: nothing is found\n")
 
 
@@ -227,20 +215,55 @@ def said_as_another_tool():
     is_equal("check-capture --as, a pipe", (said.returncode, said.stderr), (0, ""))
 
 
-@case
-def limits_of_captures():
-    """Captures that have too much, and what makes parts of them, each of which is read."""
-    room = ROOM / "limits"
-    room.mkdir()
-    record = struct.pack("<IIII", 1_700_000_000, 0, len(IPV4_FRAME), 1514) + IPV4_FRAME
+SMALL = at_once([IPV4_FRAME] * 3)
+LARGE = bytes(260_000)
+
+
+def refused_captures():
+    """Captures that are refused, each with a name that a shell takes apart unless it is quoted, and with a part of what is said."""
     head = at_once([])
-    for name, data, parts in (("many", head + record * (findings.MOST_PACKETS + 1), ["more than 1,000,000 packets"]), ("long", head + (record[:8] + struct.pack("<II", 1514, 1514) + bytes(1514)) * 44000, ["it is too long"])):
-        (room / f"{name}.pcap").write_bytes(data)
-        said = run(HERE / "check-capture", f"{name}.pcap", cwd=room)
-        expect(f"check-capture, {name}", said, 4, *parts, f": editcap -F pcap -s 96 -c 500000 {name}.pcap {name}.short.pcap")
-        if shutil.which("editcap"):
-            subprocess.run(["editcap", *said[1].partition(": editcap ")[2].split()], cwd=room, check=True)
-            made = sorted(room.glob(f"{name}.short_*"))
-            if not made or any(it.stat().st_size > findings.MOST_BYTES for it in made):
-                fault(f"check-capture, {name}: the parts are {made}")
-        os.remove(room / f"{name}.pcap")
+    yield "many.pcap", head + (bytes(12) + b"\x3c\0\0\0") * (findings.MOST_PACKETS + 1), "more than 1,000,000 packets"
+    parts = "each of which begins with empty rings: editcap -F pcap -s 96 -c 500000 'it'\\''s long.pcap' 'it'\\''s long.short.pcap'"
+    yield "it's long.pcap", head + at_once([bytes(60)])[24:] * (findings.MOST_PACKETS + 1), parts
+    yield "nano $(touch oops).pcap", classic([START + 1] * 260, [LARGE] * 260, ">", True), "it is too long, .*editcap -F nsecpcap "
+    yield "big.pcapng", section("<", interface("<"), *[enhanced("<", LARGE)] * 260), "it is too long, .*editcap -F nsecpcap "
+    yield "two links.pcapng", section("<", interface("<"), interface("<", 101), *[enhanced("<", LARGE, 1)] * 260), "it is too long, .*editcap -F pcapng -s 96 -c 500000 "
+    yield "cut;off.pcap", SMALL[:-5], "cut off at .*: editcap -F pcap 'cut;off.pcap' 'cut;off.whole.pcap'"
+    yield "cut;off.pcap", SMALL[:-5], "cut off at .*: editcap -F pcap 'cut;off.pcap' 'cut;off-2.whole.pcap'"
+    yield "cut&off.pcapng", ONE_SECTION[:-7], "cut off at "
+    yield "twice.pcapng", ONE_SECTION * 2, "two sections"
+    yield "long record.pcap", classic([START] * 2, [IPV4_FRAME, bytes(262145)], cut=2**20), "a packet of more than 262,144 bytes"
+    for ending, packed in (("gz", gzip.compress), ("bz2", bz2.compress), ("xz", lzma.compress), ("zst", "zstd"), ("lz4", "lz4")):
+        if callable(packed) or shutil.which(packed):
+            data = packed(SMALL) if callable(packed) else subprocess.run([packed, "-q", "-c"], input=SMALL, stdout=subprocess.PIPE, check=True).stdout
+            yield f"my cap.pcap.{ending}", data, rf"it is compressed: \w+ <'my cap.pcap.{ending}' >'my cap"
+
+
+def files_in(room):
+    return {path: (path.stat().st_size, path.stat().st_mtime_ns) for path in room.iterdir()}
+
+
+@case
+def hints_that_are_pasted():
+    """A hint is pasted into a shell: it makes files that weren't there, changes none that was, and what it made isn't refused."""
+    room, programs = ROOM / "hints", ROOM / "programs"
+    room.mkdir()
+    programs.mkdir()
+    wireshark.put(programs)
+    env = os.environ | {"PATH": f"{programs}:{os.environ['PATH']}"}
+    for name, data, part in refused_captures():
+        (room / name).write_bytes(data)
+        said = run(HERE / "check-capture", name, cwd=room, env=env)
+        hint = re.search(r": ([a-z0-9]+ [-<].*)$", said[1], re.M)
+        if said[0] != 4 or not re.search(part.replace("$", r"\$") if "it'" not in part else re.escape(part), said[1]) or not hint:
+            fault(f"check-capture, {name}: says {said}")
+            continue
+        before = files_in(room)
+        done = subprocess.run(["bash", "-c", hint[1]], cwd=room, env=env, capture_output=True, text=True)
+        made = [path for path in files_in(room) if path not in before]
+        # of a capture that is cut, editcap keeps what is whole, and fails
+        if done.returncode and "cut" not in name and "record" not in name or before.items() - files_in(room).items() or not made:
+            fault(f"{hint[1]}: ends with {done.returncode}, makes {made}, leaves {files_in(room)}: {done.stderr}")
+        is_equal(f"{hint[1]}: what it makes is accepted", [str(finding) for path in made for finding in findings.of(path) if finding.is_refused], [])
+        (room / name).unlink()
+    is_equal("a name that is taken for a command", (room / "oops").exists(), False)

@@ -1,6 +1,7 @@
 """The class of each kind of frame."""
 from lib import captures
 from tests.bench import capture_of, case, fault, frame
+from tests.made_captures import enhanced, interface, section
 
 
 @case
@@ -12,13 +13,8 @@ def classes():
     if found != ([0, 2, 1, 1, 1, 1, 1, 1], [7, 5, 0, 0, 0, 0, 0, 1], [9, 6, 0, 0, 0, 0, 0, 255], 5, True, True):
         fault(f"the classes are {found}")
     # the same frames as enhanced blocks of pcapng, of an interface behind one of another link type
-    section, other, own = "0a0d0d0a1c0000004d3c2b1a01000000ffffffffffffffff1c000000", "010000001400000093000000ffff000014000000", "010000001400000001000000ffff000014000000"
-    blocks = b""
-    for start, end in zip(of.starts, of.ends):
-        data = of.data[start + 16 : end]
-        total = (32 + len(data) + -len(data) % 4).to_bytes(4, "little")
-        blocks += b"\6\0\0\0" + total + b"\1\0\0\0" + bytes(8) + 2 * len(data).to_bytes(4, "little") + data + bytes(-len(data) % 4) + total
-    ng = captures.Capture(bytes.fromhex(section + other + own) + blocks)
+    data = (of.data[start + 16 : end] for start, end in zip(of.starts, of.ends))
+    ng = captures.Capture(section("<", interface("<", 147), interface("<"), *(enhanced("<", part, 1) for part in data)))
     if (ng.bands, ng.sources, ng.routes, ng.lengths, ng.without_header) != (of.bands, of.sources, of.routes, of.lengths, of.without_header):
         fault(f"the classes of pcapng are {(list(ng.bands), list(ng.sources), list(ng.routes), ng.without_header)}")
     if captures.Capture(ng.written([5, 0])).bands != bytes([of.bands[5], of.bands[0]]):

@@ -5,19 +5,19 @@ import subprocess
 
 from tests.bench import HERE, ROOM, TOP, case, expect, fault, is_equal, repository, run
 
-NAMES = ["lqtx", *(f"lqtx-{it}" for it in ("at-rate", "check-capture", "check-plan", "how-long", "show-run", "show-schedule", "sweep"))]
+NAMES = ["lqtx", *(f"lqtx-{name}" for name in ("at-rate", "check-capture", "check-plan", "how-long", "show-run", "show-schedule", "sweep"))]
 
 
 def installed(prefix):
     """Installs with a stand-in for the program; the words of the call that it ends by."""
     program = ROOM / "stand-in"
-    program.write_text(f"#!/bin/sh\nexec {TOP}/tools/tests/by_the_rules.py \"$@\"\n", encoding="utf-8")
+    program.write_text(f"#!/bin/sh\nexec {TOP}/tools/tests/by-the-rules \"$@\"\n", encoding="utf-8")
     program.chmod(0o755)
     return run(HERE / "install", "--prefix", prefix, "--program", program)
 
 
 def files_below(folder):
-    return sorted(str(it.relative_to(folder)) for it in folder.rglob("*") if not it.is_dir())
+    return sorted(str(path.relative_to(folder)) for path in folder.rglob("*") if not path.is_dir())
 
 
 @case
@@ -29,19 +29,19 @@ def installed_tools_work_anywhere():
     shutil.copy(TOP / "examples/link.pcap", room / "all.pcap")
     env = os.environ | {"PATH": f"{prefix}/bin:{os.environ['PATH']}"}
     page = (prefix / "lib/lqtx/INSTALLED.md").read_text(encoding="utf-8")
-    commands = [it.strip() for it in page.splitlines() if it.startswith("    lqtx")]
-    is_equal("INSTALLED.md: commands", [it.split()[0] for it in commands], ["lqtx-check-capture", "lqtx-how-long", "lqtx-at-rate", "lqtx", "lqtx-show-run"])
-    for it in commands:
-        said = subprocess.run(it, shell=True, cwd=room, env=env, capture_output=True, text=True, timeout=300)
-        if said.returncode not in ((0, 1) if "check-capture" in it else (0,)):
-            fault(f"INSTALLED.md: {it}: ends with {said.returncode}: {said.stderr[-300:]}")
-    is_equal("INSTALLED.md: outputs", [it for it in files_below(room) if ".lqtx/" not in it], sorted(["all.pcap", "plan.toml", "out/o.0.pcap", "out/o.fates", "out/o.times", "out/o.svg", "out/waiting.svg", "len.csv", "len.svg"]))
-    for it in NAMES[1:]:
-        expect(f"{it} --help", subprocess_of([it, "--help"], room, env), 0, f"    {it} ")
-        expect(f"{it}, wrong words", subprocess_of([it, "--no-such"], room, env), 2)
-    for it in files_below(prefix):
-        if "/program" not in it and (str(TOP) in (prefix / it).read_text(encoding="utf-8") or "tools/sweep" in (prefix / it).read_text(encoding="utf-8")):
-            fault(f"{it} speaks of the repository")
+    commands = [line.strip() for line in page.splitlines() if line.startswith("    lqtx")]
+    is_equal("INSTALLED.md: commands", [command.split()[0] for command in commands], ["lqtx-check-capture", "lqtx-how-long", "lqtx-at-rate", "lqtx", "lqtx-show-run"])
+    for command in commands:
+        said = subprocess.run(command, shell=True, cwd=room, env=env, capture_output=True, text=True, timeout=300)
+        if said.returncode not in ((0, 1) if "check-capture" in command else (0,)):
+            fault(f"INSTALLED.md: {command}: ends with {said.returncode}: {said.stderr[-300:]}")
+    is_equal("INSTALLED.md: outputs", [file for file in files_below(room) if ".lqtx/" not in file], sorted(["all.pcap", "plan.toml", "out/o.0.pcap", "out/o.fates", "out/o.times", "out/o.svg", "out/waiting.svg", "len.csv", "len.svg"]))
+    for name in NAMES[1:]:
+        expect(f"{name} --help", subprocess_of([name, "--help"], room, env), 0, f"    {name} ")
+        expect(f"{name}, wrong words", subprocess_of([name, "--no-such"], room, env), 2)
+    for file in files_below(prefix):
+        if "/program" not in file and (str(TOP) in (prefix / file).read_text(encoding="utf-8") or "tools/sweep" in (prefix / file).read_text(encoding="utf-8")):
+            fault(f"{file} speaks of the repository")
 
 
 def subprocess_of(words, cwd, env):
@@ -73,8 +73,8 @@ def install_and_uninstall():
     expect("uninstall, where nothing is", run(HERE / "install", "--prefix", prefix, "--uninstall"), 0)
     installed(prefix)
     expect("install, once more", installed(prefix), 0)
-    is_equal("install: bin", sorted(it.name for it in (prefix / "bin").iterdir()), sorted([*NAMES, "other"]))
-    is_equal("install: manual", sorted(it.name for it in (prefix / "share/man/man1").iterdir()), sorted(f"{it}.1" for it in NAMES))
+    is_equal("install: bin", sorted(path.name for path in (prefix / "bin").iterdir()), sorted([*NAMES, "other"]))
+    is_equal("install: manual", sorted(path.name for path in (prefix / "share/man/man1").iterdir()), sorted(f"{name}.1" for name in NAMES))
     for page in sorted((prefix / "share/man/man1").iterdir()) if shutil.which("mandoc") else []:
         said = run("mandoc", "-T", "lint", "-W", "error", page)
         if said[0]:

@@ -16,12 +16,7 @@ MICROSECOND = 1000
 def capture_at(times, lengths, bands=None, link=1):
     """A capture of frames at these microseconds with these lengths on the wire, each cut to its headers."""
     frames = [frame([16, 0, 8][band], 0, 0)[14 * (link == 101) :] for band in bands or [1] * len(times)]
-    data = bytearray(classic([MICROSECOND * it for it in times], frames, is_nano=True, link=link))
-    at = 24
-    for it, length in zip(frames, lengths):
-        data[at + 12 : at + 16] = length.to_bytes(4, "little")
-        at += 16 + len(it)
-    return captures.Capture(bytes(data))
+    return captures.Capture(classic([MICROSECOND * time for time in times], frames, is_nano=True, link=link, lengths=lengths))
 
 
 def ran(capture, classify="tos", events=(), **keys):
@@ -74,8 +69,8 @@ def rows_of_links():
     try:
         ran(capture_at([5, 4], [60, 60]))
         fault("a link takes times that go back")
-    except Failed as it:
-        is_equal("a link, a time that goes back", str(it), "packet 1 has an earlier time than the one before it, and the plan takes no such capture")
+    except Failed as refused:
+        is_equal("a link, a time that goes back", str(refused), "packet 1 has an earlier time than the one before it, and the plan takes no such capture")
 
 
 LONG_FIRST = "version = 5\n[[station]]\nrate_kbit = 8000\nring = 1\n"
@@ -88,19 +83,19 @@ def shown_of_a_link():
     room.mkdir()
     (room / "p.toml").write_text(LONG_FIRST, encoding="utf-8")
     (room / "c.pcap").write_bytes(capture_at([0, 10, 20], [1476, 76, 76]).data)
-    made = run(HERE / "tests/by_the_rules.py", "run", "p.toml", "c.pcap", "o", cwd=room)
+    made = run(HERE / "tests/by-the-rules", "run", "p.toml", "c.pcap", "o", cwd=room)
     is_equal("the times of a link", (made[0], (room / "o.times").read_text(encoding="utf-8")), (0, "0 0 1500000\n1 1500000 1600000\n2 1600000 1700000\n"))
     show = lambda *words: run(HERE / "show-run", "p.toml", "c.pcap", "o", *words, cwd=room)
     waits = "wait 1490.0 us in the middle, 1580.0 us for 99 of 100, 1580.0 us at most"
     said = show("o.svg", "b.svg", "--table", "t.csv", "--marked", "m.pcapng", "--retimed", "0", "r.pcap", "--html", "o.html", "--flows")
     expect("show-run of a link", said, 0, f"\n  backlog at most 2 pkt, 152 bytes; {waits}\n", f"sent 1628 bytes 3 pkt, dropped 0; {waits}\n",
            "link of 8000 kbit/s: 1700 bytes of the wire, busy for 100.0% of 0.001700 s\n", "to the end of its frame 1590.0 us in the middle, 1680.0 us for 99 of 100, 1680.0 us at most\n")  # fmt: skip
-    with open(room / "t.csv", encoding="utf-8") as it:
-        is_equal("the waits of a link", [row["waited_seconds"] for row in csv.DictReader(it)], ["0.000000000", "0.001490000", "0.001580000"])
-    is_equal("the comments of a link", [f"band 1, waited {it} us".encode() in (room / "m.pcapng").read_bytes() for it in ("0.0", "1490.0", "1580.0")], [True] * 3)
+    with open(room / "t.csv", encoding="utf-8") as file:
+        is_equal("the waits of a link", [row["waited_seconds"] for row in csv.DictReader(file)], ["0.000000000", "0.001490000", "0.001580000"])
+    is_equal("the comments of a link", [f"band 1, waited {name} us".encode() in (room / "m.pcapng").read_bytes() for name in ("0.0", "1490.0", "1580.0")], [True] * 3)
     expect_picture("a link's backlog", room / "b.svg", "bytes that wait in each band", "use of the link", "the last packet")
     data = (room / "r.pcap").read_bytes()
-    found = [struct.unpack_from("<IIII", data, 24 + 50 * it) for it in range(3)]
+    found = [struct.unpack_from("<IIII", data, 24 + 50 * number) for number in range(3)]
     is_equal("what a link sent, by its times", found, [(0, 1500000, 34, 1476), (0, 1600000, 34, 76), (0, 1700000, 34, 76)])
     is_equal("the head of what a link sent", retimed.HEAD.unpack_from(data), (0xA1B23C4D, 2, 4, 0, 0, 2**18, 1))
     expect("show-run, no unit", show("--retimed", "1", "r.pcap"), 2, "a link has unit 0 alone")
@@ -117,13 +112,13 @@ def how_long():
     room.mkdir()
     (room / "once.pcap").write_bytes(capture_at([0] * 39 + [1], [76] * 40).data)
     (room / "twice.pcap").write_bytes(capture_at([0] * 40 + [650] * 5, [76] * 45).data)
-    find = lambda name, *words: run(HERE / "how-long", f"{name}.pcap", "8mbit", *words, "--program", HERE / "tests/by_the_rules.py", cwd=room)
+    find = lambda name, *words: run(HERE / "how-long", f"{name}.pcap", "8mbit", *words, "--program", HERE / "tests/by-the-rules", cwd=room)
     expect("how-long", find("once"), 0, "txqueuelen 38 drops none of 40 packets; waits 2000.0 us (median), 3899.0 us (99 of 100)", "39 packets of a band wait at once", "38 was the first that was run", "txqueuelen 37 drops 1 of 40")
     expect("how-long, some dropped", find("once", "--drops", "5"), 0, "txqueuelen 33 drops 5 of 40 packets", "by bisection")
     expect("how-long, a share dropped", find("once", "--drops", "10%"), 0, "txqueuelen 34 drops 4 of 40 packets")
     expect("how-long, slots that aren't emptied", find("twice", "a.csv", "a.svg"), 0, "txqueuelen 43 drops none of 45 packets", "each length from 38 on was run", "txqueuelen 42 drops 1 of 45")
     rows = (room / "a.csv").read_text(encoding="utf-8").splitlines()
-    is_equal("how-long, its table", (rows[0].startswith("len,sent,dropped,dropped_0,"), [it[:12] for it in rows if it.startswith("42,")]), (True, ["42,44,1,0,1,"]))
+    is_equal("how-long, its table", (rows[0].startswith("len,sent,dropped,dropped_0,"), [row[:12] for row in rows if row.startswith("42,")]), (True, ["42,44,1,0,1,"]))
     expect_picture("how-long", room / "a.svg", "twice.pcap over a link of 8mbit, 45 packets", "packets dropped", "wait, milliseconds", "txqueuelen")
     expect("how-long, wrong words", find("once", "--drops", "few"), 2, "--drops few")
     expect("how-long, a fault", run(HERE / "how-long", "once.pcap", "8mbit", "--program", "/bin/false", cwd=room), 1, "exit code 1 of the program")

@@ -11,11 +11,13 @@ EQUAL = framed(packet("10.0.0.1", 9, "10.0.1.1", 80, UDP))
 RESOLUTIONS = [0, 3, 6, 6, 9, 9, 12, 128 | 10, 128 | 20, 128 | 30, 127]
 
 
-def classic(times, frames, order="<", is_nano=False, link=ETHERNET, cut=2**18):
-    """A classic capture of these frames at these nanoseconds, each cut to so many bytes."""
+def classic(times, frames, order="<", is_nano=False, link=ETHERNET, cut=2**18, lengths=None):
+    """A classic capture of these frames at these nanoseconds, each cut to so many bytes; LENGTHS are those on the wire."""
     magic, scale = (0xA1B23C4D, 1) if is_nano else (0xA1B2C3D4, 1000)
-    head = struct.pack(order + "IHHIIII", magic, 2, 4, 0, 0, 262144, link)
-    return head + b"".join(struct.pack(order + "IIII", time // SECOND, time % SECOND // scale, len(it[:cut]), len(it)) + it[:cut] for time, it in zip(times, frames))
+    records = [struct.pack(order + "IHHIIII", magic, 2, 4, 0, 0, 262144, link)]
+    for time, frame, length in zip(times, frames, lengths or map(len, frames)):
+        records += [struct.pack(order + "IIII", time // SECOND, time % SECOND // scale, len(frame[:cut]), length), frame[:cut]]
+    return b"".join(records)
 
 
 def padded(data):
@@ -31,6 +33,25 @@ def option(order, number, value):
     return struct.pack(order + "HH", number, len(value)) + padded(value)
 
 
+def section(order, *blocks, length=-1, options=b""):
+    """A section of pcapng with these blocks."""
+    return block(order, 0x0A0D0D0A, struct.pack(order + "IHHq", 0x1A2B3C4D, 1, 0, length) + options) + b"".join(blocks)
+
+
+def interface(order, link=ETHERNET, options=b""):
+    return block(order, 1, struct.pack(order + "HHI", link, 0, 0) + options)
+
+
+def enhanced(order, frame, at=0, time=0, length=None, options=b""):
+    """A packet of an interface at so many units of its clock; LENGTH is that on the wire."""
+    head = struct.pack(order + "IIIII", at, time >> 32, time & 0xFFFFFFFF, len(frame), len(frame) if length is None else length)
+    return block(order, 6, head + padded(frame) + options)
+
+
+def simple(order, frame):
+    return block(order, 3, struct.pack(order + "I", len(frame)) + padded(frame))
+
+
 class Interface:
     """An interface of pcapng: its link type, and its clock as options say it."""
 
@@ -41,7 +62,7 @@ class Interface:
 
     def block(self, order):
         options = b"" if self.is_plain else option(order, 2, b"eth0") + option(order, 9, bytes([self.resolution])) + option(order, 14, struct.pack(order + "q", self.offset))
-        return block(order, 1, struct.pack(order + "HHI", self.link, 0, 0) + options + option(order, 0, b"") * (not self.is_plain))
+        return interface(order, self.link, options + option(order, 0, b"") * (not self.is_plain))
 
     def units(self, time):
         return max(0, (time - self.offset * SECOND) * self.ticks // SECOND) % 2**64
@@ -50,15 +71,10 @@ class Interface:
 def pcapng(of, times, frames, order="<", most=3, link=ETHERNET, cut=2**18):
     """The same as pcapng, of one to so many interfaces; now and then a frame is a simple packet, which has no time and is whole."""
     interfaces = [Interface(of, link) for _ in range(of.randint(1, most))]
-    yield block(order, 0x0A0D0D0A, struct.pack(order + "IHHq", 0x1A2B3C4D, 1, 0, -1))
-    yield from (it.block(order) for it in interfaces)
+    yield section(order, *(interface.block(order) for interface in interfaces))
     for time, frame in zip(times, frames):
         at = of.randrange(len(interfaces))
-        units = interfaces[at].units(time)
-        if of.random() < 0.05:
-            yield block(order, 3, struct.pack(order + "I", len(frame)) + padded(frame))
-        else:
-            yield block(order, 6, struct.pack(order + "IIIII", at, units >> 32, units & 0xFFFFFFFF, len(frame[:cut]), len(frame)) + padded(frame[:cut]))
+        yield simple(order, frame) if of.random() < 0.05 else enhanced(order, frame[:cut], at, interfaces[at].units(time), len(frame))
 
 
 def random_frame(of):
@@ -97,7 +113,7 @@ def random_passage(of):
     times = random_times(of, count)
     times = times if of.random() < 0.03 else sorted(times)
     frames = [random_frame(of) + bytes(of.choice([0, 0, 20, 500, 1400])) for _ in range(count)]
-    frames = [it[14:] for it in frames] if link == RAW_IP else frames
+    frames = [frame[14:] for frame in frames] if link == RAW_IP else frames
     cut = of.choice([2**18, 60])
     if of.random() < 0.4:
         # by the clocks of several interfaces a time goes back more often

@@ -36,7 +36,7 @@ FILES = {
 # commands that end with another code than 0: a search that finds an order that goes wrong ends with 1
 CODES = {r"tools/explore --(edit|plain) ": 1}
 PICTURES = {"README.md": {"out/o.svg": "docs/drops.svg"}, "docs/USING.md": {"out/waiting.svg": "docs/link.svg", "out/len.svg": "docs/link-by-len.svg", "out/m.svg": "docs/multi-queue.svg"},
-            "docs/BARRIERS.md": {f"out/{it}.svg": f"docs/orders/{it}.svg" for it in ("unlock", "put-miss", "cclear", "clearm-cleard", "wake-sched", "sclear")}}  # fmt: skip
+            "docs/BARRIERS.md": {f"out/{name}.svg": f"docs/orders/{name}.svg" for name in ("unlock", "put-miss", "cclear", "clearm-cleard", "wake-sched", "sclear")}}  # fmt: skip
 COMMAND = re.compile(r"    (?:\$ (.*)|((?:\./lqtx|tools/|rt ).*))")
 FEWEST = {"README.md": 2, "docs/USING.md": 11, "docs/FORMATS.md": 2, "docs/HISTORY.md": 5, "docs/lqtx.1": 3, "docs/BARRIERS.md": 7}
 
@@ -48,7 +48,7 @@ class Command:
         self.page, self.line, self.words, self.printed = page, line, words, printed
 
     def is_left_out(self):
-        return any(re.match(it, self.words) for it in LEFT_OUT)
+        return any(re.match(pattern, self.words) for pattern in LEFT_OUT)
 
 
 def commands_of_blocks(page, lines):
@@ -72,11 +72,11 @@ def commands_of_page(page, lines):
     for words in INLINE.get(page, []):
         # a command may be broken into two lines
         text = re.sub(r"\s+", " ", "\n".join(lines))
-        number = next((at for at, it in enumerate(lines, 1) if words in it), 0)
+        number = next((at for at, line in enumerate(lines, 1) if words in line), 0)
         if f"`{words}`" not in text:
             raise LookupError(f"{page} has no command {words}")
         found.append(Command(page, number, words, None))
-    return sorted(found, key=lambda it: it.line)
+    return sorted(found, key=lambda command: command.line)
 
 
 def commands_of_manual(page, lines):
@@ -98,8 +98,8 @@ def make_room(room):
     for name in ("examples", "tools", "docs", "crates"):
         (room / name).symlink_to(TOP / name)
     (room / "out").mkdir()
-    built = sorted((it for it in (TOP / "build").glob("lqtx.*") if it.is_file() and it.stat().st_size), key=lambda it: it.stat().st_mtime)
-    program = built[-1] if built else TOP / "tools/tests/by_the_rules.py"
+    built = sorted((path for path in (TOP / "build").glob("lqtx.*") if path.is_file() and path.stat().st_size), key=lambda path: path.stat().st_mtime)
+    program = built[-1] if built else TOP / "tools/tests/by-the-rules"
     wrapper = f"""#!/bin/sh
 '{program}' "$@"
 code=$?
@@ -121,12 +121,12 @@ def faults_of_command(room, command, text):
     place = f"{command.page}:{command.line}: {command.words}"
     got = said.stdout.splitlines()
     if command.printed is not None:
-        got += [it for it in said.stderr.splitlines() if it.startswith("lqtx: ")]
+        got += [line for line in said.stderr.splitlines() if line.startswith("lqtx: ")]
         if got != command.printed:
             yield f"{place}: prints {got}, and the page says {command.printed}"
     elif said.returncode != code_of(command):
         yield f"{place}: ends with {said.returncode}: {said.stderr[-300:]}"
-    if command.words in PRINTED and command.line and "".join(f"    {it}\n" for it in got) not in text:
+    if command.words in PRINTED and command.line and "".join(f"    {line}\n" for line in got) not in text:
         yield f"{place}: the page lacks what it prints: {got}"
 
 
@@ -134,7 +134,7 @@ def faults_of_page(page):
     """Runs the commands of a page in a folder of its own."""
     lines = (TOP / page).read_text(encoding="utf-8").splitlines()
     commands = (commands_of_manual if page.endswith(".1") else commands_of_page)(page, lines)
-    commands = [it for it in commands if not it.is_left_out()]
+    commands = [command for command in commands if not command.is_left_out()]
     if len(commands) < FEWEST[page]:
         yield f"{page}: {len(commands)} commands are found, and there were {FEWEST[page]}"
     room = pathlib.Path(tempfile.mkdtemp())

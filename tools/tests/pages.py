@@ -39,7 +39,7 @@ def faults_with(name, changes):
     for path, text in (FILES | changes).items():
         (top / path).parent.mkdir(parents=True, exist_ok=True)
         (top / path).write_text(text, encoding="utf-8")
-    return [it.removeprefix("docs/CHANGING.md: A fate: ") for it in exemplars.faults(top)]
+    return [fault.removeprefix("docs/CHANGING.md: A fate: ") for fault in exemplars.faults(top)]
 
 
 @case
@@ -71,7 +71,7 @@ def other_spellings_of_a_number():
     for line, found in (("gone: int = 64", True), ("if (path_gone < 64)", True), ("64 are gone", True), ("GONE", True), ("gone = 640", False),
                         ("gone\n64", False), ("went = 64", False)):  # fmt: skip
         has = faults_with("spelled", {"docs/CHANGING.md": page, "tools/other": line + "\n"})
-        is_equal(f"a line {line!r}", any(it.startswith("tools/other names GONE") for it in has), found)
+        is_equal(f"a line {line!r}", any(named.startswith("tools/other names GONE") for named in has), found)
 
 
 @case
@@ -101,4 +101,4 @@ def crates_of_the_library_page():
     lines = re.search(r"grep -E '\^\((.*)\):'", page)[1].split("|")
     named = re.findall(r"`(\w+)`", re.search(r"For the second one copy (.*?), and the file", page, re.S)[1])
     for found, example in ((copied, "lq_example_ring"), (lines, "lq_example_ring"), (named, "lq_example_tap")):
-        is_equal(f"LIBRARY.md: the crates of {example}", sorted(found), sorted(it for it in crates.in_order(uses, example)))
+        is_equal(f"LIBRARY.md: the crates of {example}", sorted(found), sorted(crate for crate in crates.in_order(uses, example)))

@@ -1,16 +1,15 @@
 """The plan for a link of a rate."""
-import struct
 import subprocess
 
 from lib import by_time, plans
 from tests.bench import HERE, ROOM, TOP, case, expect, expect_none, fault, frame, is_equal, run
+from tests.made_captures import classic
 
 
 def capture_at(frames, link=1):
     """A capture of frames with these times, in microseconds, and lengths on the wire."""
-    head = struct.pack("<IHHIIII", 0xA1B2C3D4, 2, 4, 0, 0, 65535, link)
-    data = frame(0, 0, 0)[14 if link == 101 else 0:]
-    return head + b"".join(struct.pack("<IIII", time // 10**6, time % 10**6, len(data), length) + data for time, length in frames)
+    times, lengths = zip(*frames) if frames else ((), ())
+    return classic([1000 * time for time in times], [frame(0, 0, 0)[14 * (link == 101) :]] * len(times), link=link, lengths=lengths)
 
 
 @case
@@ -50,8 +49,8 @@ def at_rate():
     expect("at-rate, a time that goes back", said, 1, "a link takes no such capture. To sort them", ": reordercap ")
     is_equal("at-rate, a time that goes back: what is printed", said[1], "")
     # frames that come as the link carries them, and some that come four times as quickly
-    expect("at-rate, a capture of the link", of([(124 * it, 1514) for it in range(150)], "100mbit"), 0, "it seems to be taken on the link itself, behind its queue")
-    expect_none("at-rate, a capture of what comes", of([(124 * it if it < 300 else 27900 + 31 * it, 1514) for it in range(450)], "100mbit"), "behind its queue")
+    expect("at-rate, a capture of the link", of([(124 * number, 1514) for number in range(150)], "100mbit"), 0, "it seems to be taken on the link itself, behind its queue")
+    expect_none("at-rate, a capture of what comes", of([(124 * number if number < 300 else 27900 + 31 * number, 1514) for number in range(450)], "100mbit"), "behind its queue")
     expect("at-rate, no capture", run(HERE / "at-rate", TOP / "README.md", "100mbit"), 1, "neither pcap nor pcapng")
     expect("at-rate, no file", run(HERE / "at-rate", room / "none", "100mbit"), 1, "No such file")
 

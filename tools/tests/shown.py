@@ -12,6 +12,7 @@ import tomllib
 
 from lib import captures, packets
 from tests.bench import ROOM, HERE, TOP, capture_of, case, expect, expect_none, fates_of, fault, frame, run
+from tests.made_captures import block, enhanced, interface, option, section, simple
 
 
 def shown(name, plan, capture, *words):
@@ -38,7 +39,7 @@ HEAD = "number,time,length,sender,station,queue,band,dscp,protocol,source,source
 
 def expect_table(name, file, first, rows):
     text = file.read_text(encoding="utf-8")
-    if text != "".join(it + "\n" for it in [HEAD, *(f"{first + n},{it}" for n, it in enumerate(rows))]):
+    if text != "".join(line + "\n" for line in [HEAD, *(f"{first + n},{row}" for n, row in enumerate(rows))]):
         fault(f"{name}: the table is {text}")
 
 
@@ -52,8 +53,8 @@ def waits_and_table():
     # a reader that has had enough at once doesn't keep the files from being written
     table.unlink()
     words = [HERE / "show-run", ROOM / "shown/six.toml", ROOM / "shown/six.pcap", ROOM / "shown/six", "--table", table]
-    with subprocess.Popen([str(it) for it in words], stdout=subprocess.PIPE, env=os.environ | {"PYTHONUNBUFFERED": "1"}) as it:
-        it.stdout.close()
+    with subprocess.Popen([str(word) for word in words], stdout=subprocess.PIPE, env=os.environ | {"PYTHONUNBUFFERED": "1"}) as process:
+        process.stdout.close()
     expect_table("table, nobody reads", table, 0, SIX_ROWS)
     expect("table, numbers from 1", shown("six", SLOW, SIX, "--table", table, "--numbers-from", "1"), 0)
     expect_table("table, numbers from 1", table, 1, SIX_ROWS)
@@ -61,10 +62,10 @@ def waits_and_table():
     for ending in (".json", ".jsonl"):
         expect(f"table{ending}", shown("six", SLOW, SIX, "--table", table.with_suffix(ending), "--numbers-from", "1"), 0)
         text = table.with_suffix(ending).read_text(encoding="utf-8")
-        found = json.loads(text) if ending == ".json" else [json.loads(it) for it in text.splitlines()]
-        as_text = lambda it: "" if it is None else str(it).lower() if isinstance(it, bool) else str(it)
-        for it, row in zip(found, rows):
-            told = {key: f"{value:.6f}" if key in ("time", "waited_seconds") else as_text(value) for key, value in it.items()}
+        found = json.loads(text) if ending == ".json" else [json.loads(line) for line in text.splitlines()]
+        as_text = lambda value: "" if value is None else str(value).lower() if isinstance(value, bool) else str(value)
+        for entry, row in zip(found, rows):
+            told = {key: f"{value:.6f}" if key in ("time", "waited_seconds") else as_text(value) for key, value in entry.items()}
             if told != row or len(found) != 6:
                 fault(f"table{ending}: {told} beside {row}")
     # an event: packets 1 and 2 are purged before packet 3, for which two and one came in the meantime; the last is full behind a ring of one slot
@@ -80,7 +81,7 @@ def waits_and_table():
     said = run(HERE / "show-run", ROOM / "shown/many.toml", ROOM / "shown/six.pcap", ROOM / "shown/many", "--table", table)
     expect("table, several senders", said, 0, "backlog, waits, and what was sent after the last packet aren't known")
     expect_none("table, several senders", said, "after the last packet\n band", "backlog at most")
-    expect_table("table, several senders", table, 0, [re.sub(r"34,0,", f"34,{n % 2},", re.sub(r",\d+,[\d.]+,\w+$", ",,,", it)) for n, it in enumerate(SIX_ROWS)])
+    expect_table("table, several senders", table, 0, [re.sub(r"34,0,", f"34,{n % 2},", re.sub(r",\d+,[\d.]+,\w+$", ",,,", row)) for n, row in enumerate(SIX_ROWS)])
     # the queue of a child is that of its group's device
     expect("table, a group", shown("group", "version = 3\n[[station]]\n[[station]]\nmq = 2\n", capture_of(frame(0, 3, 1)), "--table", table), 0)
     expect_table("table, a group", table, 0, ["0.000000,34,0,2,1,1,0,0,0.0.0.3,,0.0.0.1,,sent,,2,0,0,0.000000,false"])
@@ -123,17 +124,9 @@ def flows():
         of = packets.Packets(captures.Capture(head + struct.pack(">IIII", 5, 7, len(data), len(data)) + data))
         # once as the last packet of the file, and once before another
         more = packets.Packets(captures.Capture(of.capture.data + struct.pack(">IIII", 5, 7, 40, 40) + bytes(40)))
-        for at, it in ((of, packets.Flows(of)), (more, packets.Flows(more))):
-            if (it.services[0], tuple(it.flows[it.of[0]]), at.times[0], at.digits) != (service, flow, 5000000007, 9):
-                fault(f"the flow of {name} is {it.services[0]}, {it.flows[it.of[0]]} at {at.times[0]}")
-
-
-def block(order, kind, body):
-    return struct.pack(order + "II", kind, len(body) + 12) + body + struct.pack(order + "I", len(body) + 12)
-
-
-def option(order, number, value):
-    return struct.pack(order + "HH", number, len(value)) + value + bytes(-len(value) % 4)
+        for at, its in ((of, packets.Flows(of)), (more, packets.Flows(more))):
+            if (its.services[0], tuple(its.flows[its.of[0]]), at.times[0], at.digits) != (service, flow, 5000000007, 9):
+                fault(f"the flow of {name} is {its.services[0]}, {its.flows[its.of[0]]} at {at.times[0]}")
 
 
 def blocks_of(data, order):
@@ -163,13 +156,11 @@ def marked():
             file = ROOM / "shown/marked.pcapng"
             expect(f"marked, {name} {order}", shown("marked", SLOW, head + records, "--marked", file), 0)
             found = list(blocks_of(file.read_bytes(), order))
-            wanted = [block(order, 0x0A0D0D0A, struct.pack(order + "IHHq", 0x1A2B3C4D, 1, 0, -1)),
-                      block(order, 1, struct.pack(order + "HHI", 1, 0, 77) + option(order, 9, bytes([part])) + bytes(4))]  # fmt: skip
+            wanted = [section(order), block(order, 1, struct.pack(order + "HHI", 1, 0, 77) + option(order, 9, bytes([part])) + bytes(4))]
             for n, told in enumerate(fates):
-                time = (4294967290 + n) * 10**part + 999990 + n
-                body = struct.pack(order + "IIIII", 0, time >> 32, time & 0xFFFFFFFF, 34 + n, 1500 + n) + frame(0, 7, 9) + b"x" * n
-                wanted.append(block(order, 6, body + bytes(-len(body) % 4) + option(order, 1, f"lqtx: {told}".encode()) + bytes(4)))
-            if [it for _, it in found] != wanted:
+                options = option(order, 1, f"lqtx: {told}".encode()) + bytes(4)
+                wanted.append(enhanced(order, frame(0, 7, 9) + b"x" * n, 0, (4294967290 + n) * 10**part + 999990 + n, 1500 + n, options))
+            if [data for _, data in found] != wanted:
                 fault(f"marked, {name} {order}: {file.read_bytes().hex()}")
     marked_pcapng()
 
@@ -177,31 +168,31 @@ def marked():
 def marked_pcapng():
     """All blocks and options of a pcapng stay, a comment that was there too; a simple packet block has no place for one."""
     for order in "<>":
-        packet = lambda more: block(order, 6, struct.pack(order + "IIIII", 1, 5, 6, 34, 34) + frame(0, 7, 9) + bytes(2) + more)
+        packet = lambda options: enhanced(order, frame(0, 7, 9), 1, 5 << 32 | 6, options=options)
         parts = [
-            block(order, 1, struct.pack(order + "HHI", 101, 0, 0)),
-            block(order, 1, struct.pack(order + "HHI", 1, 0, 0) + option(order, 2, b"eth0") + option(order, 9, b"\x03") + bytes(4)),
+            interface(order, 101),
+            interface(order, 1, option(order, 2, b"eth0") + option(order, 9, b"\x03") + bytes(4)),
             block(order, 4, b"names   "),
             packet(b""),
             packet(option(order, 1, b"seen before") + option(order, 2, bytes(4)) + bytes(4)),
-            block(order, 3, struct.pack(order + "I", 34) + frame(0, 7, 9) + bytes(2)),
+            simple(order, frame(0, 7, 9)),
             packet(option(order, 2, b"\1\0\0\0")),
             block(order, 5, bytes(16)),
             block(order, 0xBAD, b"own data"),
         ]
-        section = lambda long: block(order, 0x0A0D0D0A, struct.pack(order + "IHHq", 0x1A2B3C4D, 1, 0, long) + option(order, 4, b"tcpdump") + bytes(4))
+        head = lambda length: section(order, length=length, options=option(order, 4, b"tcpdump") + bytes(4))
         for given in (False, True):
-            data, file = section(len(b"".join(parts)) if given else -1) + b"".join(parts), ROOM / "shown/ng-marked.pcapng"
+            data, file = head(len(b"".join(parts)) if given else -1) + b"".join(parts), ROOM / "shown/ng-marked.pcapng"
             said = shown("ng", "[[station]]\n", data, "--marked", file, "--table", ROOM / "shown/ng.csv")
             expect(f"marked pcapng, {order}", said, 0, "1 simple packet blocks have no place for a comment")
             found, comments = [], []
-            for kind, it in list(blocks_of(file.read_bytes(), order))[1:]:
-                kept, comment = without_comment(order, it) if kind == 6 else (it, None)
+            for kind, whole in list(blocks_of(file.read_bytes(), order))[1:]:
+                kept, comment = without_comment(order, whole) if kind == 6 else (whole, None)
                 found.append(kept)
                 comments += [comment] * (kind == 6)
             wanted = [f"lqtx: sent 0 {n}, station 0, queue 0, band 1".encode() for n in (0, 1, 3)]
-            rest = len(file.read_bytes()) - len(section(-1))
-            if found != parts or comments != wanted or not file.read_bytes().startswith(section(rest if given else -1)):
+            rest = len(file.read_bytes()) - len(head(-1))
+            if found != parts or comments != wanted or not file.read_bytes().startswith(head(rest if given else -1)):
                 fault(f"marked pcapng, {order}: {comments}, {[a == b for a, b in zip(found, parts)]}")
             # milliseconds, and no time where the block has none
             times = [row["time"] for row in csv.DictReader((ROOM / "shown/ng.csv").open(encoding="utf-8"))]
@@ -246,13 +237,13 @@ def seen_on(page, fragment, size="1200,900"):
     words += ["--enable-logging=stderr", "--virtual-time-budget=10000", "--dump-dom", f"file://{copy}{fragment}"]
     said = subprocess.run(words, capture_output=True, text=True, timeout=240)
     title = re.search(r"<title>(.*?)</title>", said.stdout, re.S)
-    return dict(it.partition("=")[::2] for it in html.unescape(title[1] if title else "").removeprefix("seen ").split("|")), re.findall(r"CONSOLE.*", said.stderr)
+    return dict(word.partition("=")[::2] for word in html.unescape(title[1] if title else "").removeprefix("seen ").split("|")), re.findall(r"CONSOLE.*", said.stderr)
 
 
 def expect_seen(name, page, fragment, wanted, **more):
     seen, faults = seen_on(page, fragment, **more)
     for key, value in wanted.items():
-        if seen.get(key) != value and not (isinstance(value, list) and all(it in seen.get(key, "") for it in value)):
+        if seen.get(key) != value and not (isinstance(value, list) and all(part in seen.get(key, "") for part in value)):
             fault(f"{name}: {key} is {seen.get(key)!r}, not {value!r}; {seen.get('fault')}")
     if faults:
         fault(f"{name}: {faults}")

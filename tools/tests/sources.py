@@ -88,9 +88,9 @@ pub fn kept_law(w: u32) -> u32 {
 def of_sources(name, files):
     """A repository with these files, and no tool but those that read them: the comments of others name files that it doesn't have."""
     top = repository(name, files)
-    for file in (top / "tools").glob("**/*"):
-        if file.is_file() and file.name not in ("dead", "names", "__init__.py", "words.py", "definitions.py", "comments.py"):
-            file.unlink()
+    for path in (top / "tools").glob("**/*"):
+        if path.is_file() and path.name not in ("dead", "names", "__init__.py", "words.py", "definitions.py", "comments.py"):
+            path.unlink()
     return top
 
 
@@ -124,8 +124,8 @@ def names():
     other = {"crates/high/specs/Words.antt": "abbrev pub word : ℕ\nword = 2\n", "crates/high/specs/More.antt": "abbrev pub word : ℕ\nword = 3\n"}
     top = repository("names", SMALL | other)
     expect("names", run(top / "tools/names"), 1, "word has 3 meanings: crates/high/specs/More.antt:1,", "1 names have several meanings")
-    for module in ("More", "Words"):
-        (top / f"crates/high/specs/{module}.antt").unlink()
+    for name in ("More", "Words"):
+        (top / f"crates/high/specs/{name}.antt").unlink()
     expect("names, once each", run(top / "tools/names"), 0, "each name of a definition has one meaning")
 
 

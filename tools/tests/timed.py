@@ -5,7 +5,7 @@ from lib import captures, plans, times
 from lib.places import Places
 from tests.bench import HERE, ROOM, case, expect, expect_picture, fault, frame, is_equal, run
 from tests.flows import ICMP, PUBLISHED, framed, packet
-from tests.made_captures import block, classic, option, padded
+from tests.made_captures import classic, enhanced, interface, option, section, simple
 
 HERE_AND_THERE = [0, 5000, 10000, 10000, 9999, 40000, 86400000040000]
 
@@ -17,16 +17,12 @@ def plan_of(text):
     return plans.plan_of(root)
 
 
-def blocks(order, interfaces, packets):
+def pcapng(order, interfaces, packets):
     """A pcapng capture: the options of its interfaces, and of each packet its interface and its units, or None for a simple packet."""
-    yield block(order, 0x0A0D0D0A, struct.pack(order + "IHHq", 0x1A2B3C4D, 1, 0, -1))
-    yield from (block(order, 1, struct.pack(order + "HHI", 1, 0, 0) + b"".join(option(order, *it) for it in options)) for options in interfaces)
     data = frame(0, 0, 0)
-    for it in packets:
-        if it is None:
-            yield block(order, 3, struct.pack(order + "I", len(data)) + padded(data))
-        else:
-            yield block(order, 6, struct.pack(order + "IIIII", it[0], it[1] >> 32, it[1] & 0xFFFFFFFF, len(data), len(data)) + padded(data))
+    options = (b"".join(option(order, *pair) for pair in pairs) for pairs in interfaces)
+    found = (simple(order, data) if packet is None else enhanced(order, data, *packet) for packet in packets)
+    return captures.Capture(section(order, *(interface(order, 1, given) for given in options), *found))
 
 
 @case
@@ -48,8 +44,7 @@ def times_of_captures():
             "options behind the end of options": ([[(0, b""), (9, b"\x09")]], [(0, 4)], [4000]),
         }
         for name, (interfaces, packets, wanted) in rows.items():
-            capture = captures.Capture(b"".join(blocks(order, interfaces, packets)))
-            is_equal(f"times, {order}, {name}", list(times.moments_of(capture)), wanted)
+            is_equal(f"times, {order}, {name}", list(times.moments_of(pcapng(order, interfaces, packets))), wanted)
 
 
 @case
@@ -74,8 +69,8 @@ def places_by_flow():
     wanted = [0x51CCC178, 0x323E8FC2, third, None]
     is_equal("the hashes", flow.hashes, wanted)
     firsts, many, queues = [0, 3, 4], [3, 1, 2], [1, 4, 1]
-    for n, it in enumerate(wanted):
-        route, child, own = (it & 0xFFFF, it >> 16, it) if it is not None else (0, 0, 0)
+    for n, number in enumerate(wanted):
+        route, child, own = (number & 0xFFFF, number >> 16, number) if number is not None else (0, 0, 0)
         group = route % 3
         is_equal(f"packet {n} by flow", (flow.stations[n], flow.queues[n], flow.senders[n]), (firsts[group] + child % many[group], child % queues[group], own % 7))
     is_equal("packets by bytes", (list(source.stations), list(source.queues), list(source.senders)), ([5, 5, 4 + 7 % 2, 0], [0, 0, 0, 0], [0, 1, 2, 3]))
@@ -88,12 +83,12 @@ def swept_by_time():
     room.mkdir()
     (room / "c.pcap").write_bytes(classic([0, 1000, 2000, 3000, 4000], [frame(0, 0, 0)] * 5, is_nano=True))
     (room / "p.toml").write_text("version = 4\nirq_us = 1\n[[station]]\nlen = 1\nburst = 1\n", encoding="utf-8")
-    program = HERE / "tests/by_the_rules.py"
+    program = HERE / "tests/by-the-rules"
     said = run(HERE / "sweep", "p.toml", "c.pcap", "irq_us=1..4", "s.csv", "s.svg", "--program", program, cwd=room)
     expect("sweep by time", said, 0, "fewest not sent: 0, first at irq_us=1")
     # with 2, packet 1 leaves the requeue slot at 2 and packet 2 the ring at 4, so packet 3 finds no room; with 3 and 4, packet 2 is in the ring until the end
-    rows = [it.split(",")[-6:-1] for it in (room / "s.csv").read_text(encoding="utf-8").splitlines() if ",all," in it]
-    is_equal("the sweep by time", [(it[0], it[1]) for it in rows], [("5", "0"), ("4", "1"), ("3", "2"), ("3", "2")])
+    rows = [line.split(",")[-6:-1] for line in (room / "s.csv").read_text(encoding="utf-8").splitlines() if ",all," in line]
+    is_equal("the sweep by time", [(row[0], row[1]) for row in rows], [("5", "0"), ("4", "1"), ("3", "2"), ("3", "2")])
     expect("sweep by time, both keys", run(HERE / "sweep", "p.toml", "c.pcap", "irq_every=1,2", "s.csv", "--program", program, cwd=room), 1, "it is used in place of `irq_every`")
 
 
@@ -107,10 +102,10 @@ def shown_by_time():
     (room / "o.fates").write_text("0 sent 0 0\n1 sent 0 1\n2 sent 0 2\n3 full 2\n4 sent 0 3\n5 sent 0 4\n", encoding="utf-8")
     said = run(HERE / "show-run", "p.toml", "c.pcap", "o", "o.svg", "b.svg", "--table", "o.csv", "--html", "o.html", cwd=room)
     expect("show-run by time", said, 0, " 4 sent while packets came, and 1 after the last packet\n", "  backlog at most 2 pkt; wait 0 pkt (0.000000000 s) in the middle, 2 pkt (0.000018000 s) at most; 1 sent after")
-    rows = [it.split(",")[-3:] for it in (room / "o.csv").read_text(encoding="utf-8").splitlines()[1:]]
+    rows = [line.split(",")[-3:] for line in (room / "o.csv").read_text(encoding="utf-8").splitlines()[1:]]
     is_equal("the waits", rows, [["0", "0.000000000", "false"], ["2", "0.000009000", "false"], ["1", "0.000018000", "false"], ["0", "0.000000000", "false"], ["0", "0.000000000", "false"], ["0", "0.000000000", "true"]])
     expect_picture("show-run by time", room / "o.svg", "seconds after the first packet to the right", ">0.00002</text>")
     # one packet waits from 34 microseconds on, where the picture ends
     expect_picture("the backlog by time", room / "b.svg", "seconds after the first packet to the right", ">0.00002</text>", "L306,", "after the")
-    if not all(f'"{it}":' in (room / "o.html").read_text(encoding="utf-8") for it in ("wait", "moment")):
+    if not all(f'"{name}":' in (room / "o.html").read_text(encoding="utf-8") for name in ("wait", "moment")):
         fault("the page by time: it has no waits, or no moments")

@@ -50,14 +50,14 @@ def wrong_bodies_in_rounds():
     top, wrong.TOP = wrong.TOP, small_crate()
     try:
         functions, edits = wrong.functions_of("low"), wrong.edits_of("low")
-        is_equal("functions", [it.path for it in functions], ["ring::SlotsRing::put", "ring::place", "ring::law"])
-        targets = {it.name.removesuffix(".edit"): it.targets for it in edits}
+        is_equal("functions", [function.path for function in functions], ["ring::SlotsRing::put", "ring::place", "ring::law"])
+        targets = {edit.name.removesuffix(".edit"): edit.targets for edit in edits}
         wanted = {"put_nowhere": ["ring::SlotsRing::put"], "no_place": ["ring::place"], "another_law": ["ring::law"], "another_definition": []}
         is_equal("what edits change", targets, wanted)
-        rounds = wrong.rounds_of([it for it in edits if it.targets], functions)
-        names = [[it.name.removesuffix(".edit") for it in there] for there in rounds]
+        rounds = wrong.rounds_of([edit for edit in edits if edit.targets], functions)
+        names = [[edit.name.removesuffix(".edit") for edit in there] for there in rounds]
         is_equal("a caller and its callee are tried apart", names, [["another_law", "no_place"], ["put_nowhere"]])
-        judged = {it.name.removesuffix(".edit"): wrong.judged(it, SAID) for it in edits if it.targets}
+        judged = {edit.name.removesuffix(".edit"): wrong.judged(edit, SAID) for edit in edits if edit.targets}
         is_equal("refused by an answer", judged["put_nowhere"].said, "refused: proofs/ring/SlotsRing/put/Answers.antt:3:1: error: `returns`: the two types differ")
         is_equal("refused by a search", judged["another_law"].said.partition(": it is")[0], "refused: src/ring.rt:15:1")
         is_equal("still proved, or not tried", judged["no_place"], None)

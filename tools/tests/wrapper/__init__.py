@@ -1,0 +1,1 @@
+"""Cases of tools/test-wrapper, by topic."""
