@@ -3,6 +3,7 @@ import os
 import struct
 from array import array
 from functools import cached_property
+from operator import sub
 
 from lib import ways_out
 from lib.words import Failed
@@ -29,12 +30,12 @@ class Broken(Failed):
 
 
 class Capture:
-    """The packets of a capture: for each its place and length in the file, its length on the wire, and its class."""
+    """The packets of a capture: for each where its record and its frame stand, how many bytes are captured, its length on the wire, and its class."""
 
     def __init__(self, data):
         self.data = data
         self.starts, self.ends = array("Q"), array("Q")  # of records and of packet blocks
-        self.lengths = array("I")
+        self.frames, self.captured, self.lengths, self.interfaces = array("Q"), array("I"), array("I"), array("I")
         # of the IPv4 header: its type of service, and the bytes by which a packet is placed; 0 without one
         self.services, self.routes, self.sources = bytearray(), bytearray(), bytearray()
         self.without_header = 0  # packets with no IPv4 header, whatever they carry
@@ -49,6 +50,7 @@ class Capture:
             raise Broken("its header is cut off", 1)
         else:
             raise Broken("it is neither a pcap nor a pcapng file", 2)
+        self.classify()
 
     def __len__(self):
         return len(self.lengths)
@@ -58,6 +60,12 @@ class Capture:
         """The band of each packet."""
         return self.services.translate(BAND_OF_SERVICE)
 
+    @cached_property
+    def types(self):
+        """The link type of each packet; a simple one is of the first interface, which may be missing."""
+        links = self.links or [0]
+        return links * len(self) if len(links) == 1 else [links[interface] for interface in self.interfaces]
+
     def is_pcapng(self):
         return self.data[:4] == BLOCK
 
@@ -65,117 +73,78 @@ class Capture:
         data, size = self.data, len(self.data)
         if size < 24:
             raise Broken("its header is cut off", 1)
-        link, two = struct.unpack_from(order + "I", data, 20)[0], struct.Struct(order + "II").unpack_from
-        self.order, self.links = order, [link]
+        self.order, self.links = order, [struct.unpack_from(order + "I", data, 20)[0]]
         self.head.append(bytes(data[:24]))
-        # an untagged frame with an IPv4 header is read by one call: a capture may have a million records
-        whole = struct.Struct(order + "8xII12x2sBB13xB3xB")
-        starts, lengths, unpack = self.starts.append, self.lengths.append, whole.unpack_from
-        services, routes, sources = self.services.append, self.routes.append, self.sources.append
-        at, last = 24, size - whole.size if link == 1 else 0
-        add = self.adder()
-        try:
-            while at < size:
-                if at <= last:
-                    captured, length, kind, version, tos, source, route = unpack(data, at)
-                    if kind == IPV4 and captured >= 34 and 64 <= version < 80:
-                        starts(at)
-                        lengths(length)
-                        services(tos)
-                        sources(source)
-                        routes(route)
-                        at += 16 + captured
-                        continue
-                captured, length = two(data, at + 8)
-                add(link, at, 0, at + 16, captured, length)
-                at += 16 + captured
-        except (struct.error, IndexError):
-            at = size + 1
+        unpack, at = struct.Struct(order + "8xII").unpack_from, 24
+        starts, lengths = self.starts.append, self.lengths.append
+        while at + 16 <= size:
+            captured, length = unpack(data, at)
+            starts(at)
+            lengths(length)
+            at += 16 + captured
         if at != size:
-            raise Broken(f"a record is cut off at {self.starts[-1] if self.starts else 24}", 6)
-        self.ends = self.starts[1:] + array("Q", [size] * bool(self.starts))
+            raise Broken(f"a record is cut off at {at if at < size else self.starts[-1]}", 6)
+        self.ends, self.frames = self.starts[1:] + array("Q", [size] * bool(self.starts)), array("Q", map((16).__add__, self.starts))
+        self.captured, self.interfaces = array("I", map(sub, self.ends, self.frames)), array("I", bytes(4 * len(self)))
 
     def read_blocks(self):
         data, size = self.data, len(self.data)
         order = {b"\x4d\x3c\x2b\x1a": "<", b"\x1a\x2b\x3c\x4d": ">"}.get(bytes(data[8:12]))
         if order is None:
             raise Broken("it doesn't show its byte order", 12)
-        two, three = struct.Struct(order + "II").unpack_from, struct.Struct(order + "III").unpack_from
+        two, packet = struct.Struct(order + "II").unpack_from, struct.Struct(order + "I8xII").unpack_from
         self.order = order
-        links, cuts, add, at = self.links, [], self.adder(), 0
-        # as of records
-        whole = struct.Struct(order + "III8xII12x2sBB13xB3xB")
-        last, unpack, ethernet = size - whole.size, whole.unpack_from, set()
-        starts, ends, lengths = self.starts.append, self.ends.append, self.lengths.append
-        services, routes, sources = self.services.append, self.routes.append, self.sources.append
+        links, cuts, add, at = self.links, [], self.add, 0
         while at < size:
-            if at <= last:
-                kind, total, interface, captured, length, ether, version, tos, source, route = unpack(data, at)
-                end = at + total
-                if kind == 6 and ether == IPV4 and interface in ethernet and captured >= 34 and 64 <= version < 80 and total >= 66 and not total % 4 and end <= size:
-                    starts(at)
-                    ends(end)
-                    lengths(length)
-                    services(tos)
-                    sources(source)
-                    routes(route)
-                    at = end
-                    continue
-            if at + 12 > size:
-                raise Broken(f"a block is cut off at {at}", 10)
-            kind, total = two(data, at)
+            kind, total = two(data, at) if at + 12 <= size else (0, 0)
             end = at + total
             # the type of such a block is the same in either byte order, and its length isn't
-            if at and data[at : at + 4] == BLOCK:
+            if at and data[at : at + 4] == BLOCK and at + 12 <= size:
                 raise Broken(f"a second section begins at {at}", 15)
             if total < 12 or total % 4 or end > size:
                 raise Broken(f"a block is cut off at {at}", 10)
             if kind == 6:
-                interface, _, _ = three(data, at + 8)
-                captured, length = two(data, at + 20)
+                interface, captured, length = packet(data, at + 8)
                 if interface >= len(links):
                     raise Broken(f"the block at {at} has no interface", 13)
-                add(links[interface], at, end, at + 28, captured, length)
+                add(at, end, at + 28, captured, length, interface)
             elif kind == 3:
                 length = two(data, at + 8)[0]
-                add(links[0] if links else 0, at, end, at + 12, min(length, cuts[0]) if cuts and cuts[0] else length, length)
+                add(at, end, at + 12, min(length, cuts[0]) if cuts and cuts[0] else length, length, 0)
             elif kind == 1:
                 links.append(struct.unpack_from(order + "H", data, at + 8)[0])
-                if links[-1] == 1:
-                    ethernet.add(len(links) - 1)
                 cuts.append(struct.unpack_from(order + "I", data, at + 12)[0])
                 self.head.append(bytes(data[at:end]))
             elif at == 0:
                 self.head.append(bytes(data[:16]) + b"\xff" * 8 + bytes(data[24:end]))
             at = end
 
-    def adder(self):
-        """What takes a packet: the link type, its record, its frame's place and captured length, and its length on the wire."""
-        data = self.data
-        starts, ends, lengths = self.starts.append, self.ends.append, self.lengths.append
-        services, routes, sources = self.services.append, self.routes.append, self.sources.append
+    def add(self, start, end, frame, captured, length, interface):
+        self.starts.append(start)
+        self.ends.append(end)
+        self.frames.append(frame)
+        self.captured.append(captured)
+        self.lengths.append(length)
+        self.interfaces.append(interface)
 
-        def add(link, start, end, frame, captured, length):
-            starts(start)
-            ends(end)
-            lengths(length)
-            until, head = frame + captured, frame + captured
-            if link == 1:
-                kind = data[frame + 12 : frame + 14]
-                head = frame + 14 if kind == IPV4 else frame + 18 if kind == TAG and data[frame + 16 : frame + 18] == IPV4 else until
-            elif link == 101:
-                head = frame
-            if head + 20 <= until and data[head] >> 4 == 4:
-                services(data[head + 1])
-                sources(data[head + 15])
-                routes(data[head + 19])
-            else:
-                services(0)
-                sources(0)
-                routes(0)
-                self.without_header += 1
-
-        return add
+    def classify(self):
+        """Finds the header by which each packet has its class."""
+        data, services, routes, sources = self.data, self.services.append, self.routes.append, self.sources.append
+        # an untagged frame with an IPv4 header is read by one call: a capture may have a million records
+        unpack = struct.Struct("12x2sBB13xB3xB").unpack_from
+        for at, captured, link in zip(self.frames, self.captured, self.types):
+            if link == 1 and captured >= 34:
+                kind, version, service, source, route = unpack(data, at)
+                if kind == IPV4 and 64 <= version < 80:
+                    services(service)
+                    sources(source)
+                    routes(route)
+                    continue
+            head = header_at(data, at, at + captured, link)
+            self.without_header += head is None
+            services(data[head + 1] if head else 0)
+            sources(data[head + 15] if head else 0)
+            routes(data[head + 19] if head else 0)
 
     def written(self, numbers):
         """A file of these packets alone, in the format of the capture."""
@@ -183,10 +152,13 @@ class Capture:
         return b"".join([*self.head, *(data[self.starts[n] : self.ends[n]] for n in numbers)])
 
 
-def interface_at(capture, at):
-    """The interface of the packet whose block begins there."""
-    kind, _, interface = struct.unpack_from(capture.order + "III", capture.data, at)
-    return interface if kind == 6 else 0
+def header_at(data, at, until, link):
+    """Where the IPv4 header begins that is looked at; None where there is none."""
+    head = at if link == 101 else until
+    if link == 1:
+        kind = data[at + 12 : at + 14]
+        head = at + 14 if kind == IPV4 else at + 18 if kind == TAG and data[at + 16 : at + 18] == IPV4 else until
+    return head if head + 20 <= until and data[head] >> 4 == 4 else None
 
 
 def kinds_of_blocks(capture):
@@ -218,8 +190,15 @@ def read(name, code=1):
         raise Failed(f"{name}: {way_out_of(name, fault)}", code) from None
 
 
+def classic(packets, link=1, nanoseconds=True, longest=2**18):
+    """The pieces of a classic capture: of each packet its time in nanoseconds, what is captured of it, and its length on the wire."""
+    yield struct.pack("<IHHiIII", 0xA1B23C4D if nanoseconds else 0xA1B2C3D4, 2, 4, 0, 0, longest, link)
+    for time, data, length in packets:
+        seconds, part = divmod(time, 10**9)
+        yield struct.pack("<IIII", seconds, part if nanoseconds else part // 1000, len(data), length) + data
+
+
 def ethernet(frames, times=None):
     """The text of a classic capture of Ethernet frames, at these nanoseconds or a second apart."""
-    head = struct.pack("<IHHiIII", 0xA1B2C3D4 if times is None else 0xA1B23C4D, 2, 4, 0, 0, 65535, 1)
-    moments = [(n, 0) for n in range(len(frames))] if times is None else [divmod(time, 10**9) for time in times]
-    return head + b"".join(struct.pack("<IIII", *moment, len(frame), len(frame)) + frame for moment, frame in zip(moments, frames))
+    moments = [n * 10**9 for n in range(len(frames))] if times is None else times
+    return b"".join(classic(((time, frame, len(frame)) for time, frame in zip(moments, frames)), nanoseconds=times is not None, longest=65535))

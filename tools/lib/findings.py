@@ -8,16 +8,14 @@ can be read only once: who has read it already gives the capture.
 import os
 import shutil
 import stat
-from array import array
 from collections import Counter
 from functools import cached_property
 from itertools import accumulate
 from math import inf
-from operator import gt, lt, sub
+from operator import gt, lt
 from typing import NamedTuple
 
 from lib import captures, flow_hash, plans, ways_out
-from lib.packets import Packets
 from lib.times import moments_of
 from lib.wire import bytes_of_wire, frame_lengths
 from lib.words import Failed, say
@@ -69,13 +67,7 @@ class Seen:
 
     def __init__(self, name, capture, plan):
         self.name, self.capture, self.plan, self.data, self.count = name, capture, plan, capture.data, len(capture)
-        if capture.is_pcapng():
-            of = Packets(capture)
-            self.frames, self.captured, self.links = of.frames, of.captured, of.links
-        else:
-            self.frames = array("Q", map((16).__add__, capture.starts))
-            self.captured, self.links = array("I", map(sub, capture.ends, self.frames)), capture.links * self.count
-
+        self.frames, self.captured, self.links = capture.frames, capture.captured, capture.types
         self.word = ways_out.quoted(f"./{name}" if str(name).startswith("-") else str(name))
         # the format in which editcap keeps its times
         self.form = "pcapng" if capture.is_pcapng() else "nsecpcap" if capture.data[:4] in ways_out.NANOSECONDS else "pcap"
@@ -211,7 +203,7 @@ def interfaces(seen):
     capture = seen.capture
     if not capture.is_pcapng() or len(capture.links) < 2:
         return
-    counts = Counter(captures.interface_at(capture, at) for at in capture.starts)
+    counts = Counter(capture.interfaces)
     if len(counts) > 1:
         each = ", ".join(f"{counts[interface]:,} of interface {interface}" for interface in sorted(counts))
         most = max(counts, key=lambda interface: counts[interface])

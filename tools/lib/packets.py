@@ -2,14 +2,12 @@
 import socket
 import struct
 from array import array
-from itertools import repeat
 from typing import NamedTuple, Optional
 
 from lib.times import SECOND, digits_of, times_of
 
 # in place of a time, which is in nanoseconds, and of a DSCP
 NO_TIME, NO_DSCP = -(2**63), 255
-SIMPLE = 3  # the type of a packet block of pcapng that has no time and is of interface 0
 PROTOCOLS = {1: "icmp", 2: "igmp", 6: "tcp", 17: "udp", 33: "dccp", 47: "gre", 50: "esp", 58: "icmpv6", 89: "ospf", 132: "sctp", 136: "udplite"}
 WITH_PORTS = frozenset((6, 17, 33, 132, 136))
 # bytes 6 and 7 of an IPv4 header that isn't a later fragment, which has no ports
@@ -98,35 +96,12 @@ def flow_of_ipv6(data, head, until):
 
 
 class Packets:
-    """Of each packet of a capture its time in nanoseconds, its link type, and where its frame stands and how long that is; and how many digits of a second times have."""
+    """Of each packet of a capture its time in nanoseconds, beside its frame; and how many digits of a second times have."""
 
     def __init__(self, capture):
         self.capture, self.digits = capture, digits_of(capture)
+        self.frames, self.captured, self.links = capture.frames, capture.captured, capture.types
         self.times = array("q", (NO_TIME if time is None or not -(2**63) <= time < 2**63 else time for time in times_of(capture)))
-        self.frames, self.captured, self.links = array("Q"), array("I"), repeat(capture.links[0] if capture.links else 0)
-        if capture.is_pcapng():
-            self.read_blocks()
-        else:
-            unpack = struct.Struct(capture.order + "8xI").unpack_from
-            self.frames = array("Q", (at + 16 for at in capture.starts))
-            self.captured = array("I", (unpack(capture.data, at)[0] for at in capture.starts))
-
-    def read_blocks(self):
-        capture, data, links = self.capture, self.capture.data, []
-        unpack, simple = struct.Struct(capture.order + "I8xI").unpack_from, struct.Struct(capture.order + "I").unpack_from
-        cut = simple(capture.head[1], 12)[0] if len(capture.head) > 1 else 0
-        for at in capture.starts:
-            if simple(data, at)[0] == SIMPLE:
-                length = simple(data, at + 8)[0]
-                self.frames.append(at + 12)
-                self.captured.append(min(length, cut) if cut else length)
-                links.append(capture.links[0] if capture.links else 0)
-                continue
-            interface, captured = unpack(data, at + 8)
-            self.frames.append(at + 28)
-            self.captured.append(captured)
-            links.append(capture.links[interface])
-        self.links = links
 
 
 class Flows:

@@ -8,7 +8,6 @@ from functools import cached_property
 
 from lib.captures import BAND
 from lib.flow_hash import flow_of
-from lib.packets import Packets
 from lib.times import moments_of
 
 # queues are opened so often at most between two packets, however far apart these are
@@ -31,8 +30,8 @@ class Places:
     @cached_property
     def hashes(self):
         """The hash of each packet's flow; None where it has none."""
-        of, data = Packets(self.capture), self.capture.data
-        return [flow_of(bytes(data[at : at + captured]), link) for at, captured, link in zip(of.frames, of.captured, of.links)]
+        of = self.capture
+        return [flow_of(bytes(of.data[at : at + captured]), link) for at, captured, link in zip(of.frames, of.captured, of.types)]
 
     def numbers(self):
         """The numbers that choose a packet's station, and its child and queue: bytes of its addresses, or the lower and the upper half of its flow's hash."""

@@ -6,7 +6,7 @@ from array import array
 from collections import deque
 from typing import NamedTuple
 
-from lib.packets import ETHERNET_HEADER, Packets
+from lib.packets import ETHERNET_HEADER
 
 BYTE = 8_000_000
 # a later time counts as this one
@@ -26,8 +26,7 @@ class Flight(NamedTuple):
 
 def frame_lengths(capture):
     """The length of each packet's frame by the capture; one of raw IP has no header of Ethernet, and gets one."""
-    links = Packets(capture).links if capture.is_pcapng() else capture.links * len(capture)
-    return array("Q", (length + ETHERNET_HEADER * (link == RAW_IP) for length, link in zip(capture.lengths, links)))
+    return array("Q", (length + ETHERNET_HEADER * (link == RAW_IP) for length, link in zip(capture.lengths, capture.types)))
 
 
 def bytes_of_wire(card, length):

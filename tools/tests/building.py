@@ -6,7 +6,7 @@ import subprocess
 import sys
 
 from lib import packed
-from tests.bench import HERE, ROOM, case, expect, fault, is_equal, repository, run
+from tests.bench import HERE, ROOM, case, expect, fault, is_equal, repository, room_of, run, write
 
 
 @case
@@ -22,27 +22,21 @@ def compare_with_c():
 @case
 def first_build():
     """A clone, proved and built by a stand-in, and nothing left behind."""
-    room = ROOM / "first"
-    room.mkdir()
-    top = repository("cloned", {"crates/low/src/lib.rt": ""})
+    room = room_of("first")
     low = "lqtx: proved low by 12 s of a processor, 1 of 1 crates, 0 min 00 s so far, done; under way: none"
     stand_in = f'#!/bin/sh\n[ "$1" != --chain ] || exec echo chain\nmkdir build\necho built >"$1"\necho "{low}"\npwd\n'
-    (top / "tools/build").write_text(stand_in, encoding="utf-8")
-    (top / "tools/build").chmod(0o755)
+    top = repository("cloned", {"crates/low/src/lib.rt": "", "tools/build": stand_in})
     for words in (["init", "-q"], ["add", "-A"], ["-c", "user.name=a", "-c", "user.email=a", "commit", "-q", "-m", "all"]):
         subprocess.run(["git", *words], cwd=top, check=True)
     (room / "rt").symlink_to("/bin/true")
-    said = run(top / "tools/first-build", "--chain", room, env=os.environ | {"PATH": f"{room}:{os.environ['PATH']}"})
-    expect("first-build", said, 0, " processors, ", f"{room}/first-build.", "it took 0 min 00 s; ", "build/: ", "the program: 6 bytes", "chain")
-    said = run(top / "tools/first-build", "--beside", "HEAD", room, env=os.environ | {"PATH": f"{room}:{os.environ['PATH']}"})
-    expect("first-build, two at the same time", said, 0, "low                           12      12", "1 crates of both              12      12")
-    said = run(top / "tools/first-build", "--beside", "no-such-commit", room, env=os.environ | {"PATH": f"{room}:{os.environ['PATH']}"})
-    expect("first-build, no such commit", said, 1, "no-such-commit")
-    expect("first-build, no commit", run(top / "tools/first-build", "--beside"), 2, "tools/first-build --beside COMMIT")
-    if sorted(path.name for path in room.iterdir()) != ["rt"]:
-        fault("first-build leaves files behind")
+    build = lambda *words, path=f"{room}:{os.environ['PATH']}": run(top / "tools/first-build", *words, env=os.environ | {"PATH": path})
+    expect("first-build", build("--chain", room), 0, " processors, ", f"{room}/first-build.", "it took 0 min 00 s; ", "build/: ", "the program: 6 bytes", "chain")
+    expect("first-build, two at the same time", build("--beside", "HEAD", room), 0, "low                           12      12", "1 crates of both              12      12")
+    expect("first-build, no such commit", build("--beside", "no-such-commit", room), 1, "no-such-commit")
+    expect("first-build, no commit", build("--beside"), 2, "tools/first-build --beside COMMIT")
+    is_equal("first-build: what it leaves", [path.name for path in room.iterdir()], ["rt"])
     if not shutil.which("rt", path="/usr/bin:/bin"):
-        expect("first-build, no rt", run(top / "tools/first-build", room, env=os.environ | {"PATH": "/usr/bin:/bin"}), 1, "there is no 'rt' on the PATH")
+        expect("first-build, no rt", build(room, path="/usr/bin:/bin"), 1, "there is no 'rt' on the PATH")
 
 
 @case
@@ -52,9 +46,7 @@ def packed_libraries():
     packed.FILES = packed.FOLDERS = room
     libraries = [room / f"{text}.rlib" for text in texts]
     for library, text in zip(libraries, texts.values()):
-        file = library / "below/std/interface/toolchain/mir.json"
-        file.parent.mkdir(parents=True)
-        file.write_text(text, encoding="utf-8")
+        write(library / "below/std/interface/toolchain/mir.json", text)
         packed.share(library, libraries)
     is_equal("equal interfaces", sorted(path.stat().st_nlink for path in room.rglob("mir.json")), [1, 2, 2])
     packed.pack(libraries)
@@ -92,7 +84,6 @@ sys.exit(3)
 def gate_cost():
     files = {"crates.txt": "low:\nhigh: low\n", "crates/low/must-fail/a_first.edit": "", "crates/low/must-fail/b_second.edit": "", "gate": GATE}
     top = repository("gate", files)
-    (top / "gate").chmod(0o755)
     said = run(top / "tools/gate-cost", "./gate", cwd=top)
     expect("gate-cost", said, 3, "   0.0 == low\n", "rt: low proved\n", "5 passed, 0 failed\n", "processor minutes: proofs ", "low/b_second", "the longest chain of proofs: ", ": low ")
     low = re.search(r"^low +(\d+) +(\d+) +(\d+) ", said[1], re.M)

@@ -1,6 +1,8 @@
 """What is found of a capture, and that the command that is said mends it: each is run where its program is there."""
 import bz2
+import contextlib
 import gzip
+import io
 import lzma
 import os
 import re
@@ -9,9 +11,9 @@ import struct
 import subprocess
 
 from lib import captures, findings
-from tests.bench import HERE, ROOM, TOP, case, expect, expect_none, fates_of, fault, is_equal, run
-from tests.flows import ICMP, TCP, UDP, packet
+from tests.bench import HERE, ROOM, TOP, case, expect, expect_none, fates_of, fault, is_equal, room_of, run, write
 from tests import wireshark
+from tests.flows import ICMP, TCP, UDP, packet
 from tests.made_captures import block, classic, enhanced, interface, padded, section
 
 START = 1_700_000_000 * 10**9
@@ -124,10 +126,7 @@ def mended(room, command, said):
 
 
 def try_found(name, data, plan, parts, count):
-    room = ROOM / f"found-{name}"
-    room.mkdir()
-    (room / f"{name}.cap").write_bytes(data)
-    (room / "p.toml").write_text(plan or "", encoding="utf-8")
+    room = room_of(f"found-{name}", {f"{name}.cap": data, "p.toml": plan or ""})
     said = run(HERE / "check-capture", f"{name}.cap", *["p.toml"] * bool(plan), cwd=room)
     expect(f"check-capture, {name}", said, 4 if name in ("sections", "other-order", "cut-off", "cut-block", "empty", "text", "gz", "xz", "bz2", "zstd", "lz4") else 1, *parts)
     line = next((line for line in said[1].splitlines() if parts[0] in line), "")
@@ -150,11 +149,8 @@ def findings_of_captures():
 
 @case
 def nothing_to_be_said():
-    room = ROOM / "nothing-found"
-    room.mkdir()
     for name, data, plan in CLEAN:
-        (room / "c.pcap").write_bytes(data)
-        (room / "p.toml").write_text(plan or "", encoding="utf-8")
+        room = room_of("nothing-found", {"c.pcap": data, "p.toml": plan or ""})
         expect(f"check-capture, {name}", run(HERE / "check-capture", "c.pcap", *["p.toml"] * bool(plan), cwd=room), 0, "nothing is found")
 
 
@@ -185,14 +181,9 @@ def exchanged_and_piped():
 @case
 def tools_say_what_is_found():
     """Those that run a plan, or make one, say it on standard error, and print what they print without it."""
-    room = ROOM / "told"
-    room.mkdir()
     frames, said = [ether(UDP_PACKET, head) for head in (b"\x08\x00", b"\x88\xa8\0\5\x08\0")] * 2, "2 of 4 packets (50%) have a tag of type 88a8"
-    (room / "c.pcap").write_bytes(classic([START, START + 9000, START + 3000, START + 9000], frames))
-    (room / "p.toml").write_text(BY_TIME, encoding="utf-8")
-    (room / "o.fates").write_text(fates_of({"version": 4, "irq_us": 10, "station": [{}]}, room / "c.pcap"), encoding="utf-8")
-    (room / "program").write_text('#!/bin/sh\ncp o.fates "$4.fates"\n', encoding="utf-8")
-    (room / "program").chmod(0o755)
+    room = room_of("told", {"c.pcap": classic([START, START + 9000, START + 3000, START + 9000], frames), "p.toml": BY_TIME, "program": '#!/bin/sh\ncp o.fates "$4.fates"\n'})
+    write(room / "o.fates", fates_of({"version": 4, "irq_us": 10, "station": [{}]}, room / "c.pcap"))
     for tool, words in (("at-rate", ["c.pcap", "10mbit"]), ("show-run", ["p.toml", "c.pcap", "o"]), ("sweep", ["p.toml", "c.pcap", "irq_us=10..11", "o.csv", "--program", "./program"])):
         told = run(HERE / tool, *words, cwd=room)
         for part in (said, "1 of 4 packets (25%) have an earlier time", "reordercap c.pcap c.sorted.pcap"):
@@ -201,18 +192,14 @@ def tools_say_what_is_found():
 
 @case
 def said_as_another_tool():
-    """As the wrapper calls it: a pipe, which the program is to read, stays as it is."""
-    room = ROOM / "as"
-    room.mkdir()
-    (room / "c.pcap").write_bytes(at_once(BOTH_WAYS))
-    is_equal("check-capture --as", run(HERE / "check-capture", "--as", "lqtx", "c.pcap", TOP / "examples/drops.toml", cwd=room)[:2], (0, ""))
-    expect("check-capture --as", run(HERE / "check-capture", "--as", "lqtx", "c.pcap", cwd=room), 0, "lqtx: c.pcap: both directions are in it")
-    is_equal("check-capture --as, nothing", run(HERE / "check-capture", "--as", "lqtx", TOP / "examples/loopback.pcap"), (0, "", ""))
-    is_equal("check-capture --as, no file", run(HERE / "check-capture", "--as", "lqtx", room / "none"), (0, "", ""))
-    said = subprocess.run(f"({HERE}/check-capture --as lqtx /dev/stdin; cat) <c.pcap | cmp - c.pcap", shell=True, cwd=room, capture_output=True, text=True)
-    is_equal("check-capture --as, a file as standard input", said.returncode, 0)
-    said = subprocess.run(f"cat c.pcap | ({HERE}/check-capture --as lqtx /dev/stdin; cat) | cmp - c.pcap", shell=True, cwd=room, capture_output=True, text=True)
-    is_equal("check-capture --as, a pipe", (said.returncode, said.stderr), (0, ""))
+    """A file that is read once, as a pipe, is left to the program."""
+    both = room_of("as", {"c.pcap": at_once(BOTH_WAYS)}) / "c.pcap"
+    os.mkfifo(both.parent / "pipe")
+    for name, plan, said in ((both, TOP / "examples/drops.toml", ""), (both, None, f"lqtx: {both}: both directions are in it"), (TOP / "examples/loopback.pcap", None, ""),
+                             (both.parent / "none", None, ""), (both.parent / "pipe", None, "")):  # fmt: skip
+        with contextlib.redirect_stderr(io.StringIO()) as told:
+            is_equal(f"{name} is refused", findings.tell("lqtx", name, plan), False)
+        is_equal(f"what is found of {name}", said in told.getvalue() and bool(told.getvalue()) == bool(said), True)
 
 
 SMALL = at_once([IPV4_FRAME] * 3)
@@ -246,9 +233,7 @@ def files_in(room):
 @case
 def hints_that_are_pasted():
     """A hint is pasted into a shell: it makes files that weren't there, changes none that was, and what it made isn't refused."""
-    room, programs = ROOM / "hints", ROOM / "programs"
-    room.mkdir()
-    programs.mkdir()
+    room, programs = room_of("hints"), room_of("programs")
     wireshark.put(programs)
     env = os.environ | {"PATH": f"{programs}:{os.environ['PATH']}"}
     for name, data, part in refused_captures():

@@ -3,17 +3,15 @@ import os
 import shutil
 import subprocess
 
-from tests.bench import HERE, ROOM, TOP, case, expect, fault, is_equal, repository, run
+from tests.bench import HERE, ROOM, TOP, case, expect, fault, is_equal, repository, room_of, run, write
 
 NAMES = ["lqtx", *(f"lqtx-{name}" for name in ("at-rate", "check-capture", "check-plan", "how-long", "show-run", "show-schedule", "sweep"))]
 
 
 def installed(prefix):
     """Installs with a stand-in for the program; the words of the call that it ends by."""
-    program = ROOM / "stand-in"
-    program.write_text(f"#!/bin/sh\nexec {TOP}/tools/tests/by-the-rules \"$@\"\n", encoding="utf-8")
-    program.chmod(0o755)
-    return run(HERE / "install", "--prefix", prefix, "--program", program)
+    write(ROOM / "stand-in", f'#!/bin/sh\nexec {TOP}/tools/tests/by-the-rules "$@"\n')
+    return run(HERE / "install", "--prefix", prefix, "--program", ROOM / "stand-in")
 
 
 def files_below(folder):
@@ -23,10 +21,8 @@ def files_below(folder):
 @case
 def installed_tools_work_anywhere():
     """The commands of docs/INSTALLED.md, in a folder that isn't the repository, by their names alone."""
-    prefix, room = ROOM / "prefix", ROOM / "anywhere"
-    room.mkdir()
+    prefix, room = ROOM / "prefix", room_of("anywhere", {"all.pcap": (TOP / "examples/link.pcap").read_bytes()})
     expect("install", installed(prefix), 0, "7 tools are in", "export PATH=")
-    shutil.copy(TOP / "examples/link.pcap", room / "all.pcap")
     env = os.environ | {"PATH": f"{prefix}/bin:{os.environ['PATH']}"}
     page = (prefix / "lib/lqtx/INSTALLED.md").read_text(encoding="utf-8")
     commands = [line.strip() for line in page.splitlines() if line.startswith("    lqtx")]
@@ -37,39 +33,30 @@ def installed_tools_work_anywhere():
             fault(f"INSTALLED.md: {command}: ends with {said.returncode}: {said.stderr[-300:]}")
     is_equal("INSTALLED.md: outputs", [file for file in files_below(room) if ".lqtx/" not in file], sorted(["all.pcap", "plan.toml", "out/o.0.pcap", "out/o.fates", "out/o.times", "out/o.svg", "out/waiting.svg", "len.csv", "len.svg"]))
     for name in NAMES[1:]:
-        expect(f"{name} --help", subprocess_of([name, "--help"], room, env), 0, f"    {name} ")
-        expect(f"{name}, wrong words", subprocess_of([name, "--no-such"], room, env), 2)
+        expect(f"{name} --help", run(name, "--help", cwd=room, env=env), 0, f"    {name} ")
+        expect(f"{name}, wrong words", run(name, "--no-such", cwd=room, env=env), 2)
     for file in files_below(prefix):
         if "/program" not in file and (str(TOP) in (prefix / file).read_text(encoding="utf-8") or "tools/sweep" in (prefix / file).read_text(encoding="utf-8")):
             fault(f"{file} speaks of the repository")
 
 
-def subprocess_of(words, cwd, env):
-    said = subprocess.run(words, cwd=cwd, env=env, capture_output=True, text=True, timeout=100)
-    return said.returncode, said.stdout, said.stderr
-
-
 @case
 def installed_program():
     """It keeps its inputs, says what is wrong with them, and ends as the program does."""
-    prefix, room = ROOM / "prefix-2", ROOM / "kept"
-    room.mkdir()
+    capture = (TOP / "examples/loopback.pcap").read_bytes()
+    prefix, room = ROOM / "prefix-2", room_of("kept", {"part.0.pcap": capture, "wrong.toml": "[[station]]\nlne = 4\n"})
     installed(prefix)
-    shutil.copy(TOP / "examples/loopback.pcap", room / "part.0.pcap")
     plan, lqtx = TOP / "examples/drops.toml", prefix / "bin/lqtx"
     for out in ("part", "new/../part"):
         expect(f"installed, over its input by {out}", run(lqtx, "run", plan, "part.0.pcap", out, cwd=room), 2, "is an input")
-    is_equal("installed: the input stays", (room / "part.0.pcap").read_bytes(), (TOP / "examples/loopback.pcap").read_bytes())
-    (room / "wrong.toml").write_text("[[station]]\nlne = 4\n", encoding="utf-8")
+    is_equal("installed: the input stays", (room / "part.0.pcap").read_bytes(), capture)
     expect("installed, a wrong plan", run(lqtx, "run", "wrong.toml", "part.0.pcap", "o", cwd=room), 3, "did you mean `len`?")
     expect("installed, exchanged", run(lqtx, "run", "part.0.pcap", plan, "o", cwd=room), 3, "they are exchanged")
 
 
 @case
 def install_and_uninstall():
-    prefix = ROOM / "prefix-3"
-    (prefix / "bin").mkdir(parents=True)
-    (prefix / "bin/other").write_text("", encoding="utf-8")
+    prefix = room_of("prefix-3", {"bin/other": ""})
     expect("uninstall, where nothing is", run(HERE / "install", "--prefix", prefix, "--uninstall"), 0)
     installed(prefix)
     expect("install, once more", installed(prefix), 0)

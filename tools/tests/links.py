@@ -2,12 +2,12 @@
 import csv
 import struct
 
-from lib import captures, plans, retimed
+from lib import captures, plans
 from lib.alone import Run
 from lib.places import Places
 from lib.wire import times_text
 from lib.words import Failed
-from tests.bench import HERE, ROOM, case, expect, expect_picture, fault, frame, is_equal, run
+from tests.bench import HERE, case, expect, expect_picture, fault, frame, is_equal, room_of, run
 from tests.made_captures import classic
 
 MICROSECOND = 1000
@@ -79,10 +79,7 @@ LONG_FIRST = "version = 5\n[[station]]\nrate_kbit = 8000\nring = 1\n"
 @case
 def shown_of_a_link():
     """The second row: 1 waits 1,490 microseconds and 2 waits 1,580, behind a frame of 1,500."""
-    room = ROOM / "link"
-    room.mkdir()
-    (room / "p.toml").write_text(LONG_FIRST, encoding="utf-8")
-    (room / "c.pcap").write_bytes(capture_at([0, 10, 20], [1476, 76, 76]).data)
+    room = room_of("link", {"p.toml": LONG_FIRST, "c.pcap": capture_at([0, 10, 20], [1476, 76, 76]).data})
     made = run(HERE / "tests/by-the-rules", "run", "p.toml", "c.pcap", "o", cwd=room)
     is_equal("the times of a link", (made[0], (room / "o.times").read_text(encoding="utf-8")), (0, "0 0 1500000\n1 1500000 1600000\n2 1600000 1700000\n"))
     show = lambda *words: run(HERE / "show-run", "p.toml", "c.pcap", "o", *words, cwd=room)
@@ -97,7 +94,7 @@ def shown_of_a_link():
     data = (room / "r.pcap").read_bytes()
     found = [struct.unpack_from("<IIII", data, 24 + 50 * number) for number in range(3)]
     is_equal("what a link sent, by its times", found, [(0, 1500000, 34, 1476), (0, 1600000, 34, 76), (0, 1700000, 34, 76)])
-    is_equal("the head of what a link sent", retimed.HEAD.unpack_from(data), (0xA1B23C4D, 2, 4, 0, 0, 2**18, 1))
+    is_equal("the head of what a link sent", struct.unpack_from("<IHHiIII", data), (0xA1B23C4D, 2, 4, 0, 0, 2**18, 1))
     expect("show-run, no unit", show("--retimed", "1", "r.pcap"), 2, "a link has unit 0 alone")
     (room / "o.times").write_text("0 0 1500000\n", encoding="utf-8")
     expect("show-run, times of another run", show(), 1, "o.times hasn't the times of this plan over this capture")
@@ -108,10 +105,7 @@ def shown_of_a_link():
 @case
 def how_long():
     """Of 40 packets at once the first goes, the second waits in the requeue slot and 38 in the ring. At 650 five of these are taken, whose slots stay, and five packets more come."""
-    room = ROOM / "long"
-    room.mkdir()
-    (room / "once.pcap").write_bytes(capture_at([0] * 39 + [1], [76] * 40).data)
-    (room / "twice.pcap").write_bytes(capture_at([0] * 40 + [650] * 5, [76] * 45).data)
+    room = room_of("long", {"once.pcap": capture_at([0] * 39 + [1], [76] * 40).data, "twice.pcap": capture_at([0] * 40 + [650] * 5, [76] * 45).data})
     find = lambda name, *words: run(HERE / "how-long", f"{name}.pcap", "8mbit", *words, "--program", HERE / "tests/by-the-rules", cwd=room)
     expect("how-long", find("once"), 0, "txqueuelen 38 drops none of 40 packets; waits 2000.0 us (median), 3899.0 us (99 of 100)", "39 packets of a band wait at once", "38 was the first that was run", "txqueuelen 37 drops 1 of 40")
     expect("how-long, some dropped", find("once", "--drops", "5"), 0, "txqueuelen 33 drops 5 of 40 packets", "by bisection")

@@ -2,7 +2,7 @@
 import subprocess
 
 from lib import by_time, plans
-from tests.bench import HERE, ROOM, TOP, case, expect, expect_none, fault, frame, is_equal, run
+from tests.bench import HERE, TOP, case, expect, expect_none, fault, frame, is_equal, room_of, run
 from tests.made_captures import classic
 
 
@@ -14,8 +14,7 @@ def capture_at(frames, link=1):
 
 @case
 def at_rate():
-    room = ROOM / "rate"
-    room.mkdir()
+    room = room_of("rate")
 
     def of(frames, *words, link=1):
         (room / "c.pcap").write_bytes(capture_at(frames, link))

@@ -3,7 +3,6 @@ import csv
 import html
 import json
 import os
-import pathlib
 import re
 import shutil
 import struct
@@ -11,20 +10,15 @@ import subprocess
 import tomllib
 
 from lib import captures, packets
-from tests.bench import ROOM, HERE, TOP, capture_of, case, expect, expect_none, fates_of, fault, frame, run
+from tests.bench import ROOM, HERE, TOP, capture_of, case, expect, expect_none, fates_of, fault, frame, room_of, run, write
 from tests.made_captures import block, enhanced, interface, option, section, simple
 
 
 def shown(name, plan, capture, *words):
     """What show-run prints of a run of one sender, whose fates are those that the rules give."""
-    room = ROOM / "shown"
-    room.mkdir(exist_ok=True)
-    (room / f"{name}.toml").write_text(plan, encoding="utf-8")
-    file = capture if isinstance(capture, pathlib.Path) else room / f"{name}.pcap"
-    if file is not capture:
-        file.write_bytes(capture)
-    (room / f"{name}.fates").write_text(fates_of(tomllib.loads(plan), file), encoding="utf-8")
-    return run(HERE / "show-run", room / f"{name}.toml", file, room / name, *words)
+    room = room_of("shown", {f"{name}.toml": plan, f"{name}.pcap": capture})
+    write(room / f"{name}.fates", fates_of(tomllib.loads(plan), room / f"{name}.pcap"))
+    return run(HERE / "show-run", room / f"{name}.toml", room / f"{name}.pcap", room / name, *words)
 
 
 # six packets, a second apart; the device stops after each one, and its queue is opened after the fourth: 0 goes at once, 1 waits in the slot until
@@ -253,7 +247,7 @@ def expect_seen(name, page, fragment, wanted, **more):
 def page():
     """The page of a run; and in a browser, where there is one."""
     file, drops = ROOM / "shown/drops.html", (TOP / "examples/drops.toml").read_text(encoding="utf-8")
-    expect("page", shown("drops", drops, TOP / "examples/loopback.pcap", "--html", file), 0)
+    expect("page", shown("drops", drops, (TOP / "examples/loopback.pcap").read_bytes(), "--html", file), 0)
     text = file.read_text(encoding="utf-8")
     for part in ("112 packets were sent while packets came, and 41 after the last packet", "<td>station 0</td><td>153</td><td>20639</td><td>41</td><td>117</td>", "<td>band 0</td><td>40</td><td>2918</td><td>1</td>"):
         if part not in text:

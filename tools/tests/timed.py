@@ -3,7 +3,7 @@ import struct
 
 from lib import captures, plans, times
 from lib.places import Places
-from tests.bench import HERE, ROOM, case, expect, expect_picture, fault, frame, is_equal, run
+from tests.bench import HERE, case, expect, expect_picture, fault, frame, is_equal, room_of, run
 from tests.flows import ICMP, PUBLISHED, framed, packet
 from tests.made_captures import classic, enhanced, interface, option, section, simple
 
@@ -79,10 +79,8 @@ def places_by_flow():
 @case
 def swept_by_time():
     """A packet is sent when it comes or when the queue is opened, which stops after each: five come within four microseconds."""
-    room = ROOM / "swept"
-    room.mkdir()
-    (room / "c.pcap").write_bytes(classic([0, 1000, 2000, 3000, 4000], [frame(0, 0, 0)] * 5, is_nano=True))
-    (room / "p.toml").write_text("version = 4\nirq_us = 1\n[[station]]\nlen = 1\nburst = 1\n", encoding="utf-8")
+    capture = classic([0, 1000, 2000, 3000, 4000], [frame(0, 0, 0)] * 5, is_nano=True)
+    room = room_of("swept", {"c.pcap": capture, "p.toml": "version = 4\nirq_us = 1\n[[station]]\nlen = 1\nburst = 1\n"})
     program = HERE / "tests/by-the-rules"
     said = run(HERE / "sweep", "p.toml", "c.pcap", "irq_us=1..4", "s.csv", "s.svg", "--program", program, cwd=room)
     expect("sweep by time", said, 0, "fewest not sent: 0, first at irq_us=1")
@@ -95,11 +93,9 @@ def swept_by_time():
 @case
 def shown_by_time():
     """Packet 1 leaves at 10 microseconds, packet 2 at 20, and packet 5 after the last one; packet 3 finds packet 2 in its slot."""
-    room = ROOM / "timed"
-    room.mkdir()
-    (room / "c.pcap").write_bytes(classic([0, 1000, 2000, 3000, 33000, 34000], [frame(0, 0, 0)] * 6, is_nano=True))
-    (room / "p.toml").write_text("version = 4\nirq_us = 10\n[[station]]\nlen = 1\nburst = 1\n", encoding="utf-8")
-    (room / "o.fates").write_text("0 sent 0 0\n1 sent 0 1\n2 sent 0 2\n3 full 2\n4 sent 0 3\n5 sent 0 4\n", encoding="utf-8")
+    capture = classic([0, 1000, 2000, 3000, 33000, 34000], [frame(0, 0, 0)] * 6, is_nano=True)
+    fates = "0 sent 0 0\n1 sent 0 1\n2 sent 0 2\n3 full 2\n4 sent 0 3\n5 sent 0 4\n"
+    room = room_of("timed", {"c.pcap": capture, "p.toml": "version = 4\nirq_us = 10\n[[station]]\nlen = 1\nburst = 1\n", "o.fates": fates})
     said = run(HERE / "show-run", "p.toml", "c.pcap", "o", "o.svg", "b.svg", "--table", "o.csv", "--html", "o.html", cwd=room)
     expect("show-run by time", said, 0, " 4 sent while packets came, and 1 after the last packet\n", "  backlog at most 2 pkt; wait 0 pkt (0.000000000 s) in the middle, 2 pkt (0.000018000 s) at most; 1 sent after")
     rows = [line.split(",")[-3:] for line in (room / "o.csv").read_text(encoding="utf-8").splitlines()[1:]]

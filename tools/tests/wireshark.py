@@ -6,7 +6,6 @@ import shutil
 import sys
 
 from lib import captures
-from lib.packets import Packets
 from lib.times import moments_of
 from tests.made_captures import classic, enhanced, interface, section
 
@@ -32,8 +31,7 @@ def whole_of(data):
 
 def rows_of(capture, most):
     """The time, the frame, of at most so many bytes, and the link type of each packet."""
-    of = Packets(capture)
-    for time, at, captured, link in zip(moments_of(capture), of.frames, of.captured, of.links):
+    for time, at, captured, link in zip(moments_of(capture), capture.frames, capture.captured, capture.types):
         yield time, capture.data[at : at + min(captured, most)], link
 
 

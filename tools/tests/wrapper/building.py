@@ -6,35 +6,45 @@ import shutil
 import time
 
 from tests.bench import TOP
-from tests.wrapper.bench import COOKED_CAPTURE, EMPTY_CAPTURE, HAS_RT_ELSEWHERE, PLAIN_PATH, case
+from tests.wrapper.bench import COOKED_CAPTURE, EMPTY_CAPTURE, case, cases, do
 
 PROCESSORS = len(os.sched_getaffinity(0))
 MANY = min(PROCESSORS, 8)
 NO_PYTHON = "#!/bin/sh\necho python is called >&2\nexit 99\n"
-
-
-@case
-def first_build(lqtx):
-    lqtx.run("words 8", 8, "one low: words 8", [
-        "building, which proves the program first: 1 to 3 min by machine on ", " idle processors, longer beside other work, and 0.9 GB", "it can be interrupted, and goes on from there",
-        "proved low by 0 s of a processor, 1 of 2 crates, 0 min 0", "min in all; under way: none", "proved lqtx by 0 s of a processor, 2 of 2 crates", "built in 0 min"])  # fmt: skip
-    lqtx.calls("low", "lqtx")
-
-
-@case
-def where_the_program_is(lqtx):
-    """For tools that run it many times."""
-    lqtx.run("", 0, LQTX_SHOW_PROGRAM="1")
-    lqtx.check(os.access(lqtx.out.strip(), os.X_OK), f"not a program: {lqtx.out}")
-    lqtx.calls("low", "lqtx")
-    lqtx.tried(0)
-
-
-@case
-def built_already(lqtx):
-    lqtx.run("words")
-    lqtx.run("words", prints="one low: words", silent=True)
-    lqtx.calls("low", "lqtx")
+# of each case its steps
+CASES = {
+    "first build": [
+        do.run("words 8", 8, "one low: words 8", [
+            "building, which proves the program first: 1 to 3 min by machine on ", " idle processors, longer beside other work, and 0.9 GB",
+            "it can be interrupted, and goes on from there", "proved low by 0 s of a processor, 1 of 2 crates, 0 min 0", "min in all; under way: none", "proved lqtx by 0 s of a processor, 2 of 2 crates", "built in 0 min"]),
+        do.calls("low", "lqtx")],
+    # for tools that run it many times
+    "where the program is": [do.run("", 0, LQTX_SHOW_PROGRAM="1"), do.shows_a_program(), do.calls("low", "lqtx"), do.tried(0)],
+    "built already": [do.run("words"), do.run("words", prints="one low: words", silent=True), do.calls("low", "lqtx")],
+    "there and back": [
+        do.run("words"), do.source("low", "two low"), do.run("words", prints="two low: words"), do.source("low", "one low"),
+        do.run("words", prints="one low: words", silent=True), do.calls("low", "lqtx", "low", "lqtx")],
+    "a changed library that is not proved": [
+        do.run("words"), do.source("low", "broken"),
+        *[do.run("words", 1, "", ["fn low::wrong: no proof", "not built: low isn't proved", "@build/log"], hides=["low::sound", "low::above"])] * 2],
+    "another kit": [
+        do.run("words"), do.write("../KIT-ID", "another kit\n"), do.run("words"), do.calls("low", "lqtx", "low", "lqtx"),
+        do.run_without_rt("words", prints="one low: words")],
+    "an empty program is not run": [do.run("words"), do.replace_programs(""), do.run("words 8", 8, "one low: words 8"), do.calls("low", "lqtx", "lqtx")],
+    "a build that was interrupted goes on": [
+        do.run("words"), do.forget_programs(), do.forget("build/libraries/low.sum"), do.run("words"), do.calls("low", "lqtx", "low", "lqtx"),
+        do.forget_programs(), do.run("words"), do.calls("low", "lqtx", "low", "lqtx", "lqtx")],
+    "a program that is not proved": [do.source("lqtx", "broken"), do.run("words", 1, "", "lqtx isn't proved")],
+    "sources that change during the build": [do.write("../edit", ""), do.run("words", 1, "", "the sources changed meanwhile")],
+    "a link from another folder and the caller's paths": [
+        do.link("link", "../repo/lqtx"), do.run(["words", "0", "a b"], prints="one low: words 0 a b", tool="../here/link"),
+        do.run_piped("read", "a line\n", None, "a line\none low: read", tool="../here/link")],
+    "no rt": [do.run_without_rt("words", 1, tells="no 'rt' on the PATH")],
+    "a copy of the wrapper": [
+        do.write("lqtx", (TOP / "lqtx").read_bytes()),
+        do.run("run plan capture out", 1, tool="../here/lqtx", tells="needs its checkout around it: link to the checkout's, or call its tools/install\n")],
+}  # fmt: skip
+cases(CASES)
 
 
 @case
@@ -48,42 +58,6 @@ def sources_that_are_only_newer_or_not_the_program_s(lqtx):
     lqtx.source("low", "an editor's", ".#lib.rt")
     lqtx.run("words", silent=True)
     lqtx.calls("low", "lqtx")
-
-
-@case
-def there_and_back(lqtx):
-    lqtx.run("words")
-    lqtx.source("low", "two low")
-    lqtx.run("words", prints="two low: words")
-    lqtx.source("low", "one low")
-    lqtx.run("words", prints="one low: words", silent=True)
-    lqtx.calls("low", "lqtx", "low", "lqtx")
-
-
-@case
-def a_changed_library_that_is_not_proved(lqtx):
-    lqtx.run("words")
-    lqtx.source("low", "broken")
-    for _ in ("first", "second"):
-        lqtx.run("words", 1, "", ["fn low::wrong: no proof", "not built: low isn't proved", f"{lqtx.build}/log"], hides=["low::sound", "low::above"])
-
-
-@case
-def another_kit(lqtx):
-    lqtx.run("words")
-    lqtx.write(lqtx.room / "KIT-ID", "another kit\n")
-    lqtx.run("words")
-    lqtx.calls("low", "lqtx", "low", "lqtx")
-    if not HAS_RT_ELSEWHERE:
-        lqtx.run("words", prints="one low: words", PATH=PLAIN_PATH)
-
-
-@case
-def an_empty_program_is_not_run(lqtx):
-    lqtx.run("words")
-    lqtx.replace_programs("")
-    lqtx.run("words 8", 8, "one low: words 8")
-    lqtx.calls("low", "lqtx", "lqtx")
 
 
 @case
@@ -107,18 +81,6 @@ def crates_side_by_side_the_longest_chain_first(lqtx):
     (lqtx.build / "libraries/left.sum").unlink()
     lqtx.run("words")
     lqtx.check(re.search(f"^left in {repo}/crates/left: .* --jobs {MANY} ", lqtx.read(lqtx.room / "rattle.words"), re.M), "the longest chain of what is left hasn't all processors")
-
-
-@case
-def a_build_that_was_interrupted_goes_on(lqtx):
-    lqtx.run("words")
-    lqtx.forget_programs()
-    (lqtx.build / "libraries/low.sum").unlink()
-    lqtx.run("words")
-    lqtx.calls("low", "lqtx", "low", "lqtx")
-    lqtx.forget_programs()
-    lqtx.run("words")
-    lqtx.calls("low", "lqtx", "low", "lqtx", "lqtx")
 
 
 @case
@@ -164,31 +126,6 @@ def words_and_inputs_are_judged_before_anything_is_built(lqtx):
 
 
 @case
-def a_program_that_is_not_proved(lqtx):
-    lqtx.source("lqtx", "broken")
-    lqtx.run("words", 1, "", "lqtx isn't proved")
-
-
-@case
-def sources_that_change_during_the_build(lqtx):
-    lqtx.write(lqtx.room / "edit", "")
-    lqtx.run("words", 1, "", "the sources changed meanwhile")
-
-
-@case
-def a_link_from_another_folder_and_the_caller_s_paths(lqtx):
-    (lqtx.here / "link").symlink_to(lqtx.repo / "lqtx")
-    lqtx.run(["words", "0", "a b"], prints="one low: words 0 a b", tool=lqtx.here / "link")
-    lqtx.run_piped("read", "a line\n", None, "a line\none low: read", tool=lqtx.here / "link")
-
-
-@case
-def no_rt(lqtx):
-    if not HAS_RT_ELSEWHERE:
-        lqtx.run("words", 1, tells="no 'rt' on the PATH", PATH=PLAIN_PATH)
-
-
-@case
 def a_checkout_that_can_not_be_written(lqtx):
     lqtx.write(lqtx.build, "")
     lqtx.run("words", 1, tells="can't be written")
@@ -201,12 +138,6 @@ def a_checkout_that_can_not_be_written(lqtx):
     lqtx.run("words", 0, silent=True)
     for path in paths:
         path.chmod(path.stat().st_mode | 0o200)
-
-
-@case
-def a_copy_of_the_wrapper(lqtx):
-    shutil.copy(TOP / "lqtx", lqtx.here)
-    lqtx.run("run plan capture out", 1, tool=lqtx.here / "lqtx", tells=f"lqtx: {lqtx.here}/lqtx needs its checkout around it: link to the checkout's, or call its tools/install\n")
 
 
 # what may change what a program that is there answers: then Python looks, and not the shell alone

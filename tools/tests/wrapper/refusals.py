@@ -1,5 +1,5 @@
 """What the wrapper says of a refusal, of a fault, of a capture, and of a folder as an output."""
-from tests.wrapper.bench import COOKED_CAPTURE, case
+from tests.wrapper.bench import COOKED_CAPTURE, case, cases, do
 
 # of each reason for which a capture is refused what is said of it
 WAYS_OUT = {
@@ -7,69 +7,34 @@ WAYS_OUT = {
     "15 SecondSection": "it has two sections", "7 TooMany": "it has more than 1,000,000 packets", "14 BlockBody": "it breaks the rules of its format",
     "5 LongRecord": "a packet of more than 262,144 bytes", "16 TimeBack": "reordercap capture capture.sorted.pcap",
 }  # fmt: skip
-
-
-@case
-def what_is_refused_is_explained(lqtx):
-    lqtx.run("words")
-    lqtx.write("plan", "[[station]]\nlne = 8\n")
-    lqtx.run("run plan plan out 3", 3, tells="plan:2: station 0, `lne`: no such key; did you mean `len`? (2 UnknownKey)")
-    lqtx.write("plan", "[[station]]\n")
-    lqtx.run("run plan plan out 3", tells="docs/FORMATS.md, 'Plans', explains each reason")
-    for reason, way_out in WAYS_OUT.items():
-        lqtx.write("capture", reason + "\n")
-        lqtx.run("run plan capture out 4", 4, f"capture refused: {reason} at 0", way_out)
-    lqtx.write("schedule", "seats 2 len 4 bypass 0\n0 step 1\n")
-    lqtx.run("trace schedule 7", 7, tells="schedule, line 2: seat 0 can't do step 1 of 1: it is idle: it can begin")
-    lqtx.run("words 2", tells="the manual: man")
-
-
-@case
-def a_fault_and_which_file(lqtx):
-    lqtx.run("words")
-    lqtx.write("plan", "")
-    lqtx.run("run plan capture out", 5, tells="there is no file capture")
-    lqtx.write("capture", "")
-    lqtx.run("run plan . out", tells="a folder, not a file: .")
-    lqtx.run("run plan capture deep/folder/out")
-    lqtx.check((lqtx.here / "deep/folder").is_dir(), "made no folder")
-    lqtx.write("shut", "")
-    lqtx.run("run plan capture shut/folder/out", tells="there is no folder shut/folder")
-    (lqtx.here / "out.3.pcap").mkdir()
-    lqtx.run("run plan capture out", tells="a folder, not a file: out.3.pcap")
-    (lqtx.here / "out.3.pcap").rmdir()
-    lqtx.run("run plan capture out", tells="the disk may be full")
-    lqtx.run("gen 1 2 other/out")
-    lqtx.check((lqtx.here / "other").is_dir(), "made no folder")
-    for words, parts in (("gen 1 2 shut/out", ["a file or standard output can't be opened", "shut"]), ("gen 1 2 out", "the disk may be full"),
-                         ("trace schedule", "there is no file schedule"), ("trace plan", "the disk may be full")):  # fmt: skip
-        lqtx.run(words, tells=parts)
-
-
-@case
-def other_ends(lqtx):
-    lqtx.run("words")
-    for code in (0, 4, 7, 8):
-        lqtx.run(f"words {code}", code, silent=True)
-    lqtx.run("words 6", tells="not enough memory")
-    lqtx.run("words 9", tells="isn't UTF-8")
-
-
-@case
-def no_folder_is_made_before_the_words_and_the_inputs_are_judged(lqtx):
-    lqtx.run("run plan capture deep/folder/out 2", 2, tells="built in")
-    lqtx.run("run plan capture deep/folder/out", 5, tells="there is no file plan")
-    lqtx.check(not (lqtx.here / "deep").exists(), "made a folder")
-
-
-@case
-def out_is_a_folder(lqtx):
-    lqtx.run("words")
-    lqtx.write("plan", "")
-    lqtx.write("capture", "")
-    for out in ("deep/", "./", ".", "..", "deep/.", "deep/.."):
-        lqtx.run(f"run plan capture {out}", 2, tells=f"OUT is the beginning of the outputs' names, and {out} is a folder: write for example {out.removesuffix('/')}/o")
-        lqtx.check(not [*lqtx.here.rglob(".?*.pcap"), *lqtx.here.rglob(".fates")], "makes a file that isn't shown")
+# of each case its steps
+CASES = {
+    "what is refused is explained": [
+        do.run("words"), do.write("plan", "[[station]]\nlne = 8\n"),
+        do.run("run plan plan out 3", 3, tells="plan:2: station 0, `lne`: no such key; did you mean `len`? (2 UnknownKey)"), do.write("plan", "[[station]]\n"),
+        do.run("run plan plan out 3", tells="docs/FORMATS.md, 'Plans', explains each reason"),
+        *(step for reason, way_out in WAYS_OUT.items() for step in (do.write("capture", reason + "\n"), do.run("run plan capture out 4", 4, f"capture refused: {reason} at 0", way_out))),
+        do.write("schedule", "seats 2 len 4 bypass 0\n0 step 1\n"),
+        do.run("trace schedule 7", 7, tells="schedule, line 2: seat 0 can't do step 1 of 1: it is idle: it can begin"),
+        do.run("words 2", tells="the manual: man")],
+    "a fault and which file": [
+        do.run("words"), do.write("plan", ""), do.run("run plan capture out", 5, tells="there is no file capture"), do.write("capture", ""),
+        do.run("run plan . out", tells="a folder, not a file: ."), do.run("run plan capture deep/folder/out"), do.has("deep/folder"), do.write("shut", ""),
+        do.run("run plan capture shut/folder/out", tells="there is no folder shut/folder"), do.folder("out.3.pcap"),
+        do.run("run plan capture out", tells="a folder, not a file: out.3.pcap"), do.remove("out.3.pcap"),
+        do.run("run plan capture out", tells="the disk may be full"), do.run("gen 1 2 other/out"), do.has("other"),
+        *(do.run(words, tells=parts) for words, parts in (("gen 1 2 shut/out", ["a file or standard output can't be opened", "shut"]), ("gen 1 2 out", "the disk may be full"), ("trace schedule", "there is no file schedule"), ("trace plan", "the disk may be full")))],
+    "other ends": [
+        do.run("words"), *(do.run(f"words {code}", code, silent=True) for code in (0, 4, 7, 8)), do.run("words 6", tells="not enough memory"),
+        do.run("words 9", tells="isn't UTF-8")],
+    "no folder is made before the words and the inputs are judged": [
+        do.run("run plan capture deep/folder/out 2", 2, tells="built in"), do.run("run plan capture deep/folder/out", 5, tells="there is no file plan"),
+        do.lacks("deep")],
+    "out is a folder": [
+        do.run("words"), do.write("plan", ""), do.write("capture", ""),
+        *(step for out in ("deep/", "./", ".", "..", "deep/.", "deep/..") for step in (do.run(f"run plan capture {out}", 2, tells=f"OUT is the beginning of the outputs' names, and {out} is a folder: write for example {out.removesuffix('/')}/o"), do.lacks("**/.?*.pcap", "**/.fates")))],
+}  # fmt: skip
+cases(CASES)
 
 
 @case
