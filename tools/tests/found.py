@@ -195,8 +195,8 @@ def said_as_another_tool():
     """A file that is read once, as a pipe, is left to the program."""
     both = room_of("as", {"c.pcap": at_once(BOTH_WAYS)}) / "c.pcap"
     os.mkfifo(both.parent / "pipe")
-    for name, plan, said in ((both, TOP / "examples/drops.toml", ""), (both, None, f"lqtx: {both}: both directions are in it"), (TOP / "examples/loopback.pcap", None, ""),
-                             (both.parent / "none", None, ""), (both.parent / "pipe", None, "")):  # fmt: skip
+    found = f"lqtx: {both}: both directions are in it"
+    for name, plan, said in ((both, TOP / "examples/drops.toml", found), (both, None, found), (TOP / "examples/loopback.pcap", None, ""), (both.parent / "none", None, ""), (both.parent / "pipe", None, "")):
         with contextlib.redirect_stderr(io.StringIO()) as told:
             is_equal(f"{name} is refused", findings.tell("lqtx", name, plan), False)
         is_equal(f"what is found of {name}", said in told.getvalue() and bool(told.getvalue()) == bool(said), True)
