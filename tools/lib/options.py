@@ -4,6 +4,17 @@ import argparse
 from lib.words import Wrong
 
 
+def number(low, high):
+    """The type of an option that is a number in a range."""
+
+    def read(word):
+        if not word.isdecimal() or not low <= int(word) <= high:
+            raise argparse.ArgumentTypeError(f"{word}: it is a number from {low} to {high}")
+        return int(word)
+
+    return read
+
+
 class Parser(argparse.ArgumentParser):
     """Reads the words of a tool; `format_help` is its text with a line for each option that has one."""
 
@@ -13,3 +24,19 @@ class Parser(argparse.ArgumentParser):
 
     def error(self, message):
         raise Wrong(message)
+
+    def take(self, kind, *names):
+        """Options with a value of a kind; with none they have None."""
+        for name in names:
+            self.add_argument(name, type=kind)
+        return self
+
+    def flags(self, *names):
+        for name in names:
+            self.add_argument(name, action="store_true")
+        return self
+
+    def read(self, given):
+        """The options, and the words among them."""
+        self.add_argument("words", nargs="*")
+        return self.parse_intermixed_args(given)

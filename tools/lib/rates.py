@@ -43,12 +43,11 @@ def read_rate(word):
     return int(rate)
 
 
-def add_options(parser, *left_out):
-    for name in OPTIONS:
-        if name not in left_out:
-            parser.add_argument(f"--{name}", type=int)
+def with_options(parser, *left_out):
+    parser.take(int, *(f"--{name}" for name in OPTIONS if name not in left_out))
     parser.add_argument("--preset", choices=PRESETS)
     parser.add_argument("--classify", choices=("tos", "none"), default="tos")
+    return parser
 
 
 def keys_of(given, rate_kbit):
