@@ -10,8 +10,6 @@ from lib.waits import microseconds
 SECTION, INTERFACE, SIMPLE, ENHANCED = 0x0A0D0D0A, 1, 3, 6
 COMMENT, RESOLUTION, FRAME_CHECK = 1, 9, 13
 END_OF_OPTIONS = bytes(4)
-# what fills a length up to a multiple of 4, by what is over
-PADS = [b"", bytes(3), bytes(2), bytes(1)]
 
 
 def place_words(run):
@@ -64,35 +62,23 @@ def of_classic(capture, told):
     yield block(order, SECTION, struct.pack(order + "IHHq", 0x1A2B3C4D, 1, 0, -1))
     yield block(order, INTERFACE, struct.pack(order + "HHI", link & 0xFFFF, 0, snap) + options + END_OF_OPTIONS)
     data, unpack, pack = capture.data, struct.Struct(order + "IIII").unpack_from, struct.Struct(order + "IIIIIII").pack
-    words, length_of, ticks = Comments(order), struct.Struct(order + "I").pack, 10**9 if nanoseconds else 10**6
+    length_of, ticks = struct.Struct(order + "I").pack, 10**9 if nanoseconds else 10**6
     for at, comment in zip(capture.starts, told):
         seconds, part, captured, length = unpack(data, at)
-        time, more = seconds * ticks + part, PADS[captured & 3] + words.option(comment)
+        time, more = seconds * ticks + part, bytes(-captured % 4) + option(order, COMMENT, comment)
         total = 36 + captured + len(more)
         yield pack(ENHANCED, total, 0, time >> 32, time & 0xFFFFFFFF, captured, length) + data[at + 16 : at + 16 + captured] + more + END_OF_OPTIONS + length_of(total)
-
-
-class Comments:
-    """How a comment is written, in a byte order."""
-
-    def __init__(self, order):
-        self.head = struct.Struct(order + "HH").pack
-
-    def option(self, comment):
-        size = len(comment)
-        return self.head(COMMENT, size) + comment + PADS[size & 3]
 
 
 def of_blocks(capture, told):
     """The pieces of a pcapng with the comments: they come before the options that a packet has, and all other bytes stay."""
     order, data, place = capture.order, capture.data, 0
-    words, two, captured_at, pack = Comments(order), struct.Struct(order + "II"), struct.Struct(order + "20xI").unpack_from, struct.Struct(order + "I").pack
-    for at, end, comment in zip(capture.starts, capture.ends, told):
+    two, pack = struct.Struct(order + "II"), struct.Struct(order + "I").pack
+    for at, end, captured, comment in zip(capture.starts, capture.ends, capture.captured, told):
         if two.unpack_from(data, at)[0] != ENHANCED:
             continue
-        captured = captured_at(data, at)[0]
         frame = at + 28 + captured + -captured % 4
-        more = words.option(comment) + (data[frame : end - 4] or END_OF_OPTIONS)
+        more = option(order, COMMENT, comment) + (data[frame : end - 4] or END_OF_OPTIONS)
         total = frame - at + len(more) + 4
         yield data[place:at] + two.pack(ENHANCED, total) + data[at + 8 : frame] + more + pack(total)
         place = end
