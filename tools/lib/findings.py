@@ -18,7 +18,7 @@ from typing import NamedTuple
 from lib import captures, flow_hash, plans, ways_out
 from lib.times import moments_of
 from lib.wire import bytes_of_wire, frame_lengths
-from lib.words import Failed, say
+from lib.words import Failed, counted, say
 
 # reasons for which a capture is refused that is read here (docs/FORMATS.md), and the most that the program reads
 LONG_RECORD, TOO_MANY, TOO_LONG = 5, 7, 9
@@ -172,7 +172,7 @@ def directions_of_ethernet(seen):
         host = max(by, key=lambda address: (by[address], sum(count for (source, _), count in pairs.items() if source == address)))
         sent, got = (sum(count for pair, count in pairs.items() if pair[at] == host) for at in (0, 1))
         address = host.hex(":")
-        said = f"both directions are in it: {sent:,} packets come from {address}, and {got:,} go to it. A device sends one direction. To keep what it sent (with eth.dst what it got)"
+        said = f"both directions are in it: {counted(sent, 'packet comes', 'packets come')} from {address}, and {counted(got, 'goes', 'go')} to it. A device sends one direction. To keep what it sent (with eth.dst what it got)"
         yield Finding(said, only(seen, f"eth.src == {address}", ".sent"))
 
 
@@ -180,7 +180,7 @@ def directions_of_cooked(seen, link):
     at, own = SENT_AT[link], SENT[link]
     ways = Counter(head[at : at + len(own)] == own for head in seen.heads(link, at + len(own)))
     if min(ways[True], ways[False]) >= max(1, BOTH * seen.count):
-        said = f"both directions are in it: the host sent {ways[True]:,} packets and got {ways[False]:,}. A device sends one direction. To keep what was sent (with != what was got)"
+        said = f"both directions are in it: the host sent {counted(ways[True], 'packet', 'packets')} and got {ways[False]:,}. A device sends one direction. To keep what was sent (with != what was got)"
         yield Finding(said, only(seen, "sll.pkttype == 4", ".sent"))
 
 
@@ -188,7 +188,7 @@ def directions_of_raw_ip(seen):
     pairs = Counter((head[12:16], head[16:20]) for head in seen.heads(RAW_IP, 20) if head[0] >> 4 == 4 and head[12] != 127 and head[12:16] != head[16:20])
     least, _ = both_ways(pairs)
     if least >= max(1, BOTH * seen.count):
-        said = f"both directions are in it: {least:,} packets go back between addresses that others come from. A device sends one direction. To capture what comes in alone"
+        said = f"both directions are in it: {counted(least, 'packet goes', 'packets go')} back between addresses that others come from. A device sends one direction. To capture what comes in alone"
         yield Finding(said, f"tcpdump -i INTERFACE -Q in -w {seen.new_name('.in.pcap')}")
 
 

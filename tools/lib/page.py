@@ -9,6 +9,7 @@ from array import array
 from lib import pictures, svg
 from lib.counts import name_of
 from lib.packets import NO_TIME, seconds
+from lib.words import counted
 
 HERE = pathlib.Path(__file__).resolve().parent
 # in place of a station, a queue or a band of a tap, which has none
@@ -120,7 +121,8 @@ def about_of(shown):
         return "With several senders fates don't say when a packet left: backlog, waits and what was sent after the last packet aren't known."
     late = len(shown.waits.late)
     sent = run.of_kinds()[0]["sent"]
-    after = f"{sent - late} packets were sent while packets came, and {late} after the last packet, when queues are opened until nothing is held. " if late else ""
+    came = counted(sent - late, "packet was", "packets were")
+    after = f"{came} sent while packets came, and {late:,} after the last packet, when queues are opened until nothing is held. " if late else ""
     if shown.waits.wire:
         return after + "A wait is how many packets came while one waited, and how long it was until the card accepted it."
     if shown.waits.by_time:

@@ -208,28 +208,6 @@ def hint_for_unknown(section, name, place):
     return f"did you mean `{near[0]}`?" if near else "the keys are " + ", ".join(f"`{key.name}`" for key in keys_for(section, place)[0])
 
 
-def faults_of_table(section, at, place, lines):
-    where = f"{section} {at}" if section else "the top"
-    keys, required = keys_for(section, place)
-    by_name = {key.name: key for key in keys}
-
-    def fault(reason, name, said):
-        line = lines.get((section, at, name)) or lines.get((section, at, None))
-        return Fault(reason, line, f"{where}, `{name}`", said)
-
-    for name, value in place.table.items():
-        key = by_name.get(name)
-        if key is None:
-            yield fault(UNKNOWN_KEY, name, f"no such key; {hint_for_unknown(section, name, place)}")
-        elif not has_kind(key, value):
-            one = " (one table was written: a second pair of brackets is missing)" if key.kind == "tables" and isinstance(value, dict) else ""
-            yield fault(KIND, name, f"{shown(value)} isn't {wanted(key, place)}{one}")
-        elif not is_within(key, value, place):
-            yield fault(RANGE, name, f"{shown(value)} isn't {wanted(key, place)}{hint_for_range(section, key, value, place)}")
-    for name in sorted(required - set(place.table)):
-        yield Fault(MISSING, lines.get((section, at, None)), f"{where}, `{name}`", f"it is missing: {wanted(by_name[name], place)}")
-
-
 def shown(value):
     if isinstance(value, bool):
         return str(value).lower()
@@ -253,81 +231,117 @@ def hint_for_range(section, key, value, place):
     return "; `max_len` is at least `len`" if key.name == "max_len" else ""
 
 
-def faults_of_order(root, lines):
-    """Events whose `before` falls, or that meet a station that is in another state."""
-    last, down = 0, set()
-    for at, event in enumerate(tables_at(root, "event")):
-        before, kind, station = number_at(event, "before", 0), event.get("kind"), number_at(event, "station", 0)
-        line = lines.get(("event", at, None))
-        if before < last:
-            yield Fault(EVENT_ORDER, line, f"event {at}, `before`", f"{before} comes after {last}: events are written in the order in which they come")
-        if kind == "up" and station not in down:
-            yield Fault(EVENT_ORDER, line, f"event {at}", f"station {station} is active: an \"up\" comes after a \"down\" alone")
-        if kind != "up" and station in down:
-            yield Fault(EVENT_ORDER, line, f"event {at}", f"station {station} is deactivated: only an \"up\" may come")
-        last = max(before, last)
-        down = down | {station} if kind == "down" else down - {station}
-
-
 def numbered(counts):
     """So many children of each station of the plan have numbers in fates and counts, all of them one after the other."""
     return [range(end - many, end) for many, end in zip(counts, accumulate(counts))]
 
 
-def faults_of_groups(root, lines):
-    """What may not be together in a plan of groups: too many children, several queues of a child, a swap of what they share."""
-    children = numbered([number_at(table, "mq", 1) for table in tables_at(root, "station")])
-    if sum(map(len, children)) > CHILDREN:
-        yield Fault(RANGE, None, "the top, `station`", f"{sum(map(len, children))} children in all are more than {CHILDREN}")
-    for at, table in enumerate(tables_at(root, "station")):
-        if len(children[at]) > 1 and number_at(table, "queues", 1) > 1:
-            yield Fault(RANGE, lines.get(("station", at, "queues")), f"station {at}, `queues`", "it is 1 beside an `mq` above 1: rings over several queues, or rings for each")
-    for at, event in enumerate(tables_at(root, "event")):
-        station = number_at(event, "station", 0)
-        if event.get("kind") == "swap" and station < len(children) and len(children[station]) > 1:
-            yield Fault(RANGE, lines.get(("event", at, "kind")), f"event {at}, `kind`", f"no \"swap\" at station {station}, which has {len(children[station])} children on one device")
+class Judge:
+    """A document with the lines of its keys, and what is wrong with it."""
 
+    def __init__(self, root, text):
+        self.root, self.version, self.lines, self.faults = root, version_of(root), lines_of_keys(text), []
+        self.stations, self.events = tables_at(root, "station"), tables_at(root, "event")
 
-def faults_of_openings(root, lines):
-    """Queues are opened by packets or by time."""
-    if "irq_every" in root and "irq_us" in root:
-        yield Fault(RANGE, lines.get(("", 0, "irq_us")), "the top, `irq_us`", "it is used in place of `irq_every`: a plan has one of the two")
+    def add(self, reason, section, at, name, said):
+        """Notes a fault of a table, or of a key of it."""
+        line = self.lines.get((section, at, name)) or self.lines.get((section, at, None))
+        self.faults.append(Fault(reason, line, (f"{section} {at}" if section else "the top") + (f", `{name}`" if name else ""), said))
 
+    def judge(self):
+        """All faults, those with the least reason first."""
+        self.judge_table("", 0, self.root)
+        for section, tables in (("station", self.stations), ("event", self.events)):
+            for at, table in enumerate(tables):
+                self.judge_table(section, at, table)
+        if self.version > 2:
+            self.judge_groups()
+        if self.version > 3 and "irq_every" in self.root and "irq_us" in self.root:
+            self.add(RANGE, "", 0, "irq_us", "it is used in place of `irq_every`: a plan has one of the two")
+        if self.version > 4:
+            self.judge_cards()
+        if not self.faults:
+            self.judge_order()
+        if self.version > 4:
+            self.judge_links()
+        return sorted(self.faults, key=lambda fault: (fault.reason, fault.line or 0))
 
-def faults_of_cards(root, lines):
-    """What a card doesn't go with: it opens the queue itself, and its device stops that at each packet and does nothing else."""
-    for at, table in enumerate(tables_at(root, "station")):
+    def judge_table(self, section, at, table):
+        place = Place(self.root, self.version, table)
+        keys, required = keys_for(section, place)
+        by_name = {key.name: key for key in keys}
+        for name, value in table.items():
+            key = by_name.get(name)
+            if key is None:
+                self.add(UNKNOWN_KEY, section, at, name, f"no such key; {hint_for_unknown(section, name, place)}")
+            elif not has_kind(key, value):
+                one = " (one table was written: a second pair of brackets is missing)" if key.kind == "tables" and isinstance(value, dict) else ""
+                self.add(KIND, section, at, name, f"{shown(value)} isn't {wanted(key, place)}{one}")
+            elif not is_within(key, value, place):
+                self.add(RANGE, section, at, name, f"{shown(value)} isn't {wanted(key, place)}{hint_for_range(section, key, value, place)}")
+        for name in sorted(required - set(table)):
+            self.add(MISSING, section, at, name, f"it is missing: {wanted(by_name[name], place)}")
 
-        def fault(name, said, where="station", number=at):
-            return Fault(RANGE, lines.get((where, number, name)), f"{where} {number}, `{name}`" if where else f"the top, `{name}`", said)
+    def judge_order(self):
+        """Events whose `before` falls, or that meet a station that is in another state."""
+        last, down = 0, set()
+        for at, event in enumerate(self.events):
+            before, kind, station = number_at(event, "before", 0), event.get("kind"), number_at(event, "station", 0)
+            if before < last:
+                self.add(EVENT_ORDER, "event", at, "before", f"{before} comes after {last}: events are written in the order in which they come")
+            if kind == "up" and station not in down:
+                self.add(EVENT_ORDER, "event", at, None, f"station {station} is active: an \"up\" comes after a \"down\" alone")
+            if kind != "up" and station in down:
+                self.add(EVENT_ORDER, "event", at, None, f"station {station} is deactivated: only an \"up\" may come")
+            last = max(before, last)
+            down = down | {station} if kind == "down" else down - {station}
 
-        if "rate_kbit" not in table:
-            yield from (fault(key.name, "it is of a card: it needs `rate_kbit` beside it") for key in CARD if key.name in table)
-            continue
-        yield from (fault(name, f"the card of station {at} opens the queue", "", 0) for name in ("irq_every", "irq_us") if name in root)
-        if number_at(table, "burst", 1) != 1:
-            yield fault("burst", "beside `rate_kbit` it is 1: the device stops its queue at each packet, and the card opens it while there is room")
-        for name in ("busy_every", "hang_after"):
-            if number_at(table, name, 0):
-                yield fault(name, "it is 0 beside `rate_kbit`")
-        if number_at(table, "overhead", 24) + number_at(table, "mpu", 84) == 0:
-            yield fault("mpu", "a frame without bytes takes no time: `overhead` or `mpu` is above 0")
-        yield from (fault("kind", f'no "swap" of a card\'s device, which station {at} has', "event", number) for number, event in enumerate(tables_at(root, "event")) if event.get("kind") == "swap")
+    def judge_groups(self):
+        """What may not be together in a plan of groups: too many children, several queues of a child, a swap of what they share."""
+        children = numbered([number_at(table, "mq", 1) for table in self.stations])
+        if sum(map(len, children)) > CHILDREN:
+            self.add(RANGE, "", 0, "station", f"{sum(map(len, children))} children in all are more than {CHILDREN}")
+        for at, table in enumerate(self.stations):
+            if len(children[at]) > 1 and number_at(table, "queues", 1) > 1:
+                self.add(RANGE, "station", at, "queues", "it is 1 beside an `mq` above 1: rings over several queues, or rings for each")
+        for at, event in enumerate(self.events):
+            station = number_at(event, "station", 0)
+            if event.get("kind") == "swap" and station < len(children) and len(children[station]) > 1:
+                self.add(RANGE, "event", at, "kind", f"no \"swap\" at station {station}, which has {len(children[station])} children on one device")
 
+    def judge_cards(self):
+        """What a card doesn't go with: it opens the queue itself, and its device stops that at each packet and does nothing else."""
+        for at, table in enumerate(self.stations):
+            if "rate_kbit" not in table:
+                for name in (key.name for key in CARD if key.name in table):
+                    self.add(RANGE, "station", at, name, "it is of a card: it needs `rate_kbit` beside it")
+                continue
+            for name in ("irq_every", "irq_us"):
+                if name in self.root:
+                    self.add(RANGE, "", 0, name, f"the card of station {at} opens the queue")
+            if number_at(table, "burst", 1) != 1:
+                self.add(RANGE, "station", at, "burst", "beside `rate_kbit` it is 1: the device stops its queue at each packet, and the card opens it while there is room")
+            for name in ("busy_every", "hang_after"):
+                if number_at(table, name, 0):
+                    self.add(RANGE, "station", at, name, "it is 0 beside `rate_kbit`")
+            if number_at(table, "overhead", 24) + number_at(table, "mpu", 84) == 0:
+                self.add(RANGE, "station", at, "mpu", "a frame without bytes takes no time: `overhead` or `mpu` is above 0")
+            for number, event in enumerate(self.events):
+                if event.get("kind") == "swap":
+                    self.add(RANGE, "event", number, "kind", f'no "swap" of a card\'s device, which station {at} has')
 
-def faults_of_links(root, lines):
-    """A link has one limit, and a plan with a link has one station with one queue."""
-    stations = tables_at(root, "station")
-    for at, table in enumerate(stations):
-        if "ring" in table and number_at(table, "bql", 0):
-            yield Fault(TWO_LIMITS, lines.get(("station", at, "bql")), f"station {at}, `bql`", "beside `ring` it is 0: where both limits bind, Linux takes several packets at once")
-        if "rate_kbit" not in table:
-            continue
-        for name in ("queues", "mq"):
-            if number_at(table, name, 1) > 1:
-                yield Fault(ONE_LINK, lines.get(("station", at, name)), f"station {at}, `{name}`", "it is 1 beside `rate_kbit`: a link has one queue")
-        if len(stations) > 1:
-            yield Fault(ONE_LINK, lines.get(("station", at, "rate_kbit")), f"station {at}, `rate_kbit`", f"a plan with a link has one station, and not {len(stations)}")
+    def judge_links(self):
+        """A link has one limit, and a plan with a link has one station with one queue."""
+        for at, table in enumerate(self.stations):
+            if "ring" in table and number_at(table, "bql", 0):
+                self.add(TWO_LIMITS, "station", at, "bql", "beside `ring` it is 0: where both limits bind, Linux takes several packets at once")
+            if "rate_kbit" not in table:
+                continue
+            for name in ("queues", "mq"):
+                if number_at(table, name, 1) > 1:
+                    self.add(ONE_LINK, "station", at, name, "it is 1 beside `rate_kbit`: a link has one queue")
+            if len(self.stations) > 1:
+                self.add(ONE_LINK, "station", at, "rate_kbit", f"a plan with a link has one station, and not {len(self.stations)}")
 
 
 def excess_of(value, depth=0):
@@ -343,36 +357,18 @@ def judge(data):
     """The document that the bytes of a plan are, or None; and its faults, those with the least reason first."""
     if len(data) > 65536:
         return None, [Fault(TOO_LONG, None, "the file", f"{len(data)} bytes; a plan has at most 65536")]
+    no_toml = lambda line, said: (None, [Fault(NOT_TOML, line, "the text", said)])
     try:
         text = data.decode("utf-8")
         root = toml_text.loads(text)
     except UnicodeDecodeError as fault:
-        return None, [Fault(NOT_TOML, data[: fault.start].count(b"\n") + 1, "the text", "it isn't UTF-8")]
+        return no_toml(data[: fault.start].count(b"\n") + 1, "it isn't UTF-8")
     except toml_text.Fault as fault:
         place = re.search(r"\(at line (\d+), column (\d+)\)", str(fault))
-        line = int(place[1]) if place else None
         said = re.sub(r" \(at .*\)", "", str(fault))
-        return None, [Fault(NOT_TOML, line, "the text", said + (f", at column {place[2]}" if place else ", at its end" * ("(at end" in str(fault))))]
+        return no_toml(int(place[1]) if place else None, said + (f", at column {place[2]}" if place else ", at its end" * ("(at end" in str(fault))))
     excess = excess_of(root)
-    if excess:
-        return None, [Fault(NOT_TOML, None, "the text", excess)]
-    lines = lines_of_keys(text.removeprefix("\ufeff"))
-    version = version_of(root)
-    faults = [*faults_of_table("", 0, Place(root, version, root), lines)]
-    for section in ("station", "event"):
-        for at, table in enumerate(tables_at(root, section)):
-            faults += faults_of_table(section, at, Place(root, version, table), lines)
-    if version > 2:
-        faults += faults_of_groups(root, lines)
-    if version > 3:
-        faults += faults_of_openings(root, lines)
-    if version > 4:
-        faults += faults_of_cards(root, lines)
-    if not faults:
-        faults += faults_of_order(root, lines)
-    if version > 4:
-        faults += faults_of_links(root, lines)
-    return root, sorted(faults, key=lambda fault: (fault.reason, fault.line or 0))
+    return no_toml(None, excess) if excess else (root, Judge(root, text.removeprefix("\ufeff")).judge())
 
 
 # WHAT A PLAN SAYS
@@ -446,7 +442,8 @@ def read(name, code=1):
     with open(name, "rb") as file:
         root, faults = judge(file.read())
     if faults:
-        raise Failed(f"{name} is no plan: tools/check-plan {name} says why", code)
+        first = faults[0]
+        raise Failed(f"{name} is no plan, and `lqtx` refuses it: {first.where}: {first.said} ({first.reason} {REASONS[first.reason]}); tools/check-plan {name} says all", code)
     return plan_of(root)
 
 

@@ -58,6 +58,11 @@ def line_of(fault: OSError) -> str:
     return ": ".join([*(names or ["standard output"]), said])
 
 
+def counted(count: int, one: str, many: str) -> str:
+    """So many of something, in words: `counted(1, "packet was", "packets were")`."""
+    return f"{count:,} {one if count == 1 else many}"
+
+
 def ending_of(fault):
     """How a command that was called ended, in words."""
     if isinstance(fault, subprocess.TimeoutExpired):

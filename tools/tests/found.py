@@ -59,9 +59,9 @@ BOTH_WAYS = [ether(UDP_PACKET)] * 3 + [ether(UDP_PACKET, source=THERE_MAC, to=HE
 FOUND = [
     ("back", classic([START, START + 50_000, START + 20_000], [IPV4_FRAME] * 3), BY_TIME, ["1 of 3 packets (33%) have an earlier time", "up to 0.03 ms: the queues are then opened too often", ": reordercap "], 3),
     ("both", at_once(BOTH_WAYS), None, ["3 packets come from 02:00:00:00:00:01, and 2 go to it", "eth.src == 02:00:00:00:00:01"], 3),
-    ("both-cooked", at_once([cooked(4), cooked(0)], 113), None, ["the host sent 1 packets and got 1", "sll.pkttype == 4"], 1),
+    ("both-cooked", at_once([cooked(4), cooked(0)], 113), None, ["the host sent 1 packet and got 1", "sll.pkttype == 4"], 1),
     ("both-cooked-2", at_once([cooked_2(4), cooked_2(4), cooked_2(0)], 276), None, ["the host sent 2 packets and got 1"], 2),
-    ("both-raw", at_once([UDP_PACKET, packet("10.0.1.6", 80, "10.0.0.1", 9, UDP)], 101), None, ["1 packets go back between addresses", "-Q in"], None),
+    ("both-raw", at_once([UDP_PACKET, packet("10.0.1.6", 80, "10.0.0.1", 9, UDP)], 101), None, ["1 packet goes back between addresses", "-Q in"], None),
     ("interfaces", section("<", interface("<"), interface("<"), *(enhanced("<", IPV4_FRAME, at, n) for n, at in enumerate([0, 1, 1]))), None,
      ["packets of 2 interfaces", "1 of interface 0, 2 of interface 1", "frame.interface_id == 1"], 2),
     ("old", section("<", interface("<"), of_old_kind("<", IPV4_FRAME, 5), enhanced("<", IPV4_FRAME, time=9)), None, ["1 packet blocks of the old kind (type 2) aren't read", "1 of 2 are read", ": editcap "], 2),

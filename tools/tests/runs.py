@@ -36,6 +36,10 @@ OTHER_FATES = [
 WRONG = [
     ("{none} {capture} {drops}", 1, "none.toml: No such file"),
     ("{plan} {plan} {drops}", 1, "drops.toml: it is neither pcap nor pcapng"),
+    # a run that was refused has no fates, and why it was is what is said
+    ("{room}/refused.toml {capture} {room}/none", 1, "refused.toml is no plan, and `lqtx` refuses it: station 0, `lne`: no such key; did you mean `len`? (2 UnknownKey)"),
+    ("{room}/many.toml {capture} {room}/none", 1, "many.toml has no run: `lqtx` refuses a plan that needs 17 devices, and there are 16"),
+    ("{plan} {room}/cut.pcap {room}/none", 1, "cut.pcap: a record is cut off at"),
     ("{plan} {capture} {drops} {room}/none/a.svg", 1, "a.svg: No such file"),
     ("{plan} {capture} {drops} {room}/a.png", 2, "a.png: a picture is written as SVG"),
     ("{plan} {capture} {drops} --table {room}/a.xlsx", 2, "a.xlsx: its name ends in .csv, .json or .jsonl"),
@@ -101,6 +105,8 @@ def show_run():
 def show_run_of_other_files(room):
     """Fates that can't be, and words that are wrong: a line, and no file is changed."""
     text = (room / "drops.fates").read_text(encoding="utf-8")
+    swaps = "[[station]]\n" * 8 + "[[event]]\nbefore = 1\nkind = \"swap\"\nstation = 0\n" * 9
+    room_of("runs", {"refused.toml": "[[station]]\nlne = 4\n", "many.toml": swaps, "cut.pcap": LOOPBACK.read_bytes()[:-5]})
     write(room / "cut.fates", text[:-20])
     write(room / "twice.fates", text.replace("1 sent 0 1\n", "1 sent 0 0\n", 1))
     for plan, name, why in OTHER_FATES:
