@@ -1,6 +1,7 @@
 """How long a build takes on this machine, by what it took so far.
 
-    PYTHONPATH=tools python3 -m lib.estimate LOG       what the log of a build said it would take, beside what it took
+    PYTHONPATH=tools python3 -m lib.estimate LOG              what the log of a build said it would take, beside what it took
+    PYTHONPATH=tools python3 -m lib.estimate BEFORE AFTER     what each crate took, by the logs of two builds
 
 The build's schedule is simulated once over the shares of its crates. That gives the second at which each would end on idle processors of the machine
 whose shares they are, and how much processor time the whole has had at each second. The processor time of the crates that have ended, over their
@@ -169,10 +170,22 @@ def beside(text):
     yield f"it took {took // 60} min {took % 60:02} s; from the first minute on {near} of {len(later)} lines were within a third"
 
 
+def side_by_side(before, after):
+    """A line for each crate, with its seconds before and after; then their sums, over the crates of both and over all."""
+    before, after = ({crate: used for _, crate, used, _ in lines_of_log(text) if crate and used is not None} for text in (before, after))
+    yield f"{'seconds of a processor':24}{'before':>8}{'after':>8}"
+    for crate in sorted({*before, *after}):
+        yield f"{crate:24}{before.get(crate, ''):>8}{after.get(crate, ''):>8}"
+    both = [crate for crate in before if crate in after]
+    yield f"{f'{len(both)} crates of both':24}{sum(before[crate] for crate in both):>8}{sum(after[crate] for crate in both):>8}"
+    yield f"{'all':24}{sum(before.values()):>8}{sum(after.values()):>8}"
+
+
 def main(given):
-    if len(given) != 1 or given[0].startswith("-"):
-        raise words.Wrong("usage: PYTHONPATH=tools python3 -m lib.estimate LOG")
-    print("\n".join(beside(pathlib.Path(given[0]).read_text(encoding="utf-8", errors="replace"))))
+    if not 1 <= len(given) <= 2 or any(word.startswith("-") for word in given):
+        raise words.Wrong("usage: PYTHONPATH=tools python3 -m lib.estimate LOG, or BEFORE AFTER")
+    texts = [pathlib.Path(log).read_text(encoding="utf-8", errors="replace") for log in given]
+    print("\n".join(beside(*texts) if len(texts) == 1 else side_by_side(*texts)))
 
 
 if __name__ == "__main__":

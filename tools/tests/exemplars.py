@@ -1,11 +1,7 @@
-"""Finds the files that a chapter of docs/CHANGING.md leaves out.
-
-A chapter begins with the names of its exemplar, one thing of the chapter's kind that exists, and with the number of files that have one of them:
+"""Finds the files that a chapter of docs/CHANGING.md leaves out. A chapter begins with the names of its exemplar, one thing of its kind that exists, and with the
+number of files that have one of them; a number has a name in any case, or in a part of a name, on one line with it:
 
     Exemplar: `NAME`, in tools `name`; some 99 files.
-
-A number has a name in any case, or in a part of a name, on one line with it:
-
     Exemplar: `NAME`, in any spelling beside `64`; some 99 files.
 
 Where a new case goes without a word into a catch-all, no file has the exemplar's name. So a chapter may name the type, and what tools compare a kind with:
@@ -13,10 +9,8 @@ Where a new case goes without a word into a catch-all, no file has the exemplar'
     A catch-all takes a new `TYPE`, in tools beside `NAME`, `OTHER`.
 
 A file has one if it is code that names the type and has an arm with `_`, a definition with `_` in the place of an argument of the type, or a tool that compares
-a kind with one of the names.
-
-Each of these files has to be among the chapter's paths. A path may leave out what it shares with the path before it in its item: `crates`, the
-crate, or the folder. The path of a folder names all files in it, and none for its catch-all. A chapter with a list of files has to have an exemplar.
+a kind with one of the names. Each of these files has to be among the chapter's paths. A path may leave out what it shares with the path before it in its
+item. The path of a folder names all files in it, and none for its catch-all. A chapter with a list of files has to have an exemplar.
 """
 import os
 import pathlib

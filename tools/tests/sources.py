@@ -89,7 +89,7 @@ def of_sources(name, files):
     """A repository with these files, and no tool but those that read them: the comments of others name files that it doesn't have."""
     top = repository(name, files)
     for path in (top / "tools").glob("**/*"):
-        if path.is_file() and path.name not in ("dead", "names", "__init__.py", "words.py", "definitions.py", "comments.py"):
+        if path.is_file() and path.name not in ("dead", "names", "__init__.py", "words.py", "definitions.py"):
             path.unlink()
     return top
 
