@@ -43,8 +43,7 @@ class Definition:
 
 def module_of(path):
     """The name of a file of definitions in imports."""
-    parts = path.relative_to(CRATES).with_suffix("").parts
-    return ".".join(parts)
+    return ".".join(path.relative_to(CRATES).with_suffix("").parts)
 
 
 def blank_strings_and_comments(text):
@@ -117,10 +116,6 @@ class Names:
                 yield self.items[token]
 
 
-def text_without_imports(text):
-    return IMPORT.sub("", text)
-
-
 CLAUSE = re.compile(r"\b(?:requires|ensures)\b[^{};]*(?=\{)")
 TYPE = re.compile(r"^(?:pub(?:\(crate\))? )?(struct|enum|trait) (\w+)", re.M)
 
@@ -183,17 +178,9 @@ def types_of_code(for_reading):
         for match in TYPE.finditer(text):
             first, item = item_with_comment(text, match.start())
             # what contracts see of a type stands in its model
-            models = [
-                item_with_comment(text, model.start())[1]
-                for model in re.finditer(rf"^impl(?:<[^{{]*>)? Model for {match[2]}\b", text, re.M)
-            ]
-            if for_reading:
-                lines = as_contracts_see(item, models)
-            else:
-                lines = item.splitlines()
-                for model in models:
-                    lines += ["", *model.splitlines()]
-            module = ".".join(path.relative_to(CRATES).with_suffix("").parts)
+            models = [item_with_comment(text, model.start())[1] for model in re.finditer(rf"^impl(?:<[^{{]*>)? Model for {match[2]}\b", text, re.M)]
+            lines = as_contracts_see(item, models) if for_reading else "\n\n".join([item, *models]).splitlines()
+            module = module_of(path)
             found[module, match[2]] = Definition(module, match[2], match[1], path, first + 1, True, [], [], lines)
     return found
 
@@ -258,7 +245,7 @@ class Repository:
             *module, name = found[2].split("::")[1:]
             if module[:1] in (["specs"], ["proofs"]):
                 names.items[name] = (".".join([crate, *module]), name)
-        bare = text_without_imports(blank_strings_and_comments(text or whole))
+        bare = IMPORT.sub("", blank_strings_and_comments(text or whole))
         keys = {self.meant(*key) for key in names.mentioned_in(bare)}
         return keys - {None}
 
