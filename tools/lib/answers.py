@@ -3,7 +3,6 @@
 Checks at run time stop it at an index out of bounds, an overflow, a cast that loses bits or a zero divisor. Its outputs are OUT.unproved.* and never OUT.*.
 """
 import contextlib
-import fcntl
 import functools
 import hashlib
 import json
@@ -16,6 +15,7 @@ import sys
 import tempfile
 
 from lib import kept, without_proof
+from lib.crates import alone_in
 from lib.outputs import Command, file_of, is_foreign
 from lib.words import Failed, ignore_signals, say
 
@@ -46,14 +46,7 @@ def make(program):
         return
     try:
         program.parent.mkdir(parents=True, exist_ok=True)
-        with contextlib.ExitStack() as stack:
-            lock = os.open(program.parent, os.O_RDONLY)
-            stack.callback(os.close, lock)
-            try:
-                fcntl.flock(lock, fcntl.LOCK_EX | fcntl.LOCK_NB)
-            except BlockingIOError:
-                tell("another program without a proof is compiled here: this one waits for its end")
-                fcntl.flock(lock, fcntl.LOCK_EX)
+        with alone_in(program.parent, tell, "program without a proof is compiled"):
             if not kept.is_made(program):
                 kind, _, sums = program.name.partition(".")
                 level = "-O0" if kind == kept.FOR_SMALL else "-O1"

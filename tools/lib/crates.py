@@ -1,4 +1,6 @@
 """The crates of the repository, as crates.txt has them, and the toolchain that proves them."""
+import contextlib
+import fcntl
 import hashlib
 import os
 import pathlib
@@ -52,6 +54,33 @@ def link_command(code, program):
     top = kit()
     words = [f"{top}/bin/rattle-link", "--target", "x86_64-unknown-linux-gnu", "--toolchain", f"{top}/toolchain", "-o", str(program)]
     return [*words, str(code), f"{top}/c/libos_c.a", f"{top}/c/liblibc_c.a"]
+
+
+def rattle_words(verb, crate, uses, library_of, folders, at_once):
+    """What checks or builds a crate in its folder, by so many processes; LIBRARY_OF says where the library of a crate is, and FOLDERS where those below these are."""
+    top, has_main = kit(), (TOP / "crates" / crate / "src/main.rt").is_file()
+    words = [f"{top}/bin/rattle", verb, "--crate-name", crate, "src/main.rt" if has_main else "src/lib.rt"]
+    for used in ["std", *uses[crate]]:
+        words += ["--extern", f"{used}={library_of(used) if used in uses else f'{top}/rlibs/{used}.rlib'}"]
+    for folder in [f"{top}/rlibs", *folders]:
+        words += ["-L", f"dependency={folder}"]
+    words += ["--links", f"{crate}=", "--antt-project", f"{top}/rattle/logic/antt-project.json", "--logic-built", f"{top}/logic_built"]
+    return [*words, "--jobs", str(at_once)]
+
+
+@contextlib.contextmanager
+def alone_in(folder, tell, what):
+    """Waits until no other process has a folder for itself, and keeps others waiting."""
+    lock = os.open(folder, os.O_RDONLY)
+    try:
+        try:
+            fcntl.flock(lock, fcntl.LOCK_EX | fcntl.LOCK_NB)
+        except BlockingIOError:
+            tell(f"another {what} here: this one waits for its end")
+            fcntl.flock(lock, fcntl.LOCK_EX)
+        yield
+    finally:
+        os.close(lock)
 
 
 def folders_of(crate):

@@ -8,10 +8,9 @@ import tempfile
 from dataclasses import dataclass, field
 from typing import Dict, List, NamedTuple, Optional
 
-from lib.crates import in_order, kit, uses_of_crates
+from lib.crates import TOP, in_order, kit, rattle_words, uses_of_crates
 from lib.definitions import blank_strings_and_comments
 
-TOP = pathlib.Path(__file__).resolve().parents[2]
 GATE, BESIDE = "must-fail", "wrong-bodies"
 PARTS = ("src", "specs", "proofs")
 # errors of a proof file that names what an edit took away say nothing of the contract
@@ -187,15 +186,8 @@ def folder_of_library(crate):
 
 
 def words_of_check(crate):
-    uses, folder = uses_of_crates(), kit()
-    root = "src/main.rt" if (TOP / "crates" / crate / "src/main.rt").is_file() else "src/lib.rt"
-    found = [str(folder / "bin/rattle"), "check", "--crate-name", crate, root, "-L", f"dependency={folder}/rlibs"]
-    for used in ["std", *uses[crate]]:
-        found += ["--extern", f"{used}={folder_of_library(used) if used in uses else folder / 'rlibs'}/{used}.rlib"]
-    for low in in_order(uses, crate)[:-1]:
-        found += ["-L", f"dependency={folder_of_library(low)}"]
-    found += ["--antt-project", f"{folder}/rattle/logic/antt-project.json", "--logic-built", f"{folder}/logic_built", "--jobs", "1"]
-    return [*found, "--links", f"{crate}="]
+    uses = uses_of_crates()
+    return rattle_words("check", crate, uses, lambda low: f"{folder_of_library(low)}/{low}.rlib", map(folder_of_library, in_order(uses, crate)[:-1]), 1)
 
 
 def make_holes(room, crate, functions):
