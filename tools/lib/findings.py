@@ -143,6 +143,8 @@ def long_frames(seen):
 
 # DIRECTIONS AND INTERFACES
 
+BOTH_WAYS, ONE_WAY = "both directions are in it", "A device sends one direction"
+
 
 def only(seen, condition, ending):
     """The packets of a condition alone, in a file of their own."""
@@ -172,24 +174,24 @@ def directions_of_ethernet(seen):
         host = max(by, key=lambda address: (by[address], sum(count for (source, _), count in pairs.items() if source == address)))
         sent, got = (sum(count for pair, count in pairs.items() if pair[at] == host) for at in (0, 1))
         address = host.hex(":")
-        said = f"both directions are in it: {counted(sent, 'packet comes', 'packets come')} from {address}, and {counted(got, 'goes', 'go')} to it. A device sends one direction. To keep what it sent (with eth.dst what it got)"
-        yield Finding(said, only(seen, f"eth.src == {address}", ".sent"))
+        each = f"{counted(sent, 'packet comes', 'packets come')} from {address}, and {counted(got, 'goes', 'go')} to it"
+        yield Finding(f"{BOTH_WAYS}: {each}. {ONE_WAY}. To keep what it sent (with eth.dst what it got)", only(seen, f"eth.src == {address}", ".sent"))
 
 
 def directions_of_cooked(seen, link):
     at, own = SENT_AT[link], SENT[link]
     ways = Counter(head[at : at + len(own)] == own for head in seen.heads(link, at + len(own)))
     if min(ways[True], ways[False]) >= max(1, BOTH * seen.count):
-        said = f"both directions are in it: the host sent {counted(ways[True], 'packet', 'packets')} and got {ways[False]:,}. A device sends one direction. To keep what was sent (with != what was got)"
-        yield Finding(said, only(seen, "sll.pkttype == 4", ".sent"))
+        each = f"the host sent {counted(ways[True], 'packet', 'packets')} and got {ways[False]:,}"
+        yield Finding(f"{BOTH_WAYS}: {each}. {ONE_WAY}. To keep what was sent (with != what was got)", only(seen, "sll.pkttype == 4", ".sent"))
 
 
 def directions_of_raw_ip(seen):
     pairs = Counter((head[12:16], head[16:20]) for head in seen.heads(RAW_IP, 20) if head[0] >> 4 == 4 and head[12] != 127 and head[12:16] != head[16:20])
     least, _ = both_ways(pairs)
     if least >= max(1, BOTH * seen.count):
-        said = f"both directions are in it: {counted(least, 'packet goes', 'packets go')} back between addresses that others come from. A device sends one direction. To capture what comes in alone"
-        yield Finding(said, f"tcpdump -i INTERFACE -Q in -w {seen.new_name('.in.pcap')}")
+        each = f"{counted(least, 'packet goes', 'packets go')} back between addresses that others come from"
+        yield Finding(f"{BOTH_WAYS}: {each}. {ONE_WAY}. To capture what comes in alone", f"tcpdump -i INTERFACE -Q in -w {seen.new_name('.in.pcap')}")
 
 
 def directions(seen):

@@ -121,6 +121,9 @@ class Fault:
     where: str
     said: str
 
+    def __str__(self):
+        return f"{self.where}: {self.said} ({self.reason} {REASONS[self.reason]})"
+
 
 def version_of(root):
     version = root.get("version")
@@ -442,8 +445,7 @@ def read(name, code=1):
     with open(name, "rb") as file:
         root, faults = judge(file.read())
     if faults:
-        first = faults[0]
-        raise Failed(f"{name} is no plan, and `lqtx` refuses it: {first.where}: {first.said} ({first.reason} {REASONS[first.reason]}); tools/check-plan {name} says all", code)
+        raise Failed(f"{name} is no plan, and `lqtx` refuses it: {faults[0]}; tools/check-plan {name} says all", code)
     return plan_of(root)
 
 

@@ -30,8 +30,10 @@ def first_build():
         subprocess.run(["git", *words], cwd=top, check=True)
     (room / "rt").symlink_to("/bin/true")
     build = lambda *words, path=f"{room}:{os.environ['PATH']}": run(top / "tools/first-build", *words, env=os.environ | {"PATH": path})
-    expect("first-build", build("--chain", room), 0, " processors, ", f"{room}/first-build.", "it took 0 min 00 s; ", "build/: ", "the program: 6 bytes", "chain")
-    expect("first-build, two at the same time", build("--beside", "HEAD", room), 0, "low                           12      12", "1 crates of both              12      12")
+    expect("first-build", build("--chain", room), 0, " processors, ", f"{room}/first-build.",
+           "it took 0 min 00 s; ", "build/: ", "the program: 6 bytes", "chain")
+    expect("first-build, two at the same time", build("--beside", "HEAD", room), 0, "low                           12      12",
+           "1 crates of both              12      12")
     expect("first-build, no such commit", build("--beside", "no-such-commit", room), 1, "no-such-commit")
     expect("first-build, no commit", build("--beside"), 2, "tools/first-build --beside COMMIT")
     is_equal("first-build: what it leaves", [path.name for path in room.iterdir()], ["rt"])

@@ -66,7 +66,8 @@ WRITES = re.compile(r'write_text\(|write_bytes\(|writing\(|open\([^)\n]*"[wa]b?"
 def inputs_of(name, ending):
     """A folder with fresh inputs of each kind, and these by what they are."""
     example = lambda path: (TOP / "examples" / path).read_bytes()
-    texts = {"plan": example("drops.toml"), "capture": example("loopback.pcap"), "schedule": example("schedules/second-try.schedule"), "program": "#!/bin/sh\nexit 0\n", "hosts": "1/:\n"}
+    texts = {"plan": example("drops.toml"), "capture": example("loopback.pcap"), "schedule": example("schedules/second-try.schedule"),
+             "program": "#!/bin/sh\nexit 0\n", "hosts": "1/:\n"}
     room = room_of(name, {f"{kind}{ending}": text for kind, text in texts.items()} | {"run.fates": example_fates()})
     return room, {kind: room / f"{kind}{ending}" for kind in texts} | {"fates": room / "run.fates"}
 

@@ -1,4 +1,4 @@
-"""Finds the files that a chapter of docs/CHANGING.md leaves out. A chapter begins with the names of its exemplar, one thing of its kind that exists, and with the
+"""Finds the files that a chapter of docs/CHANGING.md leaves out. A chapter begins with the names of its exemplar, one thing of its kind that exists, and the
 number of files that have one of them; a number has a name in any case, or in a part of a name, on one line with it:
 
     Exemplar: `NAME`, in tools `name`; some 99 files.

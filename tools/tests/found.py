@@ -182,7 +182,8 @@ def exchanged_and_piped():
 def tools_say_what_is_found():
     """Those that run a plan, or make one, say it on standard error, and print what they print without it."""
     frames, said = [ether(UDP_PACKET, head) for head in (b"\x08\x00", b"\x88\xa8\0\5\x08\0")] * 2, "2 of 4 packets (50%) have a tag of type 88a8"
-    room = room_of("told", {"c.pcap": classic([START, START + 9000, START + 3000, START + 9000], frames), "p.toml": BY_TIME, "program": '#!/bin/sh\ncp o.fates "$4.fates"\n'})
+    room = room_of("told", {"c.pcap": classic([START, START + 9000, START + 3000, START + 9000], frames), "p.toml": BY_TIME,
+                           "program": '#!/bin/sh\ncp o.fates "$4.fates"\n'})
     write(room / "o.fates", fates_of({"version": 4, "irq_us": 10, "station": [{}]}, room / "c.pcap"))
     for tool, words in (("at-rate", ["c.pcap", "10mbit"]), ("show-run", ["p.toml", "c.pcap", "o"]), ("sweep", ["p.toml", "c.pcap", "irq_us=10..11", "o.csv", "--program", "./program"])):
         told = run(HERE / tool, *words, cwd=room)
@@ -196,7 +197,8 @@ def said_as_another_tool():
     both = room_of("as", {"c.pcap": at_once(BOTH_WAYS)}) / "c.pcap"
     os.mkfifo(both.parent / "pipe")
     found = f"lqtx: {both}: both directions are in it"
-    for name, plan, said in ((both, TOP / "examples/drops.toml", found), (both, None, found), (TOP / "examples/loopback.pcap", None, ""), (both.parent / "none", None, ""), (both.parent / "pipe", None, "")):
+    for name, plan, said in ((both, TOP / "examples/drops.toml", found), (both, None, found), (TOP / "examples/loopback.pcap", None, ""),
+                            (both.parent / "none", None, ""), (both.parent / "pipe", None, "")):
         with contextlib.redirect_stderr(io.StringIO()) as told:
             is_equal(f"{name} is refused", findings.tell("lqtx", name, plan), False)
         is_equal(f"what is found of {name}", said in told.getvalue() and bool(told.getvalue()) == bool(said), True)

@@ -37,7 +37,8 @@ WRONG = [
     ("{none} {capture} {drops}", 1, "none.toml: No such file"),
     ("{plan} {plan} {drops}", 1, "drops.toml: it is neither pcap nor pcapng"),
     # a run that was refused has no fates, and why it was is what is said
-    ("{room}/refused.toml {capture} {room}/none", 1, "refused.toml is no plan, and `lqtx` refuses it: station 0, `lne`: no such key; did you mean `len`? (2 UnknownKey)"),
+    ("{room}/refused.toml {capture} {room}/none", 1,
+    "refused.toml is no plan, and `lqtx` refuses it: station 0, `lne`: no such key; did you mean `len`? (2 UnknownKey)"),
     ("{room}/many.toml {capture} {room}/none", 1, "many.toml has no run: `lqtx` refuses a plan that needs 17 devices, and there are 16"),
     ("{plan} {room}/cut.pcap {room}/none", 1, "cut.pcap: a record is cut off at"),
     ("{plan} {capture} {drops} {room}/none/a.svg", 1, "a.svg: No such file"),
@@ -94,7 +95,8 @@ def show_run():
     write(room / "ng.fates", "".join(f"{n} sent 0 {n}\n" for n in range(3)) + "3 full 1\n")
     file = TOP / "examples/two-interfaces.pcapng"
     bands = captures.read(file).bands
-    expect("show-run, pcapng", show(example("senders"), room / "ng", capture=file), *((0, "station 0: pfifo_fast") if bands[3] == bands[1] else (1, "met packet 1 of another station or band")))
+    expect("show-run, pcapng", show(example("senders"), room / "ng", capture=file),
+           *((0, "station 0: pfifo_fast") if bands[3] == bands[1] else (1, "met packet 1 of another station or band")))
     # of several senders the backlog isn't known, and the other picture is drawn
     said = show(example("senders"), room / "busy", room / "s.svg", room / "b.svg")
     expect("show-run, a backlog of several senders", said, 1, "b.svg isn't drawn: with several senders", "aren't known: with several senders")

@@ -59,7 +59,8 @@ def sweep():
     room = room_of("sweep", FILES)
     expect("sweep", swept(room, "station.0.len=10..50:10", "a.csv", "a.svg"), 0, "fewest not sent: 0, first at station.0.len=50\n")
     rows = lines_of(room / "a.csv")
-    if rows[0] != "station.0.len,station,band,sent,full,shrunk,purged,refused,sent_after_last" or len(rows) != 21 or "10,0,all,60,210,0,0,0,0" not in rows or "50,0,0,40,0,0,0,0,0" not in rows:
+    head = "station.0.len,station,band,sent,full,shrunk,purged,refused,sent_after_last"
+    if rows[0] != head or len(rows) != 21 or not {"10,0,all,60,210,0,0,0,0", "50,0,0,40,0,0,0,0,0"} <= set(rows):
         fault(f"sweep: the table is {rows}")
     expect_picture("sweep", room / "a.svg", "plan.toml over loopback.pcap, 270 packets", "station.0.len", "band 2", "packets not sent")
     is_equal("sweep: its folder is left behind", (room / "a.csv.runs").exists(), False)
@@ -111,7 +112,8 @@ for line in sys.stdin:
 @case
 def sweep_by_itself():
     """One host's runs are done by Python, in folders with blanks; those of other hosts by GNU parallel, in such folders too."""
-    room, top = room_of("a sweep's room", FILES | {"parallel": PARALLEL, "hosts": "1/:\n"}), repository("with a blank", {"lqtx": "", "capture.pcap": CAPTURE.read_bytes()})
+    room = room_of("a sweep's room", FILES | {"parallel": PARALLEL, "hosts": "1/:\n"})
+    top = repository("with a blank", {"lqtx": "", "capture.pcap": CAPTURE.read_bytes()})
     env, tables = {**os.environ, "PATH": f"{room}:{os.environ['PATH']}", "CALLED": str(room / "called")}, []
     words = [top / "tools/sweep", "plan.toml", top / "capture.pcap", "station.0.len=36..40", "many.csv", "--program", room / "program"]
     for name, more, is_called in (("by itself", [], False), ("over hosts", ["--sshloginfile", "hosts"], True)):
@@ -124,10 +126,12 @@ def sweep_by_itself():
 @case
 def the_program_of_a_sweep():
     """The built one, or else the one without its proof, which is said; a proof isn't begun."""
-    files = {"lqtx": "#!/bin/sh\nexit 9\n", "crates.txt": "lqtx:\n", "crates/lqtx/src/main.rt": "fn main() {}\n", "capture.pcap": CAPTURE.read_bytes(), "plan.toml": FILES["plan.toml"]}
+    files = {"lqtx": "#!/bin/sh\nexit 9\n", "crates.txt": "lqtx:\n", "crates/lqtx/src/main.rt": "fn main() {}\n",
+             "capture.pcap": CAPTURE.read_bytes(), "plan.toml": FILES["plan.toml"]}
     top = repository("programs", files)
     words = [top / "tools/sweep", "plan.toml", "capture.pcap", "station.0.len=39..40", "a.csv"]
-    expect("sweep, no program", run(*words, cwd=top), 1, "no program is built: --unproved compiles one without its proof", "./lqtx run PLAN CAPTURE OUT` proves and builds one")
+    expect("sweep, no program", run(*words, cwd=top), 1, "no program is built: --unproved compiles one without its proof",
+           "./lqtx run PLAN CAPTURE OUT` proves and builds one")
     told = "sweep: the runs are those of the program without its proof"
     for kind, more in (("UNPROVED", f"{told}: the proved one isn't built\n"), ("PROVED", None)):
         place = f"from lib import kept; kept.KEPT.mkdir(exist_ok=True); print(kept.Sources().program(kept.{kind}))"
@@ -203,7 +207,8 @@ def sent_after_the_last_packet():
 def bursts():
     """The example whose answer doesn't come of where the capture ends: it is the same for one burst and for eight."""
     make, plan = TOP / "examples/make-bursts", toml_text.loads((TOP / "examples/bursts.toml").read_text(encoding="utf-8"))
-    is_equal("examples/bursts.pcap is what examples/make-bursts makes", subprocess.run([make], capture_output=True).stdout == (TOP / "examples/bursts.pcap").read_bytes(), True)
+    is_equal("examples/bursts.pcap is what examples/make-bursts makes", subprocess.run([make], capture_output=True).stdout ==
+             (TOP / "examples/bursts.pcap").read_bytes(), True)
     for cycles in (1, 3, 8):
         write(ROOM / "bursts.pcap", subprocess.run([make, str(cycles)], capture_output=True).stdout)
         lost = []

@@ -16,7 +16,8 @@ CASES = {
     "first build": [
         do.run("words 8", 8, "one low: words 8", [
             "building, which proves the program first: 1 to 3 min by machine on ", " idle processors, longer beside other work, and 0.9 GB",
-            "it can be interrupted, and goes on from there", "proved low by 0 s of a processor, 1 of 2 crates, 0 min 0", "min in all; under way: none", "proved lqtx by 0 s of a processor, 2 of 2 crates", "built in 0 min"]),
+            "it can be interrupted, and goes on from there", "proved low by 0 s of a processor, 1 of 2 crates, 0 min 0", "min in all; under way: none",
+            "proved lqtx by 0 s of a processor, 2 of 2 crates", "built in 0 min"]),
         do.calls("low", "lqtx")],
     # for tools that run it many times
     "where the program is": [do.run("", 0, LQTX_SHOW_PROGRAM="1"), do.shows_a_program(), do.calls("low", "lqtx"), do.tried(0)],
@@ -80,7 +81,8 @@ def crates_side_by_side_the_longest_chain_first(lqtx):
     lqtx.forget_programs()
     (lqtx.build / "libraries/left.sum").unlink()
     lqtx.run("words")
-    lqtx.check(re.search(f"^left in {repo}/crates/left: .* --jobs {MANY} ", lqtx.read(lqtx.room / "rattle.words"), re.M), "the longest chain of what is left hasn't all processors")
+    lqtx.check(re.search(f"^left in {repo}/crates/left: .* --jobs {MANY} ", lqtx.read(lqtx.room / "rattle.words"), re.M),
+               "the longest chain of what is left hasn't all processors")
 
 
 @case

@@ -108,7 +108,8 @@ def no_output_is_an_input_where_a_name_of_another_case_is_the_same_file(lqtx):
     lqtx.run("words")
     lqtx.write("plan", "writes\n")
     try:
-        for row, option in itertools.product(("X.0.PCAP run plan caseless/X.0.PCAP caseless/x", "X.FATES run caseless/X.FATES capture caseless/x", "T.PCAP tap 1 4 4 caseless/T.PCAP caseless/t"), ("", "--force ")):
+        for row, option in itertools.product(("X.0.PCAP run plan caseless/X.0.PCAP caseless/x", "X.FATES run caseless/X.FATES capture caseless/x",
+            "T.PCAP tap 1 4 4 caseless/T.PCAP caseless/t"), ("", "--force ")):
             output, _, words = row.partition(" ")
             lqtx.write(caseless / output, "a capture")
             lqtx.run(option + words, 2, tells=f" is an input, caseless/{output}: the outputs need another name")
@@ -128,7 +129,8 @@ esac
 """
 # how an output comes to be another than a call left
 OTHERS = {
-    "the user's": "cp mine {}", "an earlier time": "touch -d @0 {}", "changed in place": "echo more >>{}", "a copy with its time": "cp -p {0} other && cp -p other {0}.new && mv {0}.new {0}",
+    "the user's": "cp mine {}", "an earlier time": "touch -d @0 {}", "changed in place": "echo more >>{}",
+    "a copy with its time": "cp -p {0} other && cp -p other {0}.new && mv {0}.new {0}",
     "another file's link": "cp mine other && ln -f other {}", "a link to another file": 'cp mine other && rm {0} && ln -s "$PWD/other" {0}',
 }  # fmt: skip
 # of each call the output that is changed

@@ -3,7 +3,8 @@ from tests.wrapper.bench import COOKED_CAPTURE, case, cases, do
 
 # of each reason for which a capture is refused what is said of it
 WAYS_OUT = {
-    "2 Magic": "neither pcap nor pcapng. If Wireshark can read it", "6 CutData": "it was cut off", "10 CutBlock": "it was cut off", "9 TooLong": "it is too long",
+    "2 Magic": "neither pcap nor pcapng. If Wireshark can read it", "6 CutData": "it was cut off", "10 CutBlock": "it was cut off",
+    "9 TooLong": "it is too long",
     "15 SecondSection": "it has two sections", "7 TooMany": "it has more than 1,000,000 packets", "14 BlockBody": "it breaks the rules of its format",
     "5 LongRecord": "a packet of more than 262,144 bytes", "16 TimeBack": "reordercap capture capture.sorted.pcap",
 }  # fmt: skip
@@ -13,7 +14,8 @@ CASES = {
         do.run("words"), do.write("plan", "[[station]]\nlne = 8\n"),
         do.run("run plan plan out 3", 3, tells="plan:2: station 0, `lne`: no such key; did you mean `len`? (2 UnknownKey)"), do.write("plan", "[[station]]\n"),
         do.run("run plan plan out 3", tells="docs/FORMATS.md, 'Plans', explains each reason"),
-        *(step for reason, way_out in WAYS_OUT.items() for step in (do.write("capture", reason + "\n"), do.run("run plan capture out 4", 4, f"capture refused: {reason} at 0", way_out))),
+        *(step for reason, way_out in WAYS_OUT.items()
+          for step in (do.write("capture", reason + "\n"), do.run("run plan capture out 4", 4, f"capture refused: {reason} at 0", way_out))),
         do.write("schedule", "seats 2 len 4 bypass 0\n0 step 1\n"),
         do.run("trace schedule 7", 7, tells="schedule, line 2: seat 0 can't do step 1 of 1: it is idle: it can begin"),
         do.run("words 2", tells="the manual: man")],
@@ -23,7 +25,8 @@ CASES = {
         do.run("run plan capture shut/folder/out", tells="there is no folder shut/folder"), do.folder("out.3.pcap"),
         do.run("run plan capture out", tells="a folder, not a file: out.3.pcap"), do.remove("out.3.pcap"),
         do.run("run plan capture out", tells="the disk may be full"), do.run("gen 1 2 other/out"), do.has("other"),
-        *(do.run(words, tells=parts) for words, parts in (("gen 1 2 shut/out", ["a file or standard output can't be opened", "shut"]), ("gen 1 2 out", "the disk may be full"), ("trace schedule", "there is no file schedule"), ("trace plan", "the disk may be full")))],
+        *(do.run(words, tells=parts) for words, parts in (("gen 1 2 shut/out", ["a file or standard output can't be opened", "shut"]),
+          ("gen 1 2 out", "the disk may be full"), ("trace schedule", "there is no file schedule"), ("trace plan", "the disk may be full")))],
     "other ends": [
         do.run("words"), *(do.run(f"words {code}", code, silent=True) for code in (0, 4, 7, 8)), do.run("words 6", tells="not enough memory"),
         do.run("words 9", tells="isn't UTF-8")],
@@ -32,7 +35,9 @@ CASES = {
         do.lacks("deep")],
     "out is a folder": [
         do.run("words"), do.write("plan", ""), do.write("capture", ""),
-        *(step for out in ("deep/", "./", ".", "..", "deep/.", "deep/..") for step in (do.run(f"run plan capture {out}", 2, tells=f"OUT is the beginning of the outputs' names, and {out} is a folder: write for example {out.removesuffix('/')}/o"), do.lacks("**/.?*.pcap", "**/.fates")))],
+        *(step for out in ("deep/", "./", ".", "..", "deep/.", "deep/..")
+          for step in (do.run(f"run plan capture {out}", 2, tells=f"OUT is the beginning of the outputs' names, and {out} is a folder: write for example {out.removesuffix('/')}/o"),
+          do.lacks("**/.?*.pcap", "**/.fates")))],
 }  # fmt: skip
 cases(CASES)
 

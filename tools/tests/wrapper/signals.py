@@ -16,7 +16,8 @@ def unless_ignored():
 
 def heeding(lqtx, words, **how):
     """Starts the wrapper so that it heeds all signals."""
-    return subprocess.Popen([lqtx.repo / "lqtx", *words.split()], cwd=lqtx.here, env=lqtx.env, stdout=subprocess.DEVNULL, stderr=subprocess.PIPE, text=True, preexec_fn=unless_ignored, **how)
+    return subprocess.Popen([lqtx.repo / "lqtx", *words.split()], cwd=lqtx.here, env=lqtx.env,
+                            stdout=subprocess.DEVNULL, stderr=subprocess.PIPE, text=True, preexec_fn=unless_ignored, **how)
 
 
 @case
