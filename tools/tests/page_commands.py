@@ -11,6 +11,7 @@ import re
 import shutil
 import subprocess
 import tempfile
+from typing import NamedTuple, Optional
 
 TOP = pathlib.Path(__file__).resolve().parent.parent.parent
 LEFT_OUT = {
@@ -41,14 +42,13 @@ COMMAND = re.compile(r"    (?:\$ (.*)|((?:\./lqtx|tools/|rt ).*))")
 FEWEST = {"README.md": 2, "docs/USING.md": 11, "docs/FORMATS.md": 2, "docs/HISTORY.md": 5, "docs/lqtx.1": 3, "docs/BARRIERS.md": 7}
 
 
-class Command:
+class Command(NamedTuple):
     """A command of a page: where it stands, and the lines that it prints, if the page has them."""
 
-    def __init__(self, page, line, words, printed):
-        self.page, self.line, self.words, self.printed = page, line, words, printed
-
-    def is_left_out(self):
-        return any(re.match(pattern, self.words) for pattern in LEFT_OUT)
+    page: str
+    line: int
+    words: str
+    printed: Optional[list]
 
 
 def commands_of_blocks(page, lines):
@@ -134,7 +134,7 @@ def faults_of_page(page):
     """Runs the commands of a page in a folder of its own."""
     lines = (TOP / page).read_text(encoding="utf-8").splitlines()
     commands = (commands_of_manual if page.endswith(".1") else commands_of_page)(page, lines)
-    commands = [command for command in commands if not command.is_left_out()]
+    commands = [command for command in commands if not any(re.match(pattern, command.words) for pattern in LEFT_OUT)]
     if len(commands) < FEWEST[page]:
         yield f"{page}: {len(commands)} commands are found, and there were {FEWEST[page]}"
     room = pathlib.Path(tempfile.mkdtemp())
