@@ -161,15 +161,6 @@ def header_at(data, at, until, link):
     return head if head + 20 <= until and data[head] >> 4 == 4 else None
 
 
-def kinds_of_blocks(capture):
-    """The type of each block."""
-    at, unpack = 0, struct.Struct(capture.order + "II").unpack_from
-    while at < len(capture.data):
-        kind, total = unpack(capture.data, at)
-        yield kind
-        at += total
-
-
 def way_out_of(name, fault):
     """Why a file is no capture, and what mends it; a pipe is read already, and can't be mended."""
     if not os.path.isfile(name):

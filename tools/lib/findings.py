@@ -220,7 +220,7 @@ def blocks_left_out(seen):
     capture = seen.capture
     if not capture.is_pcapng() or sum(capture.ends) - sum(capture.starts) + sum(map(len, capture.head)) == len(seen.data):
         return
-    kinds = Counter(captures.kinds_of_blocks(capture))
+    kinds = Counter(kind for kind, *_ in ways_out.blocks_of(seen.data))
     for kind in sorted(set(kinds) - READ - WITHOUT_PACKET):
         name = BLOCKS.get(kind, f"blocks of type {kind:#x}")
         said = f"{kinds[kind]:,} {name} aren't read, and Wireshark shows such as packets"

@@ -1,7 +1,7 @@
 """The files that are written. None is one of the inputs, and what isn't as it was left here is replaced only with `--force`.
 
     outputs.claim([plan, capture], [csv, outputs.picture(svg)])     before any of them is opened to write
-    with outputs.writing(csv) as it: ...                            a new file, which takes the name once it is whole
+    with outputs.writing(csv) as out: ...                           a new file, which takes the name once it is whole
 
 Files are compared by device and inode, so that neither a link nor another spelling hides one. Of an output that is left `.lqtx/NAME` beside it
 keeps inode, length and time. A file that has others now is the user's: one that was put there, or changed. The wrapper's shell reads and writes

@@ -41,17 +41,21 @@ def new_name(capture, ending):
     return quoted(next(name for n in itertools.count(1) for name in [f"{base}-{n}{ending}" if n > 1 else base + ending] if not is_taken(name)))
 
 
-def link_types(data):
-    """The link types of the interfaces of a pcapng file that are described before its first packet."""
-    order, at, found = "<" if data[8:9] == b"\x4d" else ">", 0, set()
+def blocks_of(data):
+    """The type, the place and the byte order of each block of a pcapng file that begins in these bytes."""
+    order, at = "<" if data[8:9] == b"\x4d" else ">", 0
     while at + 12 <= len(data):
         kind, total = struct.unpack_from(order + "II", data, at)
-        if total < 12 or kind in (2, 3, 6):
-            break
-        if kind == 1:
-            found.add(struct.unpack_from(order + "H", data, at + 8)[0])
+        if total < 12:
+            return
+        yield kind, at, order
         at += total
-    return found
+
+
+def link_types(data):
+    """The link types of the interfaces that are described before a file's first packet."""
+    before = itertools.takewhile(lambda block: block[0] not in (2, 3, 6), blocks_of(data))
+    return {struct.unpack_from(order + "H", data, at + 8)[0] for kind, at, order in before if kind == 1}
 
 
 def by_wireshark(why, command):
