@@ -1,5 +1,4 @@
 """`lqtx` as tools/install puts it: the proved program, with what is said on standard error of its inputs. It builds nothing."""
-import ctypes
 import os
 import pathlib
 import signal
@@ -11,11 +10,6 @@ from lib.words import Failed
 
 TOP = pathlib.Path(__file__).resolve().parent.parent.parent
 PROGRAM, MANUAL = TOP / "program", "the manual: man lqtx"
-PR_SET_PDEATHSIG = 1
-
-
-def end_with_caller():
-    ctypes.CDLL(None).prctl(PR_SET_PDEATHSIG, signal.SIGTERM)
 
 
 def judge_outputs(command):
@@ -39,7 +33,7 @@ def main(given):
     judge_outputs(command)
     found = findings.found_of(*reversed(command.inputs)) if given[:1] == ["run"] and command.inputs else []
     before = command.written()
-    code = subprocess.run([PROGRAM, *given], preexec_fn=end_with_caller).returncode
+    code = subprocess.run([PROGRAM, *given], preexec_fn=lambda: words.end_with_parent(signal.SIGTERM)).returncode
     command.leave(before)
     ends.say_found(command, found, code)
     ends.explain(command, PROGRAM, code, {2: MANUAL, 3: MANUAL})

@@ -93,6 +93,14 @@ def end_by(number: int) -> None:
     os.kill(os.getpid(), number)
 
 
+def end_with_parent(number: int) -> None:
+    """This process gets a signal once its parent has ended, however that ended."""
+    import ctypes  # takes long to import, and few need it
+
+    pdeathsig = 1
+    ctypes.CDLL(None).prctl(pdeathsig, number)
+
+
 SIGNALS = (signal.SIGHUP, signal.SIGINT, signal.SIGQUIT, signal.SIGTERM)
 
 
