@@ -84,9 +84,6 @@ def picture(path: str) -> str:
     return str(path)
 
 
-# which files are the same
-
-
 def file_of(path: str) -> Optional[Tuple]:
     """What tells a file from others, also one that isn't there yet: then by its folder. None of a terminal or a pipe, which have no bytes to lose."""
     try:
@@ -139,9 +136,6 @@ def refuse_inputs(inputs: Iterable[str], files: Iterable[str]) -> None:
         if file in taken:
             raise Wrong(f"{output} and {taken[file]} are one file: each output needs a name of its own")
         taken[file] = output
-
-
-# which were left here
 
 
 def state_of(path: str) -> Optional[str]:

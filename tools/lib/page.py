@@ -70,9 +70,6 @@ def data_of(shown, first):
     return json.dumps(about, separators=(",", ":")).replace("<", "\\u003c")
 
 
-# COUNTS
-
-
 def classes_of(run):
     """Each line of the counts: its name, whether it is a whole, which packets it is of, and the station and band of one band."""
     if not run.has_units:

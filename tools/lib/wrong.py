@@ -53,9 +53,6 @@ class Tried(NamedTuple):
     said: str
 
 
-# what a crate has
-
-
 def owner_of(line, module, homes):
     """The part of a function's path that an `impl` or a `trait` gives it: an impl of a type's own has the type's path, and one of a trait its own."""
     text = re.sub(r"<[^<>]*(<[^<>]*>[^<>]*)*>", "", line.partition("{")[0])
@@ -148,9 +145,6 @@ def bodies_changed(edit, functions):
     return list(dict.fromkeys(found))
 
 
-# rounds
-
-
 def text_of(function, crate):
     lines = (TOP / "crates" / crate / function.file).read_text(encoding="utf-8").splitlines()
     return "\n".join(lines[function.body : function.last + 1])
@@ -176,9 +170,6 @@ def rounds_of(edits, functions):
         else:
             rounds.append([edit])
     return rounds
-
-
-# a check
 
 
 def folder_of_library(crate):
@@ -218,9 +209,6 @@ def check(crate, edits, targets, holes):
         only = [word for target in targets for word in ("--only", target)]
         how = {"cwd": room, "stdin": subprocess.DEVNULL, "stdout": subprocess.PIPE, "stderr": subprocess.STDOUT, "text": True, "errors": "replace"}
         return subprocess.run([*words_of_check(crate), *["--allow-holes"] * bool(only), *only], **how).stdout
-
-
-# what a check says
 
 
 def lines_of(function, said, crate):
@@ -302,9 +290,6 @@ def by_itself(edit):
         return Tried(edit, True, f"refused: {(told or 'only names of a proof file: ' + notes[0])[:200]}")
     last = said.rstrip().splitlines()[-1:]
     return Tried(edit, False, "NOT REFUSED" if last and last[0].startswith("logic=proved") else f"NOT TRIED: {' '.join(last)[:200]}")
-
-
-# the libraries below, and notes
 
 
 def crates_with_edits():
