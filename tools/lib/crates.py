@@ -57,7 +57,7 @@ def link_command(code, program):
 
 
 def rattle_words(verb, crate, uses, library_of, folders, at_once):
-    """What checks or builds a crate in its folder, by so many processes; LIBRARY_OF says where the library of a crate is, and FOLDERS where those below these are."""
+    """What checks or builds a crate in its folder, by so many processes. LIBRARY_OF says where a library is, and FOLDERS where those below are."""
     top, has_main = kit(), (TOP / "crates" / crate / "src/main.rt").is_file()
     words = [f"{top}/bin/rattle", verb, "--crate-name", crate, "src/main.rt" if has_main else "src/lib.rt"]
     for used in ["std", *uses[crate]]:

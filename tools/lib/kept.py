@@ -24,7 +24,8 @@ class Sources:
 
     def __init__(self):
         # before they are summed: what changes meanwhile counts as changed afterwards
-        self.parts = [CRATES, TOP / "HANDLES", *told_by_toolchain(), *(path for crate in crates_below("lqtx") for path in [*folders_of(crate), *files_of(crate)])]
+        of_crates = [path for crate in crates_below("lqtx") for path in [*folders_of(crate), *files_of(crate)]]
+        self.parts = [CRATES, TOP / "HANDLES", *told_by_toolchain(), *of_crates]
         self.last_change = max(os.lstat(part).st_ctime_ns for part in self.parts if os.path.lexists(part))
         self.checksum, self.toolchain = checksum_of_sources(), checksum_of_toolchain()
 
