@@ -13,12 +13,12 @@ import subprocess
 from lib import captures, findings
 from tests.bench import HERE, ROOM, TOP, case, expect, expect_none, fates_of, fault, is_equal, room_of, run, write
 from tests import wireshark
-from tests.flows import ICMP, TCP, UDP, packet
+from tests.flows import ICMP, UDP, packet
 from tests.made_captures import block, classic, enhanced, interface, padded, section
 
 START = 1_700_000_000 * 10**9
 HERE_MAC, THERE_MAC, GROUP = b"\2\0\0\0\0\1", b"\2\0\0\0\0\2", b"\1\0\x5e\0\0\1"
-UDP_PACKET, TCP_PACKET = packet("10.0.0.1", 9, "10.0.1.6", 80, UDP), packet("10.0.0.1", 9, "10.0.1.6", 80, TCP)
+UDP_PACKET = packet("10.0.0.1", 9, "10.0.1.6", 80, UDP)
 WITH_OPTIONS = b"\x4f" + UDP_PACKET[1:20] + b"\1" * 40 + UDP_PACKET[20:]
 IPV6_PACKET = packet("fe80::1", 9, "fe80::6", 80, UDP)
 FLOW = 'version = 4\nspread = "flow"\n[[station]]\nmq = 4\n'
