@@ -74,21 +74,24 @@ def estimate_of(build, crates):
     return build.Build({crate: [low for low in uses[crate] if low in crates or low not in uses] for crate in uses if crate in crates}, 4).estimate
 
 
+def play_again(known, crates, step, took):
+    """A build's crates again, each with when it began and ended, and its processor time: from the first minute on the estimate is right within a third."""
+    for now in range(60, max(end for _, end, _ in crates.values()), step):
+        for crate, (_, end, used) in crates.items():
+            if end <= now and crate not in known.used:
+                known.ended(crate, used)
+        known.under_way({crate: used * (now - began) / (end - began) for crate, (began, end, used) in crates.items() if began < now < end})
+        if took(now) and abs(known.whole(now) / took(now) - 1) > 1 / 3:
+            fault(f"the estimate at {now} s: {known.whole(now):.0f} s, where it took {took(now)} s")
+
+
 @case
 def estimate_of_a_first_build():
-    """From the first minute on it is right within a third for a machine that stays as it is, and soon after other work came."""
+    """Right for a machine that stays as it is, and soon after other work came."""
     known = estimate_of(load("build"), ONCE)
-    ends = {crate: end for crate, (_, end) in ONCE.items()}
-    took, slower = max(ends.values()), 52 * 60 / sum(known.plan.seconds.values())
-    planned = {crate: slower * known.plan.seconds.get(crate, 5) for crate in ONCE}
-    for now in range(60, took, 30):
-        for crate, end in ends.items():
-            if end <= now and crate not in known.used:
-                known.ended(crate, planned[crate])
-        known.under_way({crate: planned[crate] * (now - began) / (ends[crate] - began) for crate, (began, _) in ONCE.items() if began < now < ends[crate]})
-        true = QUIET if now <= 240 else took if now >= 570 else None
-        if true and abs(known.whole(now) / true - 1) > 1 / 3:
-            fault(f"the estimate at {now} s: {known.whole(now):.0f} s, where it took {true} s")
+    took, slower = max(end for _, end in ONCE.values()), 52 * 60 / sum(known.plan.seconds.values())
+    crates = {crate: (began, end, slower * known.plan.seconds.get(crate, 5)) for crate, (began, end) in ONCE.items()}
+    play_again(known, crates, 30, lambda now: QUIET if now <= 240 else took if now >= 570 else None)
 
 
 # another: when each crate began and ended, and its processor time, on four processors of half the speed with nothing else to do but the unproved build
@@ -105,18 +108,10 @@ SLOW = {
 
 @case
 def estimate_of_a_slow_first_build():
-    """From the first minute on it is right within a third, though the first crates are small and the unproved build has a processor meanwhile."""
+    """Right though the first crates are small and the unproved build has a processor meanwhile."""
     build = load("build")
     build.SHARES["lq_model"] = 42  # which it took then
-    known = estimate_of(build, SLOW)
-    took = max(end for _, end, _ in SLOW.values())
-    for now in range(60, took, 20):
-        for crate, (_, end, used) in SLOW.items():
-            if end <= now and crate not in known.used:
-                known.ended(crate, used)
-        known.under_way({crate: used * (now - began) / (end - began) for crate, (began, end, used) in SLOW.items() if began < now < end})
-        if abs(known.whole(now) / took - 1) > 1 / 3:
-            fault(f"the estimate at {now} s: {known.whole(now):.0f} s, where it took {took} s")
+    play_again(estimate_of(build, SLOW), SLOW, 20, lambda now: max(end for _, end, _ in SLOW.values()))
 
 
 @case
