@@ -113,6 +113,6 @@ static void report_machine_alone(const Alone &first)
 	bool full = same_step.count("put, full: load slot"); // the machine may say full up to a batch early
 	MachineSearch it(first, full);
 	long gone = std::count_if(it.ways.begin(), it.ways.end(), [](const pair<int, int> &way) { return arrows.count(way) > 0; });
-	printf("The machine alone%s has %zu states; the text came to all but %ld of them, and went %ld of its %zu ways.\n", full ? " (a ring may be full)" : "", it.count(), it.missed, gone,
-	       it.ways.size());
+	printf("The machine alone%s has %zu states; the text came to all but %ld of them, and went %ld of its %zu ways.\n", full ? " (a ring may be full)" : "",
+	       it.count(), it.missed, gone, it.ways.size());
 }

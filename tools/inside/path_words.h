@@ -34,7 +34,7 @@ PLAIN static void init_waiting(void)
 
 PLAIN void world_init(void)
 {
-	struct counts first = {.wakes = OPTION(WAKES), .stops = OPTION(STOPS), .busy = OPTION(BUSY_ANSWERS), .downs = OPTION(DOWNS), .lengths = OPTION(LENGTHS), .alone = -1};
+	struct counts first = {.wakes = OPTION(WAKES), .stops = OPTION(STOPS), .busy = OPTION(BUSY_ANSWERS), .downs = OPTION(DOWNS), .lengths = OPTION(LENGTHS)};
 
 	path_quota = dev_tx_weight = net_hotdata.dev_tx_weight = OPTION(QUOTA);
 	ops.reset = pfifo_fast_reset;
@@ -57,6 +57,7 @@ PLAIN void world_init(void)
 	for (int i = 0; i < PACKETS; i++)
 		world.skb[i].len = 60, world.skb[i].number = i;
 	*COUNTS = first;
+	COUNTS->alone = -1;
 	if (OPTION(WAITING))
 		init_waiting();
 	if (OPTION(STOPPED))
@@ -237,11 +238,12 @@ PLAIN void world_call_text(struct start it, char *text)
 PLAIN void world_answer_text(int question, int about, int answer, char *text)
 {
 	static const char *const device[] = {"sent", "sent, and stops the queue", "busy"};
+	const char *over = question == GRACE ? "the grace period is over" : "the discipline isn't busy";
 
 	if (question == DEVICE)
 		snprintf(text, MOST_TEXT, "device, packet %d: %s", about, device[answer]);
 	else
-		snprintf(text, MOST_TEXT, "waits: %s", answer == SOFT_INTERRUPT ? "soft interrupt of this processor" : question == GRACE ? "the grace period is over" : "the discipline isn't busy");
+		snprintf(text, MOST_TEXT, "waits: %s", answer == SOFT_INTERRUPT ? "soft interrupt of this processor" : over);
 }
 
 PLAIN void world_text(char *text)

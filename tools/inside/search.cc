@@ -36,7 +36,11 @@ static void print_path(const vector<Choice> &path, const string &title)
 }
 
 #ifdef WITH_MACHINE
-static bool has_schedule() { return path_children() == 1 && !path_has_bulk() && !path_has_control() && !path_option("waiting") && !path_option("stopped") && path_quota == 64 && options.model == SEQUENTIAL; }
+static bool has_schedule()
+{
+	bool begins_open = !path_option("waiting") && !path_option("stopped");
+	return begins_open && path_children() == 1 && !path_has_bulk() && !path_has_control() && path_quota == 64 && options.model == SEQUENTIAL;
+}
 
 // Brings the machine to its end: each seat ends its call, soft interrupts and wakes come.
 static void finish_schedule()
@@ -221,8 +225,8 @@ static int search()
 	Search it;
 	int verdict = it.run();
 	if (verdict == HOLDS)
-		printf("nothing goes wrong: %zu states, %ld steps between them, %ld ends, at most %d steps in an order, memory %s, %.1f s\n", it.states(), it.edges, it.ends, it.depth - 1,
-		       model_names[options.model], seconds() - began);
+		printf("nothing goes wrong: %zu states, %ld steps between them, %ld ends, at most %d steps in an order, memory %s, %.1f s\n", it.states(), it.edges, it.ends,
+		       it.depth - 1, model_names[options.model], seconds() - began);
 	else if (verdict != NOT_DECIDED)
 		printf("  found after %zu states, %.1f s\n", it.states(), seconds() - began);
 	if (verdict == HOLDS)
@@ -266,7 +270,8 @@ static int walks()
 			return GOES_WRONG;
 		}
 	}
-	printf("nothing goes wrong: %ld random orders, %ld steps, seed %ld, memory %s, %.1f s\n", options.walks, steps, options.seed, model_names[options.model], seconds() - began);
+	printf("nothing goes wrong: %ld random orders, %ld steps, seed %ld, memory %s, %.1f s\n", options.walks, steps, options.seed, model_names[options.model],
+	       seconds() - began);
 	return HOLDS;
 }
 

@@ -9,7 +9,10 @@ OPTIONS = {
     "path": {"sends": 1, "bypass": 1, "stops": 0, "wakes": 0, "busy": 0, "quota": 64, "bands": 1, "downs": 0, "lengths": 0, "waiting": 0, "total": 0, "stopped": 0},
     "tap": {"puts": 2, "gets": 2, "batch": 2, "backs": 0, "resizes": 0},
 }
-MOST = {"seats": 4, "len": 32, "children": 2, "queues": 2, "new_len": 32, "sends": 3, "bands": 3, "quota": 64, "bypass": 1, "puts": 3, "gets": 6, "batch": 3, "waiting": 32, "total": 12}
+MOST = {
+    "seats": 4, "len": 32, "children": 2, "queues": 2, "new_len": 32, "sends": 3, "bands": 3, "quota": 64, "bypass": 1, "puts": 3, "gets": 6, "batch": 3,
+    "waiting": 32, "total": 12,
+}  # fmt: skip
 LEAST = {"seats": 1, "len": 1, "children": 1, "queues": 1, "sends": 1, "bands": 1, "quota": 1, "puts": 1, "gets": 1, "batch": 1}
 
 

@@ -1,6 +1,6 @@
 """A small model of the machine of the run lock, as the schedules of `lqtx trace` work it: one station with one queue.
 
-Its steps are those of tools/orders/steps.h, translated, with numbered packets. It is not proved, and nothing that is proved rests on it. `tools/compare PROGRAM`
+Its steps are those of tools/orders/steps.h, translated, with numbered packets. It is not proved, and nothing proved rests on it. `tools/compare PROGRAM`
 compares it with the program's `trace`. What it has beside the program is every step, and the machine with one of six mistakes that were once made: the first
 form, without MISSED, and the five of crates/lq_run_core/specs/Mistakes.antt. A mistake changes what a step does and not how many steps there are, so that an
 order of steps means the same on both machines.
@@ -153,8 +153,10 @@ def slot_take(words, place):
 QUEUED, DIRECT, INTERRUPT, WAKER, SWAPPER = range(5)  # why a seat is in a call
 ANSWERS = {"plain": 0, "full": 1, "stop": 2, "hang": 3, "busy": 4}
 STARTS = ("send", "softirq", "wake")
-CONSTANTS = {"PLAIN": 0, "FULL": 1, "STOPS": 2, "HANGS": 3, "BUSY": 4, "QUEUED": QUEUED, "DIRECT": DIRECT, "INTERRUPT": INTERRUPT, "WAKER": WAKER, "SWAPPER": SWAPPER,
-             "QUEUES": 1, "QUOTA": QUOTA, "WAITS": 0}  # fmt: skip
+CONSTANTS = {
+    "PLAIN": 0, "FULL": 1, "STOPS": 2, "HANGS": 3, "BUSY": 4, "QUEUED": QUEUED, "DIRECT": DIRECT, "INTERRUPT": INTERRUPT, "WAKER": WAKER, "SWAPPER": SWAPPER,
+    "QUEUES": 1, "QUOTA": QUOTA, "WAITS": 0,
+}  # fmt: skip
 
 
 @functools.lru_cache(maxsize=None)

@@ -37,6 +37,8 @@ KEYS = [
     ("source", "ipv6/conf/all/disable_ipv6", 1),
     ("sink", "ipv6/conf/all/disable_ipv6", 1),
 ]
+# the router's addresses, with the neighbour that it has there
+ADDRESSES = [("10.77.1.1/24", None, "r0"), ("10.77.2.1/24", "10.77.2.2", "r1"), ("fd77:1::1/64", None, "r0"), ("fd77:2::1/64", "fd77:2::2", "r1")]
 HEAD = 64  # bytes of a frame that are kept
 SHORTEST = {4: ETHERNET_HEADER + 20, 6: ETHERNET_HEADER + 40}
 MOST = 2**22  # of packets: numbers in 100.64.0.0/10
@@ -81,7 +83,8 @@ def head_of(packet, number):
     ethernet = bytes.fromhex((MACS["r0"] + MACS["s0"]).replace(":", ""))
     if packet.version == 6:
         source = bytes.fromhex("fd770003000000000000000000000000")[:12] + struct.pack(">I", number)
-        return ethernet + b"\x86\xdd" + struct.pack(">IHBB", 6 << 28, packet.length - SHORTEST[6], 17, 64) + source + socket.inet_pton(socket.AF_INET6, "fd77:2::2")
+        header = struct.pack(">IHBB", 6 << 28, packet.length - SHORTEST[6], 17, 64)
+        return ethernet + b"\x86\xdd" + header + source + socket.inet_pton(socket.AF_INET6, "fd77:2::2")
     source, sink = struct.pack(">I", 0x64400000 + number), socket.inet_aton("10.77.2.2")
     header = struct.pack(">BBHHHBBH", 0x45, packet.tos, packet.length - ETHERNET_HEADER, 0, 0x4000, 64, 17, 0) + source + sink
     return ethernet + b"\x08\x00" + header[:10] + struct.pack(">H", checksum(header)) + header[12:]
@@ -113,6 +116,14 @@ def run(*words):
     return done.stdout
 
 
+def ip(space, *words):
+    run("ip", "-n", space, *words)
+
+
+def tc(*words):
+    return run("tc", "-n", "router", *words)
+
+
 def enter():
     """Runs the tool again in namespaces of its own, where it may make others; they end with it. Returns where it is inside already."""
     if os.environ.get(INSIDE):
@@ -135,26 +146,26 @@ def make_router(mtu):
     for space, key, value in KEYS:
         run("ip", "netns", "exec", space, "sh", "-c", f"echo {value} >/proc/sys/net/{key}")
     for device, space in (("s0", "source"), ("r0", "router"), ("r1", "router"), ("k0", "sink")):
-        run("ip", "-n", space, "link", "set", device, "mtu", str(mtu), "addrgenmode", "none")
-        run("ip", "-n", space, "link", "set", device, "up")
-    for address, neighbour, device in (("10.77.1.1/24", None, "r0"), ("10.77.2.1/24", "10.77.2.2", "r1"), ("fd77:1::1/64", None, "r0"), ("fd77:2::1/64", "fd77:2::2", "r1")):
-        run("ip", "-n", "router", "address", "add", address, "dev", device, *["nodad"] * (":" in address))
+        ip(space, "link", "set", device, "mtu", str(mtu), "addrgenmode", "none")
+        ip(space, "link", "set", device, "up")
+    for address, neighbour, device in ADDRESSES:
+        ip("router", "address", "add", address, "dev", device, *["nodad"] * (":" in address))
         if neighbour:
-            run("ip", "-n", "router", "neighbour", "add", neighbour, "lladdr", MACS["k0"], "dev", device, "nud", "permanent")
+            ip("router", "neighbour", "add", neighbour, "lladdr", MACS["k0"], "dev", device, "nud", "permanent")
 
 
 def set_queue(rate_kbit, length, longest):
     """tbf of a rate, with the least bucket, over pfifo_fast of a length."""
-    run("ip", "-n", "router", "link", "set", "r1", "txqueuelen", str(length))
+    ip("router", "link", "set", "r1", "txqueuelen", str(length))
     subprocess.run(["tc", "-n", "router", "qdisc", "del", "dev", "r1", "root"], capture_output=True, check=False)
     # its limit is that of the discipline which pfifo_fast replaces
-    run("tc", "-n", "router", "qdisc", "add", "dev", "r1", "root", "handle", "1:", "tbf", "rate", f"{rate_kbit}kbit", "burst", str(longest + SPARE), "limit", "1000000")
-    run("tc", "-n", "router", "qdisc", "add", "dev", "r1", "parent", "1:1", "handle", "10:", "pfifo_fast")
+    tc("qdisc", "add", "dev", "r1", "root", "handle", "1:", "tbf", "rate", f"{rate_kbit}kbit", "burst", str(longest + SPARE), "limit", "1000000")
+    tc("qdisc", "add", "dev", "r1", "parent", "1:1", "handle", "10:", "pfifo_fast")
 
 
 def counts():
     """How many packets wait in the queue, and how many it has dropped."""
-    root = next(qdisc for qdisc in json.loads(run("tc", "-n", "router", "-s", "-j", "qdisc", "show", "dev", "r1")) if qdisc["kind"] == "tbf")
+    root = next(qdisc for qdisc in json.loads(tc("-s", "-j", "qdisc", "show", "dev", "r1")) if qdisc["kind"] == "tbf")
     return root["qlen"], root["drops"]
 
 
@@ -244,6 +255,6 @@ def replay(packets, rate_kbit, length):
     # a few more may be the kernel's own, which reports its multicast groups
     dropped = counts()[1]
     if lost or lost_too or len(came) != len(packets) or len(came) - len(gone) > dropped:
-        raise Failed(f"{len(packets)} packets were sent, {len(came)} came in, {len(gone)} went out, {dropped} were dropped by the queue, and {lost + lost_too} not captured: "
-                     "some were lost elsewhere", CANT_BE_HAD)  # fmt: skip
+        counts_of = f"{len(packets)} packets were sent, {len(came)} came in, {len(gone)} went out, {dropped} were dropped by the queue"
+        raise Failed(f"{counts_of}, and {lost + lost_too} not captured: some were lost elsewhere", CANT_BE_HAD)
     return came, gone

@@ -1,7 +1,7 @@
 """One order of steps of two senders in a guest, by the emulator's debugger: that which the second try of `qdisc_run_begin` is for.
 
-The first sender has run the bands to their end, and goes on only when the second one has put its packet into them and failed to get the run lock. The second one
-sets MISSED only when the first one has released the lock and looked for MISSED. A kernel without the second try then leaves the second
+The first sender has run the bands to their end, and goes on only when the second one has put its packet into them and failed to get the run lock. The second
+one sets MISSED only when the first one has released the lock and looked for MISSED. A kernel without the second try then leaves the second
 sender's packet in its band.
 """
 import re

@@ -1,11 +1,11 @@
 /* buffers.h: stores that wait in a buffer, as on x86. With PLAIN_STORES defined, moves.h makes each step through it.
  *
  * Each seat has a first-in first-out buffer. A plain store goes into it, and reaches memory later, in its turn; the seat's own loads see it at once. A store
- * that is ordered (a locked instruction, or a barrier behind it) waits until the seat's buffer is empty, and is seen by all at once. Loads aren't reordered, and
- * bits of one word are buffered apart. What is right here may be wrong on weaker machines; what is wrong here is wrong there too.
+ * that is ordered (a locked instruction, or a barrier behind it) waits until the seat's buffer is empty, and is seen by all at once. Loads aren't reordered,
+ * and bits of one word are buffered apart. What is right here may be wrong on weaker machines; what is wrong here is wrong there too.
  *
- * The steps are those of steps.h as they are: a step is made on the words as its seat sees them. The table below has the store of each position. A try that finds
- * the lock held is a load; one that gets it, and the producer's lock of a ring, empty the buffer first, and so does a test-and-set, but for one of TESTS that
+ * The steps are those of steps.h as they are: a step is made on the words as its seat sees them. The table below has the store of each position. A try that
+ * finds the lock held is a load; one that gets it, and the producer's lock of a ring, empty the buffer first, and so does a test-and-set, but for one of TESTS that
  * finds its bit set. Who takes a packet out, and the requeue slot, are no stores here: they are the holder's alone. */
 #define STORES(S) \
     S(PUT_0, q->ring[0].held++, "a packet in band 0") S(PUT_1, q->ring[1].held++, "a packet in band 1") S(PUT_2, q->ring[2].held++, "a packet in band 2") \
@@ -21,8 +21,9 @@ enum { DEPTH = 4 };                     /* stores that a buffer has room for */
 struct buffer { unsigned many : 4, stores : 16; };     /* the first is in the lowest four bits */
 
 static const unsigned char plain[POSITION_COUNT] = { PLAIN_STORES }, tests[POSITION_COUNT] = { TESTS };
-static const unsigned char stores[POSITION_COUNT] = { [PUT] = PUT_0, [UNLOCK] = FREE_LOCK, [CLEARM] = CLEAR_MISSED, [CCLEAR] = CLEAR_MISSED, [CMISS] = SET_MISSED,
-    [AGAIN] = SET_MISSED, [OVER] = SET_MISSED, [CLEARD] = CLEAR_DRAINING, [CDRAIN] = SET_DRAINING, [SCLEAR] = CLEAR_SCHED, [STOP] = STOP_QUEUE, [WAKE] = OPEN_QUEUE };
+static const unsigned char stores[POSITION_COUNT] = {
+    [PUT] = PUT_0, [UNLOCK] = FREE_LOCK, [CLEARM] = CLEAR_MISSED, [CCLEAR] = CLEAR_MISSED, [CMISS] = SET_MISSED, [AGAIN] = SET_MISSED, [OVER] = SET_MISSED,
+    [CLEARD] = CLEAR_DRAINING, [CDRAIN] = SET_DRAINING, [SCLEAR] = CLEAR_SCHED, [STOP] = STOP_QUEUE, [WAKE] = OPEN_QUEUE };
 
 static int store_of(const struct seat *s) { return stores[s->at] + (s->at == PUT ? s->band : 0); }
 static void reaches(struct qdisc *q, int store)

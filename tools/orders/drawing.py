@@ -30,7 +30,8 @@ def arrow_lines(arrow: Arrow, across: List[int], shared: int, y: int) -> List[st
     """The arrow of a step, from its seat to the shared words."""
     if arrow.seat is None:
         # it lies over the column of the shared words
-        return [f'<rect x="{shared - 230}" y="{y - 12}" width="460" height="{ROW - 2}" fill="white"/>', text(shared, y, f"control {arrow.words}", "middle", BOLD)]
+        ground = f'<rect x="{shared - 230}" y="{y - 12}" width="460" height="{ROW - 2}" fill="white"/>'
+        return [ground, text(shared, y, f"control {arrow.words}", "middle", BOLD)]
     x, colour = across[arrow.seat], COLOURS[arrow.seat]
     side = 1 if x < shared else -1
     if arrow.is_start:
@@ -63,7 +64,8 @@ def picture(title: str, names: List[str], arrows: List[Arrow], verdict: str, is_
         if arrow.marked:
             lines.append(f'<rect x="0" y="{y - 13}" width="{right}" height="{ROW}" fill="#fde0dd"/>')
         if most and arrow.left is not None:
-            lines += [f'<rect x="{counted}" y="{y - 7}" width="{round(80 * arrow.left / most)}" height="9" fill="#bbb"/>', text(counted + 84, y, arrow.left, more=GREY)]
+            lines.append(f'<rect x="{counted}" y="{y - 7}" width="{round(80 * arrow.left / most)}" height="9" fill="#bbb"/>')
+            lines.append(text(counted + 84, y, arrow.left, more=GREY))
         lines += arrow_lines(arrow, across, shared, y)
     lines.append(text(20, bottom + 20, verdict, more=fill("#cc0000" if is_bad else "#222") + BOLD))
     legend = "a whole line changes a shared word, a dashed one only looks; grey: what is set afterwards" + (f"; red: {mark}" if mark else "")

@@ -8,7 +8,8 @@ from orders import text
 # the mistakes that the page has to choose from. With the first ones a packet is left within a few steps
 MISTAKES = (
     "begin_sets_no_missed", "begin_gives_up_after_one_try", "end_looks_before_it_releases", "draining_set_without_looking_again", "wake_schedules_nobody",
-    "requeue_sets_no_missed", "missed_cleared_after_the_second_look", "bypass_without_looking_under_the_lock", "quota_sets_no_missed", "begin_waits_for_the_lock",
+    "requeue_sets_no_missed", "missed_cleared_after_the_second_look", "bypass_without_looking_under_the_lock", "quota_sets_no_missed",
+    "begin_waits_for_the_lock",
 )
 
 

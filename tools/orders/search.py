@@ -26,8 +26,8 @@ LIMITS = {
     "busys": (0, 0, 7, "how often it answers NETDEV_TX_BUSY"),
     "downs": (0, 0, 3, "how often the device is deactivated and activated, in steps"),
     "swaps": (0, 0, 3, "how often it is exchanged for another, in steps"),
-    "waits": (0, 0, 1, "1: a deactivation as Linux's, which waits until the lock is free and SCHED is clear; there a soft interrupt that finds DEACTIVATED leaves, and "
-              "a wake looks up its qdisc, which may be noop_qdisc. The proved machine needs no such wait"),
+    "waits": (0, 0, 1, "1: a deactivation as Linux's, which waits until the lock is free and SCHED is clear; there a soft interrupt that finds DEACTIVATED leaves, "
+              "and a wake looks up its qdisc, which may be noop_qdisc. The proved machine needs no such wait"),
 }  # fmt: skip
 
 

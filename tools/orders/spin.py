@@ -21,10 +21,11 @@ def model_of(size: Size, steps: pathlib.Path) -> str:
     kinds = 6 + size.queues + size.bands * size.queues + 2
     places = size.seats + (size.downs + size.swaps > 0)
     # pan.c has a PUT of its own
-    lines = ["c_decl {", f'\\#define STEPS "{steps}"', "\\#define PUT PUTS_", f'\\#include "{HERE}/moves.h"', "\\#undef PUT", "struct state machine = FIRST_STATE, after;"]
-    lines += ["static int may(int seat, int kind) { why = 0; return moved(&machine, seat, kind, &after); }", "}"]
+    lines = ["c_decl {", f'\\#define STEPS "{steps}"', "\\#define PUT PUTS_", f'\\#include "{HERE}/moves.h"', "\\#undef PUT"]
+    lines += ["struct state machine = FIRST_STATE, after;", "static int may(int seat, int kind) { why = 0; return moved(&machine, seat, kind, &after); }", "}"]
     lines += ['c_track "&machine" "sizeof(struct state)"', "active proctype seats()", "{", "end: do"]
-    lines += [f"    :: d_step {{ c_expr {{ may({seat}, {kind}) }} -> c_code {{ machine = after; }}; assert(c_expr {{ !why }}) }}" for seat in range(places) for kind in range(kinds)]
+    move = "    :: d_step {{ c_expr {{ may({}, {}) }} -> c_code {{ machine = after; }}; assert(c_expr {{ !why }}) }}"
+    lines += [move.format(seat, kind) for seat in range(places) for kind in range(kinds)]
     lines += ["    :: c_expr { wrong(&machine) } -> assert(false)", "    od", "}"]
     lines += ["#ifdef LIVE", "never {", "    do :: true :: c_expr { is_served(&machine) } -> break od;"]
     lines += ["accept: do :: c_expr { is_served(&machine) } od", "}", "#endif"]

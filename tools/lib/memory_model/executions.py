@@ -105,7 +105,7 @@ class Runner:
         yield state.with_event("W", place, value, store.order, address=address, data=data)
 
     def modified(self, state, step, orders, made, is_computed=True):
-        """A read-modify-write. Of what was read `made` gives the value that is written, the other reads on which this depends, and what the register gets; or None
+        """A read-modify-write. Of what was read `made` gives the value that is written, the other reads on which that depends, and what the register gets; None
         where nothing is written. A value that isn't computed from what was read, as in an exchange, is written after the read without being made from it."""
         is_full = orders == ("mb", "mb")
         before = state.fence("mb") if is_full else state
