@@ -1,6 +1,6 @@
 """The run of one sender over the built-in devices, by docs/RULES.md, with all words of a station; written apart from the definitions and the program.
 
-With one sender no try of the run lock fails, so each call here does what the steps of one seat come to. `tools/beside-linux` compares each word with kernels,
+With one sender no try of the run lock fails, so each call here does what the steps of one seat come to. `tools/kernel/beside-linux` compares each word with kernels,
 and `tools/compare` the fates with a built program; nothing of it is proved. `Linux` says in which known ways a kernel does otherwise.
 """
 from collections import deque
@@ -14,7 +14,7 @@ from lib.words import Failed
 SCHED, DEACTIVATED, MISSED, DRAINING = 1, 2, 4, 8
 NON_EMPTY = MISSED | DRAINING
 OPEN, STOPPED, HUNG = 0, 1, 2
-# what a slot counts as whose packet was taken and that isn't empty yet (tools/linux/lqtx_bench.c)
+# what a slot counts as whose packet was taken and that isn't empty yet (tools/kernel/linux/lqtx_bench.c)
 STALE = 0xFFFFFFFF
 POWERS = [1]
 while len(POWERS) < 65536:
@@ -22,7 +22,7 @@ while len(POWERS) < 65536:
 
 
 class Linux(NamedTuple):
-    """Known ways in which a kernel does otherwise; see `tools/linux/compare.py`."""
+    """Known ways in which a kernel does otherwise; see `tools/kernel/linux/compare.py`."""
 
     same_length: bool = False
     too_long: bool = False

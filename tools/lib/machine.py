@@ -1,6 +1,6 @@
 """A small model of the machine of the run lock, as the schedules of `lqtx trace` work it: one station with one queue.
 
-Its steps are those of tools/orders/steps.h, translated, with numbered packets. It is not proved, and nothing proved rests on it. `tools/compare PROGRAM`
+Its steps are those of tools/kernel/orders/steps.h, translated, with numbered packets. It is not proved, and nothing proved rests on it. `tools/compare PROGRAM`
 compares it with the program's `trace`. What it has beside the program is every step, and the machine with one of six mistakes that were once made: the first
 form, without MISSED, and the five of crates/lq_run_core/specs/Mistakes.antt. A mistake changes what a step does and not how many steps there are, so that an
 order of steps means the same on both machines.
@@ -10,10 +10,10 @@ import re
 from types import SimpleNamespace
 from typing import NamedTuple, Optional
 
-from orders import python
-from orders import text as steps_text
+from kernel.orders import python
+from kernel.orders import text as steps_text
 
-# of the changes in tools/orders/edits.txt the first form, and those that crates/lq_run_core/specs/Mistakes.antt has
+# of the changes in tools/kernel/orders/edits.txt the first form, and those that crates/lq_run_core/specs/Mistakes.antt has
 MISTAKES = {name: steps_text.edits()[name].about for name in (
     "begin_sets_no_missed", "begin_gives_up_after_one_try", "end_looks_before_it_releases", "missed_cleared_after_the_second_look",
     "draining_set_without_looking_again", "soft_interrupt_gives_up_when_deactivated")}  # fmt: skip
@@ -34,7 +34,7 @@ class Ring(tuple):
 
 
 class Qdisc(NamedTuple):
-    """What the seats share, by the names of tools/orders/state.h; the requeue slot has its packet, or None."""
+    """What the seats share, by the names of tools/kernel/orders/state.h; the requeue slot has its packet, or None."""
 
     len: int
     bypass: bool
@@ -68,7 +68,7 @@ class Qdisc(NamedTuple):
 
 
 class Seat(NamedTuple):
-    """Where a seat stands, which is what it does next, and what it remembers there: as the seat of tools/orders/state.h, with its packet."""
+    """Where a seat stands, which is what it does next, and what it remembers there: as the seat of tools/kernel/orders/state.h, with its packet."""
 
     at: str = "idle"
     raised: int = 0
@@ -104,7 +104,7 @@ def batch(length):
     return 16 if length >= 32 else 1
 
 
-# WHAT ONE STEP DOES: tools/orders/steps.h says it, in C, over what tools/orders/state.h has, which is here
+# WHAT ONE STEP DOES: tools/kernel/orders/steps.h says it, in C, over what tools/kernel/orders/state.h has, which is here
 
 
 class Lost(Exception):

@@ -31,9 +31,9 @@ def fault(text):
     print(f"tools: {text}")
 
 
-def main(what, folder, wanted):
-    """Runs the cases of a folder, each file of which has those of one topic, or the cases whose names have one of these words; whether any failed."""
-    for module in sorted(folder.glob("*.py")):
+def main(what, folders, wanted):
+    """Runs the cases of folders, each file of which has those of one topic, or the cases whose names have one of these words; whether any failed."""
+    for module in sorted(module for folder in folders for module in folder.glob("*.py")):
         importlib.import_module(".".join(module.relative_to(HERE).with_suffix("").parts))
     cases = [function for function in CASES if not wanted or any(word in function.__name__ for word in wanted)]
     if not cases or any(word.startswith("-") for word in wanted):

@@ -1,4 +1,4 @@
-"""What tools/compare says of a kernel's tree, with a stand-in for tools/inside-calls: by itself it takes minutes, and a tree."""
+"""What tools/compare says of a kernel's tree, with a stand-in for tools/kernel/inside-calls: by itself it takes minutes, and a tree."""
 import contextlib
 import io
 
@@ -25,10 +25,10 @@ ROWS = [
 @case
 def compare_tree():
     compare, room = load("compare"), ROOM / "compared"
-    (room / "tools").mkdir(parents=True)
+    (room / "tools/kernel").mkdir(parents=True)
     (room / "tree").mkdir()
     compare.TOP, compare.PARTS = room, ()
-    called, stand_in = room / "called", room / "tools/inside-calls"
+    called, stand_in = room / "called", room / "tools/kernel/inside-calls"
     for row, code, said in ROWS:
         stand_in.write_text(STAND_IN.format(**{"called": called, "cut": 0, "finds": 1, "order": ORDER} | row), encoding="utf-8")
         stand_in.chmod(0o755)
@@ -36,4 +36,4 @@ def compare_tree():
             ended = compare.main([str(HERE / "tests/by-the-rules"), "0", "--tree", str(room / "tree")])
         expect(f"compare --tree, {row}", (int(ended), told.getvalue(), ""), code, said)
     is_equal("the tree that compare names", set(called.read_text(encoding="utf-8").split()), {str(room / "tree")})
-    expect("inside-calls of no tree", run(TOP / "tools/inside-calls", room / "none"), 3, "none is no folder")
+    expect("inside-calls of no tree", run(TOP / "tools/kernel/inside-calls", room / "none"), 3, "none is no folder")

@@ -12,7 +12,7 @@ from concurrent.futures import ThreadPoolExecutor
 from tests.bench import HERE, TOP, case, expect, expect_none, expect_picture, fates_of, fault, heeding, repository, room_of, run
 from lib import toml_text
 
-TOOLS = sorted(path for path in HERE.iterdir() if path.is_file() and os.access(path, os.X_OK))
+TOOLS = sorted(path for path in [*HERE.iterdir(), *(HERE / "kernel").iterdir()] if path.is_file() and os.access(path, os.X_OK))
 
 
 @case
@@ -45,7 +45,7 @@ CALLS = [
     ("show-run", "{plan} {capture} run --marked {out}", ".pcapng", "capture plan fates"),
     ("show-run", "tap 1 4 4 {capture} run {out}", ".svg", "capture fates"),
     ("check-capture", "{capture} --ip {out}", ".pcap", "capture"),
-    ("beside-link", "{capture} 1mbit --keep {out} --program {program}", ".pcap", "capture program"),
+    ("kernel/beside-link", "{capture} 1mbit --keep {out} --program {program}", ".pcap", "capture program"),
     ("gate-cost", "--to {out} {program}", ".json", "program"),
 ]
 WAYS = [".", "link", "hard link", "link to a link", "new/..", "new/deep/../..", "way"]
@@ -58,7 +58,7 @@ OTHERS = {
     "refused-growths": "in a folder of its own",
     "test": "in folders of its own", "test-wrapper": "in a folder of its own",
     "test-beside-linux": "in a folder of its own", "test-docs": "in a folder of its own", "test-play": "in a folder of its own",
-    "explore": "OUT.schedule and OUT.svg, which tools/tests/exploring.py tries", "make-play": "docs/play.html, or OUT.html",
+    "explore": "OUT.schedule and OUT.svg, which tools/kernel/tests/exploring.py tries", "make-play": "docs/play.html, or OUT.html",
 }  # fmt: skip
 WRITES = re.compile(r'write_text\(|write_bytes\(|writing\(|open\([^)\n]*"[wa]b?"|mktemp')
 
@@ -104,10 +104,9 @@ def try_output(job):
 
 @case
 def every_tool_is_listed():
-    page = (HERE / "README.md").read_text(encoding="utf-8")
     for tool in TOOLS:
-        if f"`{tool.name}`" not in page:
-            fault(f"tools/README.md doesn't list {tool.name}")
+        if f"`{tool.name}`" not in (tool.parent / "README.md").read_text(encoding="utf-8"):
+            fault(f"{tool.parent}/README.md doesn't list {tool.name}")
 
 
 @case
@@ -122,7 +121,7 @@ def no_output_is_an_input():
             expect(name, said, 2, " is an input")
             if said[1] or said[2].count("\n") != 1 or not is_kept:
                 fault(f"{name}: says {said[1]!r} and {said[2]!r}, the files are {'as before' if is_kept else 'others'}")
-    told = {call[0] for call in CALLS} | set(OTHERS)
+    told = {call[0].rpartition("/")[2] for call in CALLS} | set(OTHERS)
     for tool in TOOLS:
         if WRITES.search(tool.read_text(encoding="utf-8")) and tool.name not in told:
             fault(f"{tool.name} writes files, and none of its outputs is tried")
@@ -135,7 +134,7 @@ def outputs_of_a_run_and_of_a_build():
     for name in ("run.0.pcap", "run.15.pcap", "run.mq7.pcap", "run.fates", "run.linux.fates", "run.linux.answers"):
         (room / name).unlink(missing_ok=True)
         os.link(files["capture"], room / name)
-        said = run(HERE / "beside-linux", "--rules-alone", files["plan"], files["capture"], room / "run", cwd=room)
+        said = run(HERE / "kernel/beside-linux", "--rules-alone", files["plan"], files["capture"], room / "run", cwd=room)
         expect(f"beside-linux, {name} is the capture", said, 2, f"{name} is an input")
         (room / name).unlink()
     top = repository("sources", {"crates.txt": "lqtx: low\n", "crates/lqtx/src/main.rt": "fn main() {}\n"})
@@ -262,12 +261,12 @@ def what_goes_wrong_outside():
             fault(f"{tool}, a closed pipe: ends with {process.returncode} and says {said!r}")
     none = room / "none"
     for words in (["check-plan", none], ["show-schedule", none], ["sweep", none, none, "irq_every=1..2", "a.csv", "--program", files["program"]],
-                  ["gate-cost", "--read", none], ["refused-growths", none], ["compare", none], ["compare-with-c", none], ["beside-linux", "--rules-alone", none, none],
+                  ["gate-cost", "--read", none], ["refused-growths", none], ["compare", none], ["compare-with-c", none], ["kernel/beside-linux", "--rules-alone", none, none],
                   ["show-run", none, none, none]):  # fmt: skip
         said = run(HERE / words[0], *words[1:], cwd=room)
         if said[0] not in (1, 4) or "Traceback" in said[2] or "none" not in said[2]:
             fault(f"{words[0]}, a file that isn't there: ends with {said[0]} and says {said[2][-300:]!r}")
-    process = subprocess.Popen([HERE / "explore", "--large"], stdout=subprocess.PIPE, stderr=subprocess.PIPE, preexec_fn=heeding)
+    process = subprocess.Popen([HERE / "kernel/explore", "--large"], stdout=subprocess.PIPE, stderr=subprocess.PIPE, preexec_fn=heeding)
     # what it says first comes after a first search
     process.stdout.readline()
     process.send_signal(signal.SIGINT)

@@ -21,7 +21,7 @@ LEFT_OUT = {
     r"\^C|.*station\.0\.len=1\.\.550": "1,100 runs",
     r"cat hosts$|.* --sshloginfile ": "needs other hosts",
     r"tcpdump |zcat <all": "needs a capture, or an interface, of one's own",
-    r"tools/litmus .*--herd |tools/beside-linux ": "needs what isn't everywhere: herd7, an emulator and Debian's packages",
+    r"tools/kernel/litmus .*--herd |tools/kernel/beside-linux ": "needs what isn't everywhere: herd7, an emulator and Debian's packages",
 }
 # commands inside of sentences
 INLINE = {"docs/USING.md": ["./lqtx gen 1 1000 out/g", "tools/show-run tap 4 1000 64 out/g out/t"], "docs/HISTORY.md": ["tools/show-schedule --mistakes"]}
@@ -35,7 +35,7 @@ FILES = {
     }
 }
 # commands that end with another code than 0: a search that finds an order that goes wrong ends with 1
-CODES = {r"tools/explore --(edit|plain) ": 1}
+CODES = {r"tools/kernel/explore --(edit|plain) ": 1}
 PICTURES = {"README.md": {"out/o.svg": "docs/drops.svg"}, "docs/USING.md": {"out/waiting.svg": "docs/link.svg", "out/len.svg": "docs/link-by-len.svg", "out/m.svg": "docs/multi-queue.svg"},
             "docs/BARRIERS.md": {f"out/{name}.svg": f"docs/orders/{name}.svg" for name in ("unlock", "put-miss", "cclear", "clearm-cleard", "wake-sched", "sclear")}}  # fmt: skip
 COMMAND = re.compile(r"    (?:\$ (.*)|((?:\./lqtx|tools/|rt ).*))")

@@ -1,0 +1,1 @@
+"""The parts of `tools/kernel/beside-linux`: a Linux kernel in an emulator, and the rules beside it."""

@@ -1,0 +1,1 @@
+"""Test cases of these tools, by topic; tools/test-tools runs them."""
