@@ -77,7 +77,7 @@ def install_and_uninstall():
 def install_before_the_proof():
     """In a repository whose program isn't built it says so, installs the tools, and begins no proof."""
     top = repository("to-install", {"crates.txt": "lqtx:\n", "docs/lqtx.1": ".Dd x\n", "docs/INSTALLED.md": "# x\n", "docs/FORMATS.md": "# x\n", "crates/lqtx/src/main.rt": ""})
-    shutil.copytree(HERE / "orders", top / "tools/kernel/orders")
+    shutil.copytree(HERE / "kernel", top / "tools/kernel", ignore=shutil.ignore_patterns("inside", "linux", "tests"))
     said = run(top / "tools/install", "--prefix", top / "prefix")
     expect("install before the proof", said, 1, "there is no proved program yet", "7 tools are in")
     expect("a tool before the proof", run(top / "prefix/bin/lqtx-check-plan", TOP / "examples/drops.toml"), 0, "accepted")
