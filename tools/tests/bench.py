@@ -20,27 +20,27 @@ ROOM = pathlib.Path(tempfile.mkdtemp())
 CASES, FAULTS = [], []
 
 
-def case(function):
-    """A case of this test: a function that says what it tries, and looks at what came of it."""
-    CASES.append(function)
-    return function
-
-
 def fault(text):
     FAULTS.append(text)
     print(f"tools: {text}")
 
 
-def main(what, folders, wanted):
-    """Runs the cases of folders, each file of which has those of one topic, or the cases whose names have one of these words; whether any failed."""
-    for module in sorted(module for folder in folders for module in folder.glob("*.py")):
-        importlib.import_module(".".join(module.relative_to(HERE).with_suffix("").parts))
-    cases = [function for function in CASES if not wanted or any(word in function.__name__ for word in wanted)]
+def fault_if(is_wrong, text):
+    if is_wrong:
+        fault(text)
+
+
+def main(what, folders, wanted, try_case=lambda function: function()):
+    """Tries the cases of folders, each file of which has those of one topic as functions test_NAME, or those whose names have one of these words; whether any failed."""
+    for file in sorted(file for folder in folders for file in folder.glob("*.py")):
+        module = importlib.import_module(".".join(file.relative_to(HERE).with_suffix("").parts))
+        CASES.extend(function for name, function in vars(module).items() if name.startswith("test_"))
+    cases = [function for function in CASES if not wanted or any(word in function.__name__.removeprefix("test_") for word in wanted)]
     if not cases or any(word.startswith("-") for word in wanted):
         raise Wrong("no case has such a name: " + " ".join(wanted))
     try:
         for function in cases:
-            function()
+            try_case(function)
     finally:
         shutil.rmtree(ROOM, ignore_errors=True)
     print(f"{what}: {len(FAULTS)} faults" if FAULTS else f"{what}: all {len(cases)} cases pass")
@@ -77,17 +77,14 @@ def heeding():
 
 def expect(name, said, code, *parts):
     """Faults where a tool ended otherwise, or what it said lacks one of these parts."""
-    if said[0] != code:
-        fault(f"{name}: ends with {said[0]}, not {code}: {said[1][-300:]}{said[2][-300:]}")
+    fault_if(said[0] != code, f"{name}: ends with {said[0]}, not {code}: {said[1][-300:]}{said[2][-300:]}")
     for part in parts:
-        if part not in said[1] + said[2]:
-            fault(f"{name}: says nothing of {part!r}: {(said[1] + said[2])[-600:]!r}")
+        fault_if(part not in said[1] + said[2], f"{name}: says nothing of {part!r}: {(said[1] + said[2])[-600:]!r}")
 
 
 def is_equal(name, found, wanted):
     """Faults where something isn't what was worked out by hand."""
-    if found != wanted:
-        fault(f"{name}: {found!r}, not {wanted!r}")
+    fault_if(found != wanted, f"{name}: {found!r}, not {wanted!r}")
 
 
 def load(name):
@@ -101,8 +98,7 @@ def load(name):
 
 def expect_none(name, said, *parts):
     for part in parts:
-        if part in said[1] + said[2]:
-            fault(f"{name}: says {part!r}")
+        fault_if(part in said[1] + said[2], f"{name}: says {part!r}")
 
 
 def repository(name, files):
@@ -140,5 +136,4 @@ def expect_picture(name, file, *parts):
     except xml.etree.ElementTree.ParseError as wrong:
         fault(f"{name}: the picture is no XML: {wrong}")
     for part in parts:
-        if part not in text:
-            fault(f"{name}: the picture lacks {part!r}")
+        fault_if(part not in text, f"{name}: the picture lacks {part!r}")

@@ -6,11 +6,10 @@ import subprocess
 import sys
 
 from lib import packed
-from tests.bench import HERE, ROOM, case, expect, fault, is_equal, repository, room_of, run, write
+from tests.bench import HERE, ROOM, expect, fault_if, is_equal, repository, room_of, run, write
 
 
-@case
-def compare_with_c():
+def test_compare_with_c():
     tool = HERE / "compare-with-c"
     expect("compare-with-c, no program", run(tool), 2, "the following arguments are required: PROGRAM")
     expect("compare-with-c, none there", run(tool, ROOM / "nothing"), 1, "nothing can't be run")
@@ -19,8 +18,7 @@ def compare_with_c():
             expect("compare-with-c, no header", run(tool, *words, "--header", ROOM / "ptr_ring.h", sys.executable), 1, "no such file")
 
 
-@case
-def first_build():
+def test_first_build():
     """A clone, proved and built by a stand-in, and nothing left behind."""
     room = room_of("first")
     low = "lqtx: proved low by 12 s of a processor, 1 of 1 crates, 0 min 00 s so far, done; under way: none"
@@ -41,8 +39,7 @@ def first_build():
         expect("first-build, no rt", build(room, path="/usr/bin:/bin"), 1, "there is no 'rt' on the PATH")
 
 
-@case
-def packed_libraries():
+def test_packed_libraries():
     """Equal interfaces are one file, others aren't; a packed library comes back as it was, and counts where a part of its folder is there too."""
     room, texts = ROOM / "libraries", {"low": "a", "high": "a", "other": "b"}
     packed.FILES = packed.FOLDERS = room
@@ -82,14 +79,12 @@ sys.exit(3)
 """
 
 
-@case
-def gate_cost():
+def test_gate_cost():
     files = {"crates.txt": "low:\nhigh: low\n", "crates/low/must-fail/a_first.edit": "", "crates/low/must-fail/b_second.edit": "", "gate": GATE}
     top = repository("gate", files)
     said = run(top / "tools/gate-cost", "./gate", cwd=top)
     expect("gate-cost", said, 3, "   0.0 == low\n", "rt: low proved\n", "5 passed, 0 failed\n", "processor minutes: proofs ", "low/b_second", "the longest chain of proofs: ", ": low ")
     low = re.search(r"^low +(\d+) +(\d+) +(\d+) ", said[1], re.M)
-    if not low or (low[1], low[2]) != ("1", "0") or low[3] not in ("1", "2"):
-        fault(f"gate-cost: the line of low is {low and low[0]!r}")
+    fault_if(not low or (low[1], low[2]) != ("1", "0") or low[3] not in ("1", "2"), f"gate-cost: the line of low is {low and low[0]!r}")
     expect("gate-cost --read", run(top / "tools/gate-cost", "--read", top / "build/gate-cost.json"), 0, " min; processor seconds of each crate")
     expect("gate-cost, no file", run(top / "tools/gate-cost", "--read", top / "none"), 1, "gate-cost: ")

@@ -2,7 +2,7 @@
 import contextlib
 import io
 
-from tests.bench import HERE, ROOM, TOP, case, expect, is_equal, load, run
+from tests.bench import HERE, ROOM, TOP, expect, is_equal, load, run
 
 # it is called with the tree; its answers are those of a row
 STAND_IN = """#!/bin/sh
@@ -22,8 +22,7 @@ ROWS = [
 ]
 
 
-@case
-def compare_tree():
+def test_compare_tree():
     compare, room = load("compare"), ROOM / "compared"
     (room / "tools/kernel").mkdir(parents=True)
     (room / "tree").mkdir()

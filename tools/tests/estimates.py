@@ -5,7 +5,7 @@ import sys
 import time
 
 from lib import estimate
-from tests.bench import HERE, ROOM, case, fault, is_equal, load, run
+from tests.bench import HERE, ROOM, fault_if, is_equal, load, run
 
 
 def two_crates():
@@ -16,8 +16,7 @@ def two_crates():
     return estimate.simulate({"low": 60, "high": 30}, {"low"}, 2, starts)
 
 
-@case
-def estimates():
+def test_estimates():
     plan = two_crates()
     is_equal("the plan's ends", {crate: round(at, 3) for crate, at in plan.ends.items()}, {"low": 36, "high": 66})
     is_equal("the plan's processor time", [round(seconds, 3) for seconds in plan.work], [0, 72, 102])
@@ -40,8 +39,7 @@ def estimates():
     is_equal("a crate that takes longer than planned", round(known.whole(500)), 500)
 
 
-@case
-def several_processes():
+def test_several_processes():
     """The largest crates of a chain have several, until it takes at most 1.4 times what all crates take beside each other: here 73.5 s.
 
     The chain takes 81 s if two check `middle` in 36 s, and 69 if two check `high` in 18, too.
@@ -81,12 +79,10 @@ def play_again(known, crates, step, took):
             if end <= now and crate not in known.used:
                 known.ended(crate, used)
         known.under_way({crate: used * (now - began) / (end - began) for crate, (began, end, used) in crates.items() if began < now < end})
-        if took(now) and abs(known.whole(now) / took(now) - 1) > 1 / 3:
-            fault(f"the estimate at {now} s: {known.whole(now):.0f} s, where it took {took(now)} s")
+        fault_if(took(now) and abs(known.whole(now) / took(now) - 1) > 1 / 3, f"the estimate at {now} s: {known.whole(now):.0f} s, where it took {took(now)} s")
 
 
-@case
-def estimate_of_a_first_build():
+def test_estimate_of_a_first_build():
     """Right for a machine that stays as it is, and soon after other work came."""
     known = estimate_of(load("build"), ONCE)
     took, slower = max(end for _, end in ONCE.values()), 52 * 60 / sum(known.plan.seconds.values())
@@ -106,16 +102,14 @@ SLOW = {
 }  # fmt: skip
 
 
-@case
-def estimate_of_a_slow_first_build():
+def test_estimate_of_a_slow_first_build():
     """Right though the first crates are small and the unproved build has a processor meanwhile."""
     build = load("build")
     build.SHARES["lq_model"] = 42  # which it took then
     play_again(estimate_of(build, SLOW), SLOW, 20, lambda now: max(end for _, end, _ in SLOW.values()))
 
 
-@case
-def said_beside_took():
+def test_said_beside_took():
     log = ROOM / "log"
     lines = ["building, which proves the program first: 9 to 16 min by machine"]
     lines += ["proved low by 14 s of a processor, 1 of 2 crates, 0 min 14 s so far, about 3 min in all; under way: high"]
@@ -131,20 +125,17 @@ def said_beside_took():
     is_equal("no words", run(*of_lib, cwd=HERE)[0], 2)
 
 
-@case
-def time_of_processes():
+def test_time_of_processes():
     """The processor time of a group of processes, as of one that has worked for half a second, and of one that has ended."""
     build = load("build")
     works = "import time\nwhile time.process_time() < 0.5: pass\nprint(flush=True)\ntime.sleep(30)"
     process = subprocess.Popen([sys.executable, "-c", works], stdout=subprocess.PIPE, preexec_fn=os.setpgrp)
     process.stdout.readline()
     used = build.used_so_far({"low": process.pid})
-    if not 0.4 <= used["low"] < 5:
-        fault(f"a process that has worked for half a second: {used}")
+    fault_if(not 0.4 <= used["low"] < 5, f"a process that has worked for half a second: {used}")
     is_equal("it is under way", build.processor_time(process), None)
     process.kill()
     while (used := build.processor_time(process)) is None:
         time.sleep(0.01)
-    if not 0.4 <= used < 5:
-        fault(f"the same once it has ended: {used}")
+    fault_if(not 0.4 <= used < 5, f"the same once it has ended: {used}")
     is_equal("how it ended", process.returncode, -9)

@@ -9,17 +9,15 @@ import subprocess
 import sys
 from concurrent.futures import ThreadPoolExecutor
 
-from tests.bench import HERE, TOP, case, expect, expect_none, expect_picture, fates_of, fault, heeding, repository, room_of, run
+from tests.bench import HERE, TOP, expect, expect_none, expect_picture, fates_of, fault, fault_if, heeding, repository, room_of, run
 from lib import toml_text
 
 TOOLS = sorted(path for path in [*HERE.iterdir(), *(HERE / "kernel").iterdir()] if path.is_file() and os.access(path, os.X_OK))
 
 
-@case
-def help_and_wrong_words():
+def test_help_and_wrong_words():
     """`--help` goes to standard output and ends with 0; words that a tool doesn't have end with 2, and say so on standard error."""
-    if len(TOOLS) < 20:
-        fault(f"there are {len(TOOLS)} tools")
+    fault_if(len(TOOLS) < 20, f"there are {len(TOOLS)} tools")
     with ThreadPoolExecutor(4) as pool:
         for tool, said in zip(TOOLS, pool.map(lambda tool: run(tool, "--help"), TOOLS)):
             if said[0] or len(said[1]) < 60 or said[2]:
@@ -102,15 +100,12 @@ def try_output(job):
     return f"{tool}: {call}, {out.name} is the {which} by {how}", said, before == contents(room)
 
 
-@case
-def every_tool_is_listed():
+def test_every_tool_is_listed():
     for tool in TOOLS:
-        if f"`{tool.name}`" not in (tool.parent / "README.md").read_text(encoding="utf-8"):
-            fault(f"{tool.parent}/README.md doesn't list {tool.name}")
+        fault_if(f"`{tool.name}`" not in (tool.parent / "README.md").read_text(encoding="utf-8"), f"{tool.parent}/README.md doesn't list {tool.name}")
 
 
-@case
-def no_output_is_an_input():
+def test_no_output_is_an_input():
     jobs = []
     for tool, call, ending, inputs in CALLS:
         for place, which in enumerate(inputs.split()):
@@ -123,12 +118,10 @@ def no_output_is_an_input():
                 fault(f"{name}: says {said[1]!r} and {said[2]!r}, the files are {'as before' if is_kept else 'others'}")
     told = {call[0].rpartition("/")[2] for call in CALLS} | set(OTHERS)
     for tool in TOOLS:
-        if WRITES.search(tool.read_text(encoding="utf-8")) and tool.name not in told:
-            fault(f"{tool.name} writes files, and none of its outputs is tried")
+        fault_if(WRITES.search(tool.read_text(encoding="utf-8")) and tool.name not in told, f"{tool.name} writes files, and none of its outputs is tried")
 
 
-@case
-def outputs_of_a_run_and_of_a_build():
+def test_outputs_of_a_run_and_of_a_build():
     """Outputs whose names are made of a word: none of them is an input either."""
     room, files = inputs_of("prefixes", "")
     for name in ("run.0.pcap", "run.15.pcap", "run.mq7.pcap", "run.fates", "run.linux.fates", "run.linux.answers"):
@@ -141,12 +134,10 @@ def outputs_of_a_run_and_of_a_build():
     for name in ("crates.txt", "crates/lqtx/src/main.rt"):
         before = (top / name).read_bytes()
         expect(f"build, PROGRAM is {name}", run(top / "tools/build", top / name, cwd=top), 2, f"{name} is an input")
-        if (top / name).read_bytes() != before:
-            fault(f"build overwrites {name}")
+        fault_if((top / name).read_bytes() != before, f"build overwrites {name}")
 
 
-@case
-def outputs_that_are_the_user_s():
+def test_outputs_that_are_the_user_s():
     """A file that isn't as a tool left it is overwritten only with --force, and then it is the tool's."""
     for number, (tool, call, ending, _) in enumerate(CALLS):
         room, files = inputs_of(f"own{number}", ending)
@@ -157,21 +148,18 @@ def outputs_that_are_the_user_s():
         before = contents(room)
         said = run(*words, cwd=room)
         expect(f"{tool}: {call}, a file of the user's", said, 2, "out" + ending + " is there, and wasn't left so by an earlier call: --force overwrites it")
-        if said[2].count("\n") != 1 or contents(room) != before:
-            fault(f"{tool}: {call}, a file of the user's: files have changed")
+        fault_if(said[2].count("\n") != 1 or contents(room) != before, f"{tool}: {call}, a file of the user's: files have changed")
         if tool == "show-schedule" or tool == "show-run" and " tap " not in f" {call}":
             expect(f"{tool}: {call}, with --force", run(*words, "--force", cwd=room), 0)
             said = run(*words, cwd=room)
             expect(f"{tool}: {call}, once more", said, 0)
-            if said[2] or out.read_bytes() == before[out.name]:
-                fault(f"{tool}: {call}, once more: says {said[2]!r}")
+            fault_if(said[2] or out.read_bytes() == before[out.name], f"{tool}: {call}, once more: says {said[2]!r}")
             with open(out, "ab") as file:
                 file.write(b"\n")
             expect(f"{tool}: {call}, once the file is changed", run(*words, cwd=room), 2, "--force")
 
 
-@case
-def outputs_of_the_program_without_its_proof():
+def test_outputs_of_the_program_without_its_proof():
     """They are shown where there are no others, which is said, and none of them is written."""
     room, files = inputs_of("unproved", "")
     call = [HERE / "show-run", files["plan"], files["capture"], "run"]
@@ -188,8 +176,7 @@ def short_of_room():
     resource.setrlimit(resource.RLIMIT_FSIZE, (100, 100))
 
 
-@case
-def no_room_for_an_output():
+def test_no_room_for_an_output():
     """A fault of the disk names the output. What was there is there still, and no part of the new file is left."""
     room, files = inputs_of("no room", "")
     for words in ("out.svg", "--dropped out.pcap", "--table out.csv", "--html out.html", "--marked out.pcapng"):
@@ -202,32 +189,27 @@ def no_room_for_an_output():
             fault(f"show-run {words}, no room: ends with {said.returncode}, says {said.stderr!r}, and leaves {sorted(contents(room))}")
 
 
-@case
-def names_that_are_no_text():
+def test_names_that_are_no_text():
     """Names with a control character, or with bytes that aren't UTF-8: pictures and pages are well formed."""
     for number, name in enumerate(("a\x1bb", os.fsdecode(b"a\xffb"), "a\nb")):
         room, files = inputs_of(f"names{number}", "")
         plan, capture = files["plan"].rename(room / f"{name}.toml"), files["capture"].rename(room / f"{name}.pcap")
         said = subprocess.run([HERE / "show-run", plan, capture, room / "run", room / f"{name}.svg", "--html", room / f"{name}.html"], capture_output=True)
-        if said.returncode or said.stderr:
-            fault(f"show-run, a name {name!r}: ends with {said.returncode} and says {said.stderr!r}")
+        fault_if(said.returncode or said.stderr, f"show-run, a name {name!r}: ends with {said.returncode} and says {said.stderr!r}")
         expect_picture(f"a name {name!r}", room / f"{name}.svg")
         (room / f"{name}.html").read_text(encoding="utf-8")
         said = subprocess.run([HERE / "check-plan", plan], capture_output=True)
-        if said.returncode or not said.stdout.startswith(os.fsencode(plan)):
-            fault(f"check-plan, a name {name!r}: says {said.stdout + said.stderr!r}")
+        fault_if(said.returncode or not said.stdout.startswith(os.fsencode(plan)), f"check-plan, a name {name!r}: says {said.stdout + said.stderr!r}")
 
 
-@case
-def outputs_that_are_there():
+def test_outputs_that_are_there():
     """A tool's own outputs are replaced; pictures are SVG and named so; two outputs are two files."""
     room, files = inputs_of("there", "")
     show = lambda *words: run(HERE / "show-schedule", files["schedule"], *words, cwd=room)
     for again in ("a picture", "a picture again"):
         said = show("a.svg")
         expect(again, said, 0)
-        if said[2]:
-            fault(f"{again}: says {said[2]!r}")
+        fault_if(said[2], f"{again}: says {said[2]!r}")
     (room / "a.svg").write_text("<?xml version='1.0'?><svg/>", encoding="utf-8")
     said = show("a.svg")
     expect("a picture over another's", said, 2, "show-schedule: a.svg is there, and wasn't left so by an earlier call: --force overwrites it\n")
@@ -235,12 +217,10 @@ def outputs_that_are_there():
     sweep = lambda *words: run(HERE / "sweep", files["plan"], files["capture"], "irq_every=1..2", *words, "--program", files["program"], cwd=room)
     expect("a sweep's picture of another name", sweep("b.csv", "b.png"), 2, "a picture is written as SVG")
     expect("a table and a picture of one name", sweep("b.svg", "./b.svg"), 2, "./b.svg and b.svg are one file")
-    if (room / "b.svg").exists() or (room / "a.png").exists() or (room / "b.csv").exists():
-        fault("an output that is refused is made")
+    fault_if((room / "b.svg").exists() or (room / "a.png").exists() or (room / "b.csv").exists(), "an output that is refused is made")
 
 
-@case
-def what_goes_wrong_outside():
+def test_what_goes_wrong_outside():
     """A full disk, a closed pipe, a file that isn't there and an interrupt: a line or nothing, an exit code, and no traceback."""
     room, files = inputs_of("outside", "")
     calls = {
@@ -257,8 +237,7 @@ def what_goes_wrong_outside():
         process = subprocess.Popen([HERE / tool, *calls[tool]], stdout=subprocess.PIPE, stderr=subprocess.PIPE)
         process.stdout.close()
         said = process.stderr.read().decode()
-        if process.wait() != -signal.SIGPIPE or said:
-            fault(f"{tool}, a closed pipe: ends with {process.returncode} and says {said!r}")
+        fault_if(process.wait() != -signal.SIGPIPE or said, f"{tool}, a closed pipe: ends with {process.returncode} and says {said!r}")
     none = room / "none"
     for words in (["check-plan", none], ["show-schedule", none], ["sweep", none, none, "irq_every=1..2", "a.csv", "--program", files["program"]],
                   ["gate-cost", "--read", none], ["refused-growths", none], ["compare", none], ["compare-with-c", none], ["kernel/beside-linux", "--rules-alone", none, none],
@@ -271,12 +250,10 @@ def what_goes_wrong_outside():
     process.stdout.readline()
     process.send_signal(signal.SIGINT)
     said = process.communicate()[1].decode()
-    if process.returncode != -signal.SIGINT or "Traceback" in said:
-        fault(f"explore, an interrupt: ends with {process.returncode} and says {said[-300:]!r}")
+    fault_if(process.returncode != -signal.SIGINT or "Traceback" in said, f"explore, an interrupt: ends with {process.returncode} and says {said[-300:]!r}")
 
 
-@case
-def interrupts_before_and_after():
+def test_interrupts_before_and_after():
     """An interrupt while a tool still imports, and one while the interpreter ends: by the signal, and nothing is said."""
     kill = "os.kill(os.getpid(), signal.SIGINT)"
     for text in (f"import lib, os, signal; {kill}", f"from lib import words; import atexit, os, signal; atexit.register(lambda: {kill}); words.run('none', 'none', len)"):

@@ -3,7 +3,7 @@ import ipaddress
 import struct
 
 from lib import flow_hash
-from tests.bench import case, fault
+from tests.bench import fault_if
 
 # source, its port, destination, its port, the hash with the ports, and without: "Verifying the RSS Hash Calculation" of NDIS
 PUBLISHED = [
@@ -33,8 +33,7 @@ def framed(data, tags=b""):
     return bytes(12) + tags + (b"\x08\x00" if data[0] >> 4 == 4 else b"\x86\xdd") + data
 
 
-@case
-def published_flows():
+def test_published_flows():
     """Each published example, in a frame of Ethernet, of one with a tag, and as raw IP."""
     for source, source_port, destination, destination_port, with_ports, without in PUBLISHED:
         ends = source, source_port, destination, destination_port
@@ -43,12 +42,10 @@ def published_flows():
             data = packet(*ends, protocol)
             frames = [(framed(data), ETHERNET), (framed(data, b"\x81\0\0\5"), ETHERNET), (data, RAW_IP)]
             found = {flow_hash.flow_of(frame, link) for frame, link in frames}
-            if found != {wanted}:
-                fault(f"the flow from {source} has {found}, and not {wanted:#x}")
+            fault_if(found != {wanted}, f"the flow from {source} has {found}, and not {wanted:#x}")
 
 
-@case
-def flows_without_ports():
+def test_flows_without_ports():
     """Of which packets the ports aren't hashed, and which frames have no flow."""
     for ends in (PUBLISHED[0], PUBLISHED[5]):
         *ends, with_ports, without = ends
@@ -63,8 +60,6 @@ def flows_without_ports():
         else:
             rows |= {"a header before that of TCP": (packet(*ends, protocol=FRAGMENT), without), "cut in its header": (data[:39], None)}
         for name, (of, wanted) in rows.items():
-            if flow_hash.flow_of(framed(of), ETHERNET) != wanted:
-                fault(f"{name}: the flow is {flow_hash.flow_of(framed(of), ETHERNET)}, and not {wanted}")
+            fault_if(flow_hash.flow_of(framed(of), ETHERNET) != wanted, f"{name}: the flow is {flow_hash.flow_of(framed(of), ETHERNET)}, and not {wanted}")
     odd = [(b"", ETHERNET), (framed(data, b"\x88\xa8\0\5"), ETHERNET), (framed(data, b"\x81\0\0\5\x81\0\0\5"), ETHERNET), (b"\x65" + data[1:], COOKED), (b"\x75" + bytes(60), RAW_IP), (framed(b"\x55" + bytes(60)), ETHERNET)]
-    if any(flow_hash.flow_of(*given) is not None for given in odd):
-        fault(f"frames without a flow have {[flow_hash.flow_of(*given) for given in odd]}")
+    fault_if(any(flow_hash.flow_of(*given) is not None for given in odd), f"frames without a flow have {[flow_hash.flow_of(*given) for given in odd]}")

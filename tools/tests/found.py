@@ -11,7 +11,7 @@ import struct
 import subprocess
 
 from lib import captures, findings
-from tests.bench import HERE, ROOM, TOP, case, expect, expect_none, fates_of, fault, is_equal, room_of, run, write
+from tests.bench import HERE, ROOM, TOP, expect, expect_none, fates_of, fault, is_equal, room_of, run, write
 from tests import wireshark
 from tests.flows import ICMP, UDP, packet
 from tests.made_captures import block, classic, enhanced, interface, padded, section
@@ -141,21 +141,18 @@ def try_found(name, data, plan, parts, count):
         is_equal(f"{name}: kept as it was", (room / f"{name}.cap").read_bytes() == data, True)
 
 
-@case
-def findings_of_captures():
+def test_findings_of_captures():
     for row in FOUND:
         try_found(*row)
 
 
-@case
-def nothing_to_be_said():
+def test_nothing_to_be_said():
     for name, data, plan in CLEAN:
         room = room_of("nothing-found", {"c.pcap": data, "p.toml": plan or ""})
         expect(f"check-capture, {name}", run(HERE / "check-capture", "c.pcap", *["p.toml"] * bool(plan), cwd=room), 0, "nothing is found")
 
 
-@case
-def packets_by_ip_headers():
+def test_packets_by_ip_headers():
     """Of each encapsulation the same packets, with their classes; a frame without an IP header keeps its number."""
     plain = ether(UDP_PACKET), ether(b"\0\1" + bytes(26), b"\x08\6")
     (ROOM / "by-ip.pcap").write_bytes(at_once([*plain, ether(b"\x11\0\0\5\0\x1e\0\x21" + UDP_PACKET, b"\x88\x64"), ether(UDP_PACKET, b"\x88\xa8\0\5\x81\0\0\6\x08\0"), ether(b"\0\1\0\x40\0\1\1\x40" + UDP_PACKET, b"\x88\x47")]))
@@ -164,8 +161,7 @@ def packets_by_ip_headers():
     is_equal("by IP headers: links, routes, lengths", (made.links, list(made.routes), list(made.lengths)), ([101], [6, 0, 6, 6, 6], [len(UDP_PACKET), 28] + [len(UDP_PACKET)] * 3))
 
 
-@case
-def exchanged_and_piped():
+def test_exchanged_and_piped():
     plan, capture = TOP / "examples/drops.toml", TOP / "examples/loopback.pcap"
     expect("check-capture, exchanged", run(HERE / "check-capture", plan, capture), 4, "they are exchanged")
     expect("show-run, exchanged", run(HERE / "show-run", capture, plan, ROOM / "o"), 1, "they are exchanged")
@@ -178,8 +174,7 @@ def exchanged_and_piped():
     is_equal("check-capture of standard input", said.stdout, "/dev/stdin: nothing is found\n")
 
 
-@case
-def tools_say_what_is_found():
+def test_tools_say_what_is_found():
     """Those that run a plan, or make one, say it on standard error, and print what they print without it."""
     frames, said = [ether(UDP_PACKET, head) for head in (b"\x08\x00", b"\x88\xa8\0\5\x08\0")] * 2, "2 of 4 packets (50%) have a tag of type 88a8"
     room = room_of("told", {"c.pcap": classic([START, START + 9000, START + 3000, START + 9000], frames), "p.toml": BY_TIME,
@@ -191,8 +186,7 @@ def tools_say_what_is_found():
             is_equal(f"{tool}: on standard error {part}", part in told[2] and part not in told[1], True)
 
 
-@case
-def said_as_another_tool():
+def test_said_as_another_tool():
     """A file that is read once, as a pipe, is left to the program."""
     both = room_of("as", {"c.pcap": at_once(BOTH_WAYS)}) / "c.pcap"
     os.mkfifo(both.parent / "pipe")
@@ -232,8 +226,7 @@ def files_in(room):
     return {path: (path.stat().st_size, path.stat().st_mtime_ns) for path in room.iterdir()}
 
 
-@case
-def hints_that_are_pasted():
+def test_hints_that_are_pasted():
     """A hint is pasted into a shell: it makes files that weren't there, changes none that was, and what it made isn't refused."""
     room, programs = room_of("hints"), room_of("programs")
     wireshark.put(programs)

@@ -3,7 +3,7 @@ import os
 import shutil
 import subprocess
 
-from tests.bench import HERE, ROOM, TOP, case, expect, fault, is_equal, repository, room_of, run, write
+from tests.bench import HERE, ROOM, TOP, expect, fault, fault_if, is_equal, repository, room_of, run, write
 
 NAMES = ["lqtx", *(f"lqtx-{name}" for name in ("at-rate", "check-capture", "check-plan", "how-long", "show-run", "show-schedule", "sweep"))]
 
@@ -18,8 +18,7 @@ def files_below(folder):
     return sorted(str(path.relative_to(folder)) for path in folder.rglob("*") if not path.is_dir())
 
 
-@case
-def installed_tools_work_anywhere():
+def test_installed_tools_work_anywhere():
     """The commands of docs/INSTALLED.md, in a folder that isn't the repository, by their names alone."""
     prefix, room = ROOM / "prefix", room_of("anywhere", {"all.pcap": (TOP / "examples/link.pcap").read_bytes()})
     expect("install", installed(prefix), 0, "7 tools are in", "export PATH=")
@@ -40,8 +39,7 @@ def installed_tools_work_anywhere():
             fault(f"{file} speaks of the repository")
 
 
-@case
-def installed_program():
+def test_installed_program():
     """It keeps its inputs, says what is wrong with them, and ends as the program does."""
     capture = (TOP / "examples/loopback.pcap").read_bytes()
     prefix, room = ROOM / "prefix-2", room_of("kept", {"part.0.pcap": capture, "wrong.toml": "[[station]]\nlne = 4\n"})
@@ -54,8 +52,7 @@ def installed_program():
     expect("installed, exchanged", run(lqtx, "run", "part.0.pcap", plan, "o", cwd=room), 3, "they are exchanged")
 
 
-@case
-def install_and_uninstall():
+def test_install_and_uninstall():
     prefix = room_of("prefix-3", {"bin/other": ""})
     expect("uninstall, where nothing is", run(HERE / "install", "--prefix", prefix, "--uninstall"), 0)
     installed(prefix)
@@ -64,8 +61,7 @@ def install_and_uninstall():
     is_equal("install: manual", sorted(path.name for path in (prefix / "share/man/man1").iterdir()), sorted(f"{name}.1" for name in NAMES))
     for page in sorted((prefix / "share/man/man1").iterdir()) if shutil.which("mandoc") else []:
         said = run("mandoc", "-T", "lint", "-W", "error", page)
-        if said[0]:
-            fault(f"{page.name}: {said[1][:300]}")
+        fault_if(said[0], f"{page.name}: {said[1][:300]}")
     expect("uninstall", run(HERE / "install", "--prefix", prefix, "--uninstall"), 0)
     is_equal("uninstall: what stays", files_below(prefix), ["bin/other"])
     (prefix / "bin/lqtx-sweep").write_text("a user's own", encoding="utf-8")
@@ -73,8 +69,7 @@ def install_and_uninstall():
     is_equal("install, over another file: what stays", files_below(prefix), ["bin/lqtx-sweep", "bin/other"])
 
 
-@case
-def install_before_the_proof():
+def test_install_before_the_proof():
     """In a repository whose program isn't built it says so, installs the tools, and begins no proof."""
     top = repository("to-install", {"crates.txt": "lqtx:\n", "docs/lqtx.1": ".Dd x\n", "docs/INSTALLED.md": "# x\n", "docs/FORMATS.md": "# x\n", "crates/lqtx/src/main.rt": ""})
     shutil.copytree(HERE / "kernel", top / "tools/kernel", ignore=shutil.ignore_patterns("inside", "linux", "tests"))

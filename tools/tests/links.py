@@ -7,7 +7,7 @@ from lib.alone import Run
 from lib.places import Places
 from lib.wire import times_text
 from lib.words import Failed
-from tests.bench import HERE, case, expect, expect_picture, fault, frame, is_equal, room_of, run
+from tests.bench import HERE, expect, expect_picture, fault, frame, is_equal, room_of, run
 from tests.made_captures import classic
 
 MICROSECOND = 1000
@@ -51,8 +51,7 @@ ROWS = [
 ]
 
 
-@case
-def rows_of_links():
+def test_rows_of_links():
     for given, times, lengths, passed, opened in ROWS:
         keys = dict(given)
         capture = capture_at(times, lengths, keys.pop("bands", None), keys.pop("link", 1))
@@ -76,8 +75,7 @@ def rows_of_links():
 LONG_FIRST = "version = 5\n[[station]]\nrate_kbit = 8000\nring = 1\n"
 
 
-@case
-def shown_of_a_link():
+def test_shown_of_a_link():
     """The second row: 1 waits 1,490 microseconds and 2 waits 1,580, behind a frame of 1,500."""
     room = room_of("link", {"p.toml": LONG_FIRST, "c.pcap": capture_at([0, 10, 20], [1476, 76, 76]).data})
     made = run(HERE / "tests/by-the-rules", "run", "p.toml", "c.pcap", "o", cwd=room)
@@ -102,8 +100,7 @@ def shown_of_a_link():
     expect("show-run, a time that goes back", show(), 1, "a link takes no such capture", "c.pcap has no run of this plan")
 
 
-@case
-def how_long():
+def test_how_long():
     """Of 40 packets at once the first goes, the second waits in the requeue slot and 38 in the ring. At 650 five of these are taken, whose slots stay, and five packets more come."""
     room = room_of("long", {"once.pcap": capture_at([0] * 39 + [1], [76] * 40).data, "twice.pcap": capture_at([0] * 40 + [650] * 5, [76] * 45).data})
     find = lambda name, *words: run(HERE / "how-long", f"{name}.pcap", "8mbit", *words, "--program", HERE / "tests/by-the-rules", cwd=room)

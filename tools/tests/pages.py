@@ -3,7 +3,7 @@ import re
 
 from lib import crates
 from tests import exemplars
-from tests.bench import ROOM, TOP, case, is_equal
+from tests.bench import ROOM, TOP, is_equal
 
 CHAPTER = """# Changing it
 
@@ -42,8 +42,7 @@ def faults_with(name, changes):
     return [fault.removeprefix("docs/CHANGING.md: A fate: ") for fault in exemplars.faults(top)]
 
 
-@case
-def files_that_a_chapter_leaves_out():
+def test_files_that_a_chapter_leaves_out():
     """A file is missed wherever it is: in the crate of another path, in a folder beside one that is named, and among the tools."""
     is_equal("all files are named", faults_with("right", {}), [])
     lacks = "names Gone or gone, and the chapter doesn't name it"
@@ -55,8 +54,7 @@ def files_that_a_chapter_leaves_out():
         is_equal(f"without {cell}", faults_with("less-" + path.replace("/", "-"), fewer), [f"{path} {lacks}"])
 
 
-@case
-def chapters_without_an_exemplar():
+def test_chapters_without_an_exemplar():
     """A chapter that lists files has an exemplar, and one that lists none needs none."""
     without = CHAPTER.replace("Exemplar: ", "It goes by ")
     wanted = ["it has a list of files, and no line 'Exemplar: `NAME`; some N files.'"]
@@ -64,8 +62,7 @@ def chapters_without_an_exemplar():
     is_equal("neither", faults_with("no-list", {"docs/CHANGING.md": without.replace("`: ", "`, ")}), [])
 
 
-@case
-def other_spellings_of_a_number():
+def test_other_spellings_of_a_number():
     """With a value each line that has the name in any spelling, and the value, is found."""
     page = CHAPTER.replace("Exemplar: `Gone`, in texts and tools `gone`; some 6 files.", "Exemplar: `GONE`, in any spelling beside `64`; some 0 files.")
     for line, found in (("gone: int = 64", True), ("if (path_gone < 64)", True), ("64 are gone", True), ("GONE", True), ("gone = 640", False),
@@ -74,8 +71,7 @@ def other_spellings_of_a_number():
         is_equal(f"a line {line!r}", any(named.startswith("tools/other names GONE") for named in has), found)
 
 
-@case
-def catch_alls():
+def test_catch_alls():
     """A catch-all in which a new case goes without a word is found where it is code, a definition or a tool."""
     page = CHAPTER.replace("Not tried yet.", "Not tried yet.\nA catch-all takes a new `Fate`, in tools beside `lost`.")
     arm, definition = "fn f(fate: Fate) {\n        Fate::Lost => 1,\n", "pub of : ℕ → Fate → ℕ\n"
@@ -93,8 +89,7 @@ def catch_alls():
             is_equal(f"{path}, by its folder: {text!r}", faults_with("catch-" + path.replace("/", "-"), {"docs/CHANGING.md": folder, path: text}), wanted)
 
 
-@case
-def crates_of_the_library_page():
+def test_crates_of_the_library_page():
     """docs/LIBRARY.md names the crates that each example stands on, all of them."""
     page, uses = (TOP / "docs/LIBRARY.md").read_text(encoding="utf-8"), crates.uses_of_crates()
     copied = re.search(r"cp -r (.*) mine/crates/", page)[1].replace("crates/", "").split()

@@ -2,7 +2,7 @@
 import re
 
 from lib import plans
-from tests.bench import HERE, ROOM, TOP, case, expect, fault, run
+from tests.bench import HERE, ROOM, TOP, expect, fault, fault_if, run
 from tests.odd_plans import ODD_PLANS
 
 # what is written most often by mistake: the least reason, and a part of what is said
@@ -60,18 +60,15 @@ PLANS = {
 }
 
 
-@case
-def check_plan():
+def test_check_plan():
     for text, (reason, part) in PLANS.items():
         file = ROOM / "plan.toml"
         file.write_text(text, encoding="utf-8")
         said = run(HERE / "check-plan", file)
         expect(f"check-plan {text!r}", said, 3, part)
-        if not said[1].splitlines()[0].endswith(f"({reason})"):
-            fault(f"check-plan {text!r}: the first line isn't of {reason}: {said[1]!r}")
+        fault_if(not said[1].splitlines()[0].endswith(f"({reason})"), f"check-plan {text!r}: the first line isn't of {reason}: {said[1]!r}")
     told = plans.plan_of({"station": [{"rate_kbit": 8000}]}).station[0]
-    if (told.burst, told.card) != (1, plans.Card(8000, 256, None, 0, 24, 84)):
-        fault(f"a station with a rate alone is {told}")
+    fault_if((told.burst, told.card) != (1, plans.Card(8000, 256, None, 0, 24, 84)), f"a station with a rate alone is {told}")
     for file in sorted((TOP / "examples").glob("*.toml")):
         expect(f"check-plan {file.name}", run(HERE / "check-plan", file), 0, "accepted: ")
     (ROOM / "plan.toml").write_text("[[station]]\n" * 8 + "[[event]]\nbefore = 1\nkind = \"swap\"\nstation = 0\n" * 9, encoding="utf-8")
@@ -83,8 +80,7 @@ def check_plan():
     expect("check-plan, no file", run(HERE / "check-plan", ROOM / "none"), 1, "No such file")
 
 
-@case
-def keys_of_a_plan():
+def test_keys_of_a_plan():
     """Each key of the tables of docs/FORMATS.md is a row of tools/lib/plans.py, and the other way round."""
     page = (TOP / "docs/FORMATS.md").read_text(encoding="utf-8")
     rows = re.findall(r"^\| ((?:station |event )?)((?:`\w+`(?:, )?)+) \|", page[page.index("## Plans") : page.index("If several reasons apply")], re.M)
@@ -94,17 +90,14 @@ def keys_of_a_plan():
         fault(f"the key {name} of {section or 'the top'} isn't both in docs/FORMATS.md and in tools/lib/plans.py")
 
 
-@case
-def odd_plans():
+def test_odd_plans():
     """What the program takes, the tools take: a byte order mark, and TOML 1.1. `tools/compare` asks the program."""
     for data, reason in ODD_PLANS.items():
         _, faults = plans.judge(data)
         found = f"{faults[0].reason} {plans.REASONS[faults[0].reason]}" if faults else ""
-        if found != reason:
-            fault(f"the plan {data!r}: {found!r}, not {reason!r}")
+        fault_if(found != reason, f"the plan {data!r}: {found!r}, not {reason!r}")
     _, faults = plans.judge(b"station = [{len = 5, # slots\n\n}]\nlen =\n")
-    if faults[0].line != 4:
-        fault(f"a fault behind an inline table is said to be in line {faults[0].line}, and not 4")
+    fault_if(faults[0].line != 4, f"a fault behind an inline table is said to be in line {faults[0].line}, and not 4")
     file = ROOM / "marked.toml"
     file.write_bytes(b"\xef\xbb\xbfsenders = 2\nstation = [{len = 5,\n},]\n")
     expect("check-plan, a byte order mark", run(HERE / "check-plan", file), 0, "accepted: 1 stations, 1 devices, 0 events, 2 senders")

@@ -2,7 +2,7 @@
 import subprocess
 
 from lib import by_time, plans
-from tests.bench import HERE, TOP, case, expect, expect_none, fault, frame, is_equal, room_of, run
+from tests.bench import HERE, TOP, expect, expect_none, fault, fault_if, frame, is_equal, room_of, run
 from tests.made_captures import classic
 
 
@@ -12,8 +12,7 @@ def capture_at(frames, link=1):
     return classic([1000 * time for time in times], [frame(0, 0, 0)[14 * (link == 101) :]] * len(times), link=link, lengths=lengths)
 
 
-@case
-def at_rate():
+def test_at_rate():
     room = room_of("rate")
 
     def of(frames, *words, link=1):
@@ -54,20 +53,16 @@ def at_rate():
     expect("at-rate, no file", run(HERE / "at-rate", room / "none", "100mbit"), 1, "No such file")
 
 
-@case
-def link():
+def test_link():
     """The example is what its script and `at-rate` make, and small."""
     example = TOP / "examples/link.pcap"
     if subprocess.run([TOP / "examples/make-link"], capture_output=True).stdout != example.read_bytes() or example.stat().st_size > 300000:
         fault("examples/link.pcap isn't what examples/make-link makes")
     said = run(HERE / "at-rate", example, "100mbit", "--len", "100")
-    if said[1] != (TOP / "examples/link.toml").read_text(encoding="utf-8"):
-        fault("examples/link.toml isn't what tools/at-rate writes")
+    fault_if(said[1] != (TOP / "examples/link.toml").read_text(encoding="utf-8"), "examples/link.toml isn't what tools/at-rate writes")
 
 
-@case
-def queue_by_time():
+def test_queue_by_time():
     """Of three packets at once one is taken, and one has a place in a queue of one; a multiple of 10 lies between 9 and 10, and at 10."""
     for times, wanted in (([0, 0, 0], 1), ([9, 9, 10, 10], 1), ([8, 9, 9], 1), ([9, 10, 11], 0), ([9, 10, 11, 12], 1), ([], 0), ([5, 5, 95, 95, 95], 1)):
-        if by_time.dropped_by_time(times, 1, 10) != wanted:
-            fault(f"at {times} {by_time.dropped_by_time(times, 1, 10)} packets are dropped, and not {wanted}")
+        fault_if(by_time.dropped_by_time(times, 1, 10) != wanted, f"at {times} {by_time.dropped_by_time(times, 1, 10)} packets are dropped, and not {wanted}")

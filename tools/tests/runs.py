@@ -4,7 +4,7 @@ import tomllib
 import xml.etree.ElementTree
 
 from lib import captures
-from tests.bench import HERE, TOP, capture_of, case, expect, expect_none, expect_picture, fates_of, fault, frame, is_equal, room_of, run, write
+from tests.bench import HERE, TOP, capture_of, expect, expect_none, expect_picture, fates_of, fault, fault_if, frame, is_equal, room_of, run, write
 
 # of each example plan a part of what is told, with the counts of the pages, and the fates that docs/FORMATS.md tells of
 RUNS = {
@@ -73,8 +73,7 @@ def show(plan, out, *more, capture=LOOPBACK):
     return run(HERE / "show-run", plan, capture, out, *more)
 
 
-@case
-def show_run():
+def test_show_run():
     room = room_of("runs")
     for name, (told, fates) in RUNS.items():
         text = fates_of(tomllib.loads(example(name).read_text(encoding="utf-8")), LOOPBACK)
@@ -120,8 +119,7 @@ def show_run_of_other_files(room):
         said = run(HERE / "show-run", *words.format(room=room, plan=example("drops"), capture=LOOPBACK, drops=room / "drops", none=room / "none.toml").split())
         expect(f"show-run {words}", said, code, why)
         expect_none(f"show-run {words}", said, "Traceback")
-        if code == 2 and said[2].count("\n") != 1:
-            fault(f"show-run {words}: says more than a line: {said[2]!r}")
+        fault_if(code == 2 and said[2].count("\n") != 1, f"show-run {words}: says more than a line: {said[2]!r}")
     is_equal("show-run: inputs", {name: (room / name).read_bytes() for name in inputs}, inputs)
     said = run(HERE / "show-run", "--help")
     expect("show-run --help", said, 0, "tools/show-run PLAN CAPTURE OUT [PICTURE.svg [BACKLOG.svg]] [options]")
@@ -156,8 +154,7 @@ NO_TAP_FATES = {
 }
 
 
-@case
-def show_run_of_a_tap():
+def test_show_run_of_a_tap():
     loopback, text = captures.read(LOOPBACK), "".join(fate + "\n" for fate in TAP_FATES)
     read = loopback.written([0, 1, 3, 4, 5, 6, 9])
     room = room_of("taps", {"ten.pcap": loopback.written(range(10)), "t.fates": text, "t.pcap": read})
@@ -193,8 +190,7 @@ GROUPS = {
 }  # fmt: skip
 
 
-@case
-def groups():
+def test_groups():
     for number, (plan, (packets, fates, joint)) in enumerate(GROUPS.items()):
         room = room_of(f"group{number}", {"p.toml": plan, "c.pcap": capture_of(*(frame(*packet) for packet in packets))})
         found = fates_of(tomllib.loads(plan), room / "c.pcap")
@@ -212,8 +208,7 @@ def groups():
             expect(f"show-run, a joint file of {wrong}", show(), 1, "by serial: it is of another run")
 
 
-@case
-def many_packets():
+def test_many_packets():
     """A picture of many packets is thinned, and stays small."""
     many = capture_of(*(frame([0, 8, 16][n % 3], n % 7, 0) for n in range(30000)))
     room = room_of("many", {"c.pcap": many, "p.toml": "version = 3\nsenders = 2\n[[station]]\nmq = 2\nlen = 4096\nburst = 1\n", "one.toml": "[[station]]\n",
@@ -231,10 +226,8 @@ def many_packets():
     picture = (room / "o.svg").read_text(encoding="utf-8")
     # of the group's panel, whose dots are thinned twice
     for colour in ("#59a14f", "#b07aa1"):
-        if f'h0" stroke="{colour}"' not in picture:
-            fault(f"the picture has no dots of {colour}")
-    if len(picture) > 1_000_000 or not 5000 < picture.count("h0") <= 60000:
-        fault(f"the picture has {len(picture)} bytes and {picture.count('h0')} dots")
+        fault_if(f'h0" stroke="{colour}"' not in picture, f"the picture has no dots of {colour}")
+    fault_if(len(picture) > 1_000_000 or not 5000 < picture.count("h0") <= 60000, f"the picture has {len(picture)} bytes and {picture.count('h0')} dots")
     # each band is to be seen where all are sent in their order, which is one line of dots
     expect("show-run, a line of dots", show("one", "one"), 0, "30000 pkt")
     picture = (room / "one.svg").read_text(encoding="utf-8")

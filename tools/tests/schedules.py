@@ -2,7 +2,7 @@
 import random
 
 from lib import machine
-from tests.bench import HERE, ROOM, TOP, case, expect, expect_none, fault, run
+from tests.bench import HERE, ROOM, TOP, expect, expect_none, fault, fault_if, run
 
 SCHEDULES = {"second-try": 41, "second-try-finds-nothing": 58, "release-then-look": 47, "clear-then-look": 53, "look-at-the-stop-word-again": 55,
              "wake-after-the-second-look": 48, "soft-interrupt-clears-first": 53, "bypass-looks-under-the-lock": 49}  # fmt: skip
@@ -21,8 +21,7 @@ def schedule(name):
     return TOP / "examples/schedules" / f"{name}.schedule"
 
 
-@case
-def show_schedule():
+def test_show_schedule():
     for name, steps in SCHEDULES.items():
         said = run(HERE / "show-schedule", schedule(name))
         expect(f"show-schedule {name}", said, 0, f"\n{steps:5}  ", "held 0: nothing is left")
@@ -34,8 +33,7 @@ def show_schedule():
     for mistake, (name, left) in LEFT.items():
         said = run(HERE / "show-schedule", "--mistake", mistake, schedule(name), picture)
         expect(f"show-schedule --mistake {mistake}", said, 0, f"held 1, nobody comes: {left}, lock free", "the right machine is elsewhere")
-        if "nobody comes" not in picture.read_text(encoding="utf-8"):
-            fault(f"the picture of {mistake} doesn't tell the end")
+        fault_if("nobody comes" not in picture.read_text(encoding="utf-8"), f"the picture of {mistake} doesn't tell the end")
     said = run(HERE / "show-schedule", "--mistake", "begin_gives_up_after_one_try", schedule("release-then-look"))
     expect("a mistake that doesn't show", said, 0, "held 0: nothing is left", "the mistake doesn't show in this order")
     expect("show-schedule --mistakes", run(HERE / "show-schedule", "--mistakes"), 0, *LEFT)
@@ -48,8 +46,7 @@ def show_schedule():
 CHASES = {"chase": (87, 42, "held 0: nothing is left"), "stopped-chase": (65, 30, "held 1: packet 1 in band 0; seats are still on their way, or the queue is stopped")}
 
 
-@case
-def chases():
+def test_chases():
     """The machine after the round is the one before it, and within it nothing bounds the steps."""
     for name, (steps, moves, end) in CHASES.items():
         said = run(HERE / "show-schedule", schedule(name))
@@ -57,10 +54,8 @@ def chases():
         expect_none(f"show-schedule {name}", said, f"\n{steps + 1:5}  ")
         states = [event.after for event in machine.work(schedule(name).read_bytes())]
         rounds = [place for place, state in enumerate(states) if state == states[-1]]
-        if len(rounds) != 2 or rounds[1] - rounds[0] != moves:
-            fault(f"{name} comes to its last machine at {rounds}")
-        if any(machine.left(state) is not None for state in states[rounds[0] :]):
-            fault(f"{name}: the round has a bound")
+        fault_if(len(rounds) != 2 or rounds[1] - rounds[0] != moves, f"{name} comes to its last machine at {rounds}")
+        fault_if(any(machine.left(state) is not None for state in states[rounds[0] :]), f"{name}: the round has a bound")
 
 
 # a packet's way with nobody else about, and how many steps may still come at each of its steps: 20 for it, and the seat's way (docs/NO-PACKET-LEFT.md)
@@ -86,13 +81,11 @@ def random_moves(of, seats):
         m = after
 
 
-@case
-def steps_left():
+def test_steps_left():
     said = run(HERE / "show-schedule", schedule("second-try"), ROOM / "left.svg")
     expect("show-schedule, steps left", said, 0, *WAY_OF_ONE)
     picture = (ROOM / "left.svg").read_text(encoding="utf-8")
-    if ">left</text>" not in picture or ">47</text>" not in picture:
-        fault("the picture doesn't draw how many steps are left")
+    fault_if(">left</text>" not in picture or ">47</text>" not in picture, "the picture doesn't draw how many steps are left")
     said = run(HERE / "show-schedule", "--mistake", "begin_gives_up_after_one_try", schedule("second-try"))
     expect("show-schedule, steps left and nobody", said, 0, "   24    21     1  leave             idle                 1    20  inside 0\nheld 1, nobody comes")
     of, bounded = random.Random(1), 0
@@ -104,12 +97,10 @@ def steps_left():
                 if b > a + MAY_ADD.get(what, -1):
                     fault(f"a move doesn't come nearer: {before}, {what}: {a}, then {b}")
                     return
-    if bounded < 5000:
-        fault(f"only {bounded} moves had a bound")
+    fault_if(bounded < 5000, f"only {bounded} moves had a bound")
 
 
-@case
-def why_a_schedule_is_refused():
+def test_why_a_schedule_is_refused():
     rows = {
         "seats 3 len 1 bypass 0\n0 send 1\n0 step 4\n1 send 1\n1 step 3\n": "line 5: seat 1 can't do step 3 of 3: it is at put, and band 1 has 1 of 1 packets: write `1 full`",
         "seats 2 len 4 bypass 0\n0 step 1\n": "line 2: seat 0 can't do step 1 of 1: it is idle: it can begin `0 send B`, `0 wake`",
@@ -128,5 +119,4 @@ def why_a_schedule_is_refused():
         file.write_text(text, encoding="utf-8")
         said = run(HERE / "show-schedule", "--why", file)
         expect(f"why {text!r}", said, 7, why)
-        if said[1]:
-            fault("show-schedule --why writes to standard output")
+        fault_if(said[1], "show-schedule --why writes to standard output")

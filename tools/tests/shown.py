@@ -10,7 +10,7 @@ import subprocess
 import tomllib
 
 from lib import captures, packets
-from tests.bench import ROOM, HERE, TOP, capture_of, case, expect, expect_none, fates_of, fault, frame, room_of, run, write
+from tests.bench import ROOM, HERE, TOP, capture_of, expect, expect_none, fates_of, fault, fault_if, frame, room_of, run, write
 from tests.made_captures import block, enhanced, interface, option, section, simple
 
 
@@ -33,12 +33,10 @@ HEAD = "number,time,length,sender,station,queue,band,dscp,protocol,source,source
 
 def expect_table(name, file, first, rows):
     text = file.read_text(encoding="utf-8")
-    if text != "".join(line + "\n" for line in [HEAD, *(f"{first + n},{row}" for n, row in enumerate(rows))]):
-        fault(f"{name}: the table is {text}")
+    fault_if(text != "".join(line + "\n" for line in [HEAD, *(f"{first + n},{row}" for n, row in enumerate(rows))]), f"{name}: the table is {text}")
 
 
-@case
-def waits_and_table():
+def test_waits_and_table():
     table = ROOM / "shown/six.csv"
     said = shown("six", SLOW, SIX, "--table", table, "--flows")
     expect("waits", said, 0, "\n 2 sent while packets came, and 4 after the last packet\n", "\n 0 0.0.0.7 > 0.0.0.9: sent 204 bytes 6 pkt, dropped 0\n",
@@ -60,15 +58,13 @@ def waits_and_table():
         as_text = lambda value: "" if value is None else str(value).lower() if isinstance(value, bool) else str(value)
         for entry, row in zip(found, rows):
             told = {key: f"{value:.6f}" if key in ("time", "waited_seconds") else as_text(value) for key, value in entry.items()}
-            if told != row or len(found) != 6:
-                fault(f"table{ending}: {told} beside {row}")
+            fault_if(told != row or len(found) != 6, f"table{ending}: {told} beside {row}")
     # an event: packets 1 and 2 are purged before packet 3, for which two and one came in the meantime; the last is full behind a ring of one slot
     down = SLOW + "len = 1\n[[event]]\nbefore = 3\nkind = \"down\"\nstation = 0\n[[event]]\nbefore = 3\nkind = \"up\"\nstation = 0\n"
     expect("waits, an event", shown("down", down.replace("irq_every = 4", "irq_every = 9"), SIX, "--table", table), 0, "backlog at most 2 pkt")
     fates = [row.split(",", 13)[13] for row in table.read_text(encoding="utf-8").splitlines()[1:]]
     wanted = ["sent,,0,0,0,0.000000,false", "purged,0,,,1,1.000000,false", "purged,0,,,0,0.000000,false", "sent,,0,1,2,2.000000,true", "sent,,0,2,1,1.000000,true", "full,4,,,0,0.000000,false"]
-    if fates != wanted:
-        fault(f"table, an event: {fates}")
+    fault_if(fates != wanted, f"table, an event: {fates}")
     # of several senders nothing is known of waits
     (ROOM / "shown/many.toml").write_text("senders = 2\n[[station]]\n", encoding="utf-8")
     shutil.copy(ROOM / "shown/six.fates", ROOM / "shown/many.fates")
@@ -111,8 +107,7 @@ FRAMES = {
 }
 
 
-@case
-def flows():
+def test_flows():
     for name, (link, data, service, flow) in FRAMES.items():
         head = bytes.fromhex("a1b23c4d0002000400000000000000000000ffff") + link.to_bytes(4, "big")
         of = packets.Packets(captures.Capture(head + struct.pack(">IIII", 5, 7, len(data), len(data)) + data))
@@ -140,8 +135,7 @@ def without_comment(order, data):
     return block(order, 6, data[8:at] + (rest if rest != bytes(4) else b"")), (data[at + 4 : at + 4 + length] if number == 1 else None)
 
 
-@case
-def marked():
+def test_marked():
     fates = ["sent 0 0, station 0, queue 0, band 1", "sent 0 1, station 0, queue 0, band 1", *(f"sent 0 {n}, station 0, queue 0, band 1, after the last packet" for n in range(2, 6))]
     for order in "<>":
         for magic, part, name in ((0xA1B2C3D4, 6, "microseconds"), (0xA1B23C4D, 9, "nanoseconds")):
@@ -154,8 +148,7 @@ def marked():
             for n, told in enumerate(fates):
                 options = option(order, 1, f"lqtx: {told}".encode()) + bytes(4)
                 wanted.append(enhanced(order, frame(0, 7, 9) + b"x" * n, 0, (4294967290 + n) * 10**part + 999990 + n, 1500 + n, options))
-            if [data for _, data in found] != wanted:
-                fault(f"marked, {name} {order}: {file.read_bytes().hex()}")
+            fault_if([data for _, data in found] != wanted, f"marked, {name} {order}: {file.read_bytes().hex()}")
     marked_pcapng()
 
 
@@ -190,8 +183,7 @@ def marked_pcapng():
                 fault(f"marked pcapng, {order}: {comments}, {[a == b for a, b in zip(found, parts)]}")
             # milliseconds, and no time where the block has none
             times = [row["time"] for row in csv.DictReader((ROOM / "shown/ng.csv").open(encoding="utf-8"))]
-            if times != ["21474836.486000", "21474836.486000", "", "21474836.486000"]:
-                fault(f"marked pcapng, {order}: the times are {times}")
+            fault_if(times != ["21474836.486000", "21474836.486000", "", "21474836.486000"], f"marked pcapng, {order}: the times are {times}")
 
 
 # what is done on a page by a script of this test, and what is to be seen then
@@ -239,23 +231,19 @@ def expect_seen(name, page, fragment, wanted, **more):
     for key, value in wanted.items():
         if seen.get(key) != value and not (isinstance(value, list) and all(part in seen.get(key, "") for part in value)):
             fault(f"{name}: {key} is {seen.get(key)!r}, not {value!r}; {seen.get('fault')}")
-    if faults:
-        fault(f"{name}: {faults}")
+    fault_if(faults, f"{name}: {faults}")
 
 
-@case
-def page():
+def test_page():
     """The page of a run; and in a browser, where there is one."""
     file, drops = ROOM / "shown/drops.html", (TOP / "examples/drops.toml").read_text(encoding="utf-8")
     expect("page", shown("drops", drops, (TOP / "examples/loopback.pcap").read_bytes(), "--html", file), 0)
     text = file.read_text(encoding="utf-8")
     for part in ("112 packets were sent while packets came, and 41 after the last packet", "<td>station 0</td><td>153</td><td>20639</td><td>41</td><td>117</td>", "<td>band 0</td><td>40</td><td>2918</td><td>1</td>"):
-        if part not in text:
-            fault(f"page: lacks {part!r}")
+        fault_if(part not in text, f"page: lacks {part!r}")
     own = re.sub(r'xmlns="http://www.w3.org/2000/svg"', "", text)
     for outside in ("http:", "https:", " src=", "@import", "fetch(", "XMLHttpRequest", "url("):
-        if outside in own:
-            fault(f"page: has {outside!r}, which may load something")
+        fault_if(outside in own, f"page: has {outside!r}, which may load something")
     # packet 0 goes at once, 1 waits in the slot and 2 in the ring of one slot; each opening lets one go, whose place the next packet takes: 101 are sent
     many, plan = capture_of(*[frame(0, 7, 9)] * 100000), "irq_every = 1000\n[[station]]\nburst = 1\nlen = 1\n"
     expect("page of 100,000 packets", shown("large", plan, many, "--html", file.with_name("large.html")), 0, " 101 pkt, dropped 99899 (full 99899)")

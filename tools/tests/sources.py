@@ -1,5 +1,5 @@
 """Tools that read the sources: what nobody needs, names with several meanings, and what is to be read."""
-from tests.bench import case, expect, expect_none, is_equal, repository, run
+from tests.bench import expect, expect_none, is_equal, repository, run
 
 SMALL = {
     "README.md": "A law stands: `kept_law`.\n",
@@ -94,8 +94,7 @@ def of_sources(name, files):
     return top
 
 
-@case
-def dead():
+def test_dead():
     top = of_sources("dead", SMALL)
     said = run(top / "tools/dead")
     expect("dead", said, 1, "Words.antt:13: unused", "Lemmas.antt:10: dead_lemma", "only_of_dead", "lib.rt:28: fn dead_fn", "nobody needs 4")
@@ -119,8 +118,7 @@ def dead():
     is_equal("dead, comments", said[1].count("a comment names"), len(gone))
 
 
-@case
-def names():
+def test_names():
     other = {"crates/high/specs/Words.antt": "abbrev pub word : ℕ\nword = 2\n", "crates/high/specs/More.antt": "abbrev pub word : ℕ\nword = 3\n"}
     top = repository("names", SMALL | other)
     expect("names", run(top / "tools/names"), 1, "word has 3 meanings: crates/high/specs/More.antt:1,", "1 names have several meanings")
@@ -129,8 +127,7 @@ def names():
     expect("names, once each", run(top / "tools/names"), 0, "each name of a definition has one meaning")
 
 
-@case
-def reading_list():
+def test_reading_list():
     code = SMALL["crates/low/src/lib.rt"]
     laws = "ghost use Rattle.low.specs.Words.{Whole};\n\n/// First.\npub fn invariant_is_kept()\n    ensures { Whole }\n{}\n\npub fn quiet_holds_nothing()\n    ensures { Whole }\n{}\n"
     bound = "ghost use Rattle.parts.specs.Parts.{Bound};\n" + "".join(f"\npub fn {name}()\n    ensures {{ Bound }}\n{{}}\n" for name in ("no_order_keeps_a_packet", "what_leaves_is_sent", "somebody_comes"))

@@ -7,7 +7,7 @@ import sys
 import time
 
 from lib import toml_text
-from tests.bench import HERE, ROOM, TOP, capture_of, case, expect, expect_none, expect_picture, fates_of, fault, frame, heeding, is_equal, repository, room_of, run, write
+from tests.bench import HERE, ROOM, TOP, capture_of, expect, expect_none, expect_picture, fates_of, fault, fault_if, frame, heeding, is_equal, repository, room_of, run, write
 
 CAPTURE = TOP / "examples/loopback.pcap"
 # a stand-in for the program: of each 50 packets so many are sent as the rings have slots, or as `irq_every` says; with SLOW it takes its time
@@ -54,14 +54,12 @@ def has_results(room, many):
     return results is not None and results.read_text(encoding="utf-8").count("\n") >= many
 
 
-@case
-def sweep():
+def test_sweep():
     room = room_of("sweep", FILES)
     expect("sweep", swept(room, "station.0.len=10..50:10", "a.csv", "a.svg"), 0, "fewest not sent: 0, first at station.0.len=50\n")
     rows = lines_of(room / "a.csv")
     head = "station.0.len,station,band,sent,full,shrunk,purged,refused,sent_after_last"
-    if rows[0] != head or len(rows) != 21 or not {"10,0,all,60,210,0,0,0,0", "50,0,0,40,0,0,0,0,0"} <= set(rows):
-        fault(f"sweep: the table is {rows}")
+    fault_if(rows[0] != head or len(rows) != 21 or not {"10,0,all,60,210,0,0,0,0", "50,0,0,40,0,0,0,0,0"} <= set(rows), f"sweep: the table is {rows}")
     expect_picture("sweep", room / "a.svg", "plan.toml over loopback.pcap, 270 packets", "station.0.len", "band 2", "packets not sent")
     is_equal("sweep: its folder is left behind", (room / "a.csv.runs").exists(), False)
     expect("sweep, two keys", swept(room, "station.0.len=10..40:10", "irq_every=1,2", "b.csv", "b.svg"), 0, "fewest not sent: 50, first at station.0.len=40, irq_every=1")
@@ -87,8 +85,7 @@ def sweep():
         is_equal("sweep, by GNU parallel: lines", len(lines_of(room / "g.csv")), 49)
 
 
-@case
-def an_interrupted_sweep_goes_on():
+def test_an_interrupted_sweep_goes_on():
     room = room_of("goes on", FILES)
     process = started(room, "station.0.len=21..40", "f.csv", "--jobs", "2", SLOW="0.5")
     wait_until(lambda: has_results(room, 3))
@@ -109,8 +106,7 @@ for line in sys.stdin:
 """
 
 
-@case
-def sweep_by_itself():
+def test_sweep_by_itself():
     """One host's runs are done by Python, in folders with blanks; those of other hosts by GNU parallel, in such folders too."""
     room = room_of("a sweep's room", FILES | {"parallel": PARALLEL, "hosts": "1/:\n"})
     top = repository("with a blank", {"lqtx": "", "capture.pcap": CAPTURE.read_bytes()})
@@ -123,8 +119,7 @@ def sweep_by_itself():
     is_equal("sweep: the table of hosts", tables[1], tables[0])
 
 
-@case
-def the_program_of_a_sweep():
+def test_the_program_of_a_sweep():
     """The built one, or else the one without its proof, which is said; a proof isn't begun."""
     files = {"lqtx": "#!/bin/sh\nexit 9\n", "crates.txt": "lqtx:\n", "crates/lqtx/src/main.rt": "fn main() {}\n",
              "capture.pcap": CAPTURE.read_bytes(), "plan.toml": FILES["plan.toml"]}
@@ -142,8 +137,7 @@ def the_program_of_a_sweep():
     expect("sweep --unproved", run(*words, "--unproved", cwd=top), 0, f"{told}\n")
 
 
-@case
-def an_interrupt_of_a_sweep():
+def test_an_interrupt_of_a_sweep():
     """It ends within a second, and with it the programs that it runs; beside much other work it may take longer."""
     room = room_of("interrupt", FILES)
     process = started(room, "station.0.len=21..40", "f.csv", "--jobs", "2", SLOW="60")
@@ -155,12 +149,10 @@ def an_interrupt_of_a_sweep():
     if process.returncode != -signal.SIGINT or time.monotonic() - began > most or "the same call goes on" not in said or "Traceback" in said:
         fault(f"sweep, an interrupt: ends with {process.returncode} after {time.monotonic() - began:.1f} s, and says {said!r}")
     time.sleep(0.1)
-    if not is_idle():
-        fault("sweep, an interrupt: a program goes on")
+    fault_if(not is_idle(), "sweep, an interrupt: a program goes on")
 
 
-@case
-def two_sweeps_into_one_file():
+def test_two_sweeps_into_one_file():
     room = room_of("two", FILES | {"b.csv.runs/notes": "mine"})
     first = started(room, "station.0.len=30..40", "a.csv", "--jobs", "1", SLOW="2")
     wait_until(lambda: has_results(room, 1))
@@ -188,8 +180,7 @@ AFTER = {
 }  # fmt: skip
 
 
-@case
-def sent_after_the_last_packet():
+def test_sent_after_the_last_packet():
     for number, (text, (bands, wanted)) in enumerate(AFTER.items()):
         room = room_of(f"after{number}", {"plan.toml": text, "c.pcap": capture_of(*(frame([16, 0, 8][band], 0, 0) for band in bands))})
         fates = fates_of(toml_text.loads(text), room / "c.pcap")
@@ -203,8 +194,7 @@ def sent_after_the_last_packet():
             expect_none("sweep, nothing after the last packet", said, "after the last one")
 
 
-@case
-def bursts():
+def test_bursts():
     """The example whose answer doesn't come of where the capture ends: it is the same for one burst and for eight."""
     make, plan = TOP / "examples/make-bursts", toml_text.loads((TOP / "examples/bursts.toml").read_text(encoding="utf-8"))
     is_equal("examples/bursts.pcap is what examples/make-bursts makes", subprocess.run([make], capture_output=True).stdout ==

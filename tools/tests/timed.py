@@ -3,7 +3,7 @@ import struct
 
 from lib import captures, plans, times
 from lib.places import Places
-from tests.bench import HERE, case, expect, expect_picture, fault, frame, is_equal, room_of, run
+from tests.bench import HERE, expect, expect_picture, fault, fault_if, frame, is_equal, room_of, run
 from tests.flows import ICMP, PUBLISHED, framed, packet
 from tests.made_captures import classic, enhanced, interface, option, section, simple
 
@@ -12,8 +12,7 @@ HERE_AND_THERE = [0, 5000, 10000, 10000, 9999, 40000, 86400000040000]
 
 def plan_of(text):
     root, faults = plans.judge(text.encode())
-    if faults:
-        fault(f"{text!r} is no plan: {faults}")
+    fault_if(faults, f"{text!r} is no plan: {faults}")
     return plans.plan_of(root)
 
 
@@ -25,8 +24,7 @@ def pcapng(order, interfaces, packets):
     return captures.Capture(section(order, *(interface(order, 1, given) for given in options), *found))
 
 
-@case
-def times_of_captures():
+def test_times_of_captures():
     """Micro- and nanoseconds in both byte orders; powers of ten and of two, an offset, two interfaces, simple packets, and times before 1970."""
     for order in "<>":
         for is_nano, wanted in ((False, [7 * 10**9 + 5000, 3]), (True, [7 * 10**9 + 5, 3])):
@@ -47,8 +45,7 @@ def times_of_captures():
             is_equal(f"times, {order}, {name}", list(times.moments_of(pcapng(order, interfaces, packets))), wanted)
 
 
-@case
-def openings_by_time():
+def test_openings_by_time():
     """The rows of lq_model/src/runs.rt."""
     capture = captures.Capture(classic(HERE_AND_THERE, [frame(0, 0, 0)] * 7, is_nano=True))
     for text, wanted in (("irq_us = 10", [0, 1, 0, 0, 4, 65535, 0]), ("irq_every = 2", [0, 1, 0, 1, 0, 1, 0])):
@@ -56,8 +53,7 @@ def openings_by_time():
         is_equal(text, [places.openings(n) for n in range(7)], wanted)
 
 
-@case
-def places_by_flow():
+def test_places_by_flow():
     """A published flow has the hash 0x51ccc178 with its ports, and 0x323e8fc2 without."""
     ends = PUBLISHED[0][:4]
     frames = [framed(packet(*ends)), framed(packet(*ends, protocol=ICMP)), frame(0, 7, 5), frame(0, 7, 5, b"\x08\x06\x45")]
@@ -76,8 +72,7 @@ def places_by_flow():
     is_equal("packets by bytes", (list(source.stations), list(source.queues), list(source.senders)), ([5, 5, 4 + 7 % 2, 0], [0, 0, 0, 0], [0, 1, 2, 3]))
 
 
-@case
-def swept_by_time():
+def test_swept_by_time():
     """A packet is sent when it comes or when the queue is opened, which stops after each: five come within four microseconds."""
     capture = classic([0, 1000, 2000, 3000, 4000], [frame(0, 0, 0)] * 5, is_nano=True)
     room = room_of("swept", {"c.pcap": capture, "p.toml": "version = 4\nirq_us = 1\n[[station]]\nlen = 1\nburst = 1\n"})
@@ -90,8 +85,7 @@ def swept_by_time():
     expect("sweep by time, both keys", run(HERE / "sweep", "p.toml", "c.pcap", "irq_every=1,2", "s.csv", "--program", program, cwd=room), 1, "it is used in place of `irq_every`")
 
 
-@case
-def shown_by_time():
+def test_shown_by_time():
     """Packet 1 leaves at 10 microseconds, packet 2 at 20, and packet 5 after the last one; packet 3 finds packet 2 in its slot."""
     capture = classic([0, 1000, 2000, 3000, 33000, 34000], [frame(0, 0, 0)] * 6, is_nano=True)
     fates = "0 sent 0 0\n1 sent 0 1\n2 sent 0 2\n3 full 2\n4 sent 0 3\n5 sent 0 4\n"

@@ -1,6 +1,6 @@
 """tools/wrong-bodies: which functions edits change, which are tried together, and what a check says of each."""
 from lib import wrong
-from tests.bench import ROOM, case, is_equal
+from tests.bench import ROOM, is_equal
 
 SOURCE = """impl Ring for Slots {
     fn put(&mut self) -> bool
@@ -45,8 +45,7 @@ def small_crate():
     return ROOM / "wrong"
 
 
-@case
-def wrong_bodies_in_rounds():
+def test_wrong_bodies_in_rounds():
     top, wrong.TOP = wrong.TOP, small_crate()
     try:
         functions, edits = wrong.functions_of("low"), wrong.edits_of("low")

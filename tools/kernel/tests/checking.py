@@ -5,7 +5,7 @@ import io
 import shutil
 
 from kernel.inside import extract, sizes
-from tests.bench import HERE, ROOM, TOP, case, expect, fault, is_equal, load, run
+from tests.bench import HERE, ROOM, TOP, expect, fault, fault_if, is_equal, load, run
 
 TOOL = HERE / "kernel/check-kernel"
 NAMES = "file a.h\nmacro LETTER\nfunction post\nfunction take?\nfunction gone?\n"
@@ -19,8 +19,7 @@ def printed(function, *given):
     return answer, said.getvalue()
 
 
-@case
-def check_kernel_words():
+def test_check_kernel_words():
     expect("check-kernel --help", run(TOOL, "--help"), 0, "tools/kernel/check-kernel TREE [--base TREE]", "Exit codes: 0 nothing goes wrong")
     expect("check-kernel, no words", run(TOOL), 2, "a TREE, or --source 6.1, 6.12, 7.2, 7.3")
     expect("check-kernel, both", run(TOOL, ROOM, "--source", "7.2"), 2, "a TREE, or --source")
@@ -29,8 +28,7 @@ def check_kernel_words():
     expect("check-kernel, no base", run(TOOL, ROOM, "--base", ROOM / "none"), 3, "none is no folder")
 
 
-@case
-def check_kernel_differences():
+def test_check_kernel_differences():
     """A comment or a blank is no difference; a word is, and so is a definition that only one tree has."""
     tool, texts = load("kernel/check-kernel"), {}
     for name, text in {"old": TEXT, "comment": TEXT.replace("once", "twice").replace("\treturn", "\treturn "), "word": TEXT.replace("take", "gone").replace("LETTER;", "LETTER + 1;")}.items():
@@ -43,8 +41,7 @@ def check_kernel_differences():
     is_equal("another word", printed(tool.differences, "it", texts["old"], texts["word"])[1], wanted)
 
 
-@case
-def check_kernel_table():
+def test_check_kernel_table():
     """What is said of each row, its files, and the exit code, with a stand-in for the searches."""
     tool, out = load("kernel/check-kernel"), ROOM / "check-kernel"
     wrong = (1, ["== a size", "WRONG: 1 packet is left, and nobody comes; a shortest order, of 28 steps:", "  seat 0  spin_trylock(seqlock): got"])
@@ -65,8 +62,7 @@ def check_kernel_table():
              "weak        with a barrier  a size: 1 packet is left, and nobody comes, in 28 steps; with the barrier nothing: 7 states",
              f"the order: {out}/check-kernel.1.txt", f"{out}/check-kernel.1.svg", "docs/play.html#schedule=%23", "3 sizes: 1 right, 1 WRONG, 1 with a barrier")  # fmt: skip
     for part in parts:
-        if part not in said:
-            fault(f"check-kernel says nothing of {part!r}: {said}")
+        fault_if(part not in said, f"check-kernel says nothing of {part!r}: {said}")
     is_equal("check-kernel's exit code", code, 1)
     if not all((out / name).is_file() for name in ("check-kernel.1.txt", "check-kernel.1.svg", "check-kernel.1.schedule")) or ("weak", "--change") not in asked:
         fault(f"check-kernel: {asked}, {sorted(out.iterdir())}")

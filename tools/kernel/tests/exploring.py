@@ -7,13 +7,12 @@ import xml.etree.ElementTree
 
 from lib import machine
 from kernel.orders import search, text as steps_text
-from tests.bench import HERE, ROOM, TOP, case, expect, expect_none, fault, run
+from tests.bench import HERE, ROOM, TOP, expect, expect_none, fault, fault_if, run
 
 EXPLORE = HERE / "kernel/explore"
 
 
-@case
-def explore_right():
+def test_explore_right():
     """The right machine, in sizes that take no time; the longest order of the first is that of another search, in C++."""
     said = run(EXPLORE, "--bands", 2)
     expect("explore", said, 0, "2 seats, 2 transmits of each", "no packet is left or lost", "43 moves at most", "right in this size; not searched: more seats")
@@ -21,8 +20,7 @@ def explore_right():
     expect("explore, a deactivation, a swap and two queues", run(EXPLORE, "--sends", 1, "--downs", 1, "--swaps", 1, "--hangs", 1, "--queues", 2, "--quick"), 0, "no packet is left or lost")
 
 
-@case
-def explore_mistakes():
+def test_explore_mistakes():
     """Mistakes are found, and what is written of the order is taken by the other tools. `tools/kernel/explore --try-edits` tries all."""
     found, picture = ROOM / "found.schedule", ROOM / "found.svg"
     rows = {"begin_gives_up_after_one_try": (25, "held 1, nobody comes: packet 1 in band 0"), "end_looks_before_it_releases": (25, "held 1, nobody comes: packet 1 in band 0")}
@@ -40,14 +38,12 @@ def explore_mistakes():
     expect("explore, lost", said, 1, "goes wrong: a second packet is requeued: the slot has room for one; Linux's gso_skb is a list, which loses none, but their order")
 
 
-@case
-def explore_deactivation():
+def test_explore_deactivation():
     """An order with a deactivation in its steps; a schedule has a comment in their place."""
     edit, found = "soft_interrupt_gives_up_when_deactivated", ROOM / "found.schedule"
     said = run(EXPLORE, "--edit", edit, "--sends", 1, "--downs", 1, "--stops", 1, "--busys", 1, "--quick", found)
     expect(f"explore {edit}", said, 1, "a packet is left, and nobody comes", "control  quiet", "dev_reset_queue(): spin_lock_bh(&qdisc->seqlock)")
-    if "# here control deactivates the station" not in found.read_text(encoding="utf-8"):
-        fault("explore: the schedule doesn't say where control deactivates")
+    fault_if("# here control deactivates the station" not in found.read_text(encoding="utf-8"), "explore: the schedule doesn't say where control deactivates")
     expect("the order with a deactivation, with the mistake", run(HERE / "show-schedule", "--mistake", edit, found), 0, "held 1, nobody comes: packet 1 in the requeue slot")
 
 
@@ -64,8 +60,7 @@ LINUX = {
 }
 
 
-@case
-def explore_linux_deactivation():
+def test_explore_linux_deactivation():
     for edit, wrong in LINUX.items():
         said = run(EXPLORE, *DOWN, "--edit", edit, "--quick")
         expect(f"explore {edit}", said, 1 if wrong else 0, "which waits until SCHED is clear, as Linux's", wrong or "no packet is left or lost")
@@ -74,8 +69,7 @@ def explore_linux_deactivation():
     expect("explore, a wake alone", wake, 1, "held 1; 40 moves", "finds noop_qdisc, and schedules that", "netif_tx_wake_queue(): rcu_dereference(dev_queue->qdisc)")
 
 
-@case
-def explore_own_steps():
+def test_explore_own_steps():
     """A text of one's own: a change that goes wrong, a step that waits for ever, and texts that can't be used."""
     steps, mine = (HERE / "kernel/orders/steps.h").read_text(encoding="utf-8"), ROOM / "mine.h"
     mine.write_text(steps.replace("        q->MISSED = 1;\n        return to(s, TRY2", "        return to(s, TRY2"), encoding="utf-8")
@@ -89,8 +83,7 @@ def explore_own_steps():
     expect("explore, no text", run(EXPLORE, "--steps", ROOM / "none.h"), 2, "none.h: No such file or directory")
 
 
-@case
-def explore_buffers():
+def test_explore_buffers():
     """Stores that wait in buffers: each order of docs/BARRIERS.md that is left out leaves a packet, and x86 as it is doesn't."""
     expect("explore --plain put", run(EXPLORE, "--plain", "put", "--seats", 2), 0, "these stores wait in buffers: put", "no packet is left or lost")
     said = run(EXPLORE, "--plain", "unlock", "--seats", 2)
@@ -101,8 +94,7 @@ def explore_buffers():
     expect("explore --plain with two queues", run(EXPLORE, "--plain", "put", "--queues", 2), 2, "--plain goes with one queue")
 
 
-@case
-def explore_words():
+def test_explore_words():
     rows = {
         ("--seats", "9"): "--seats is a whole number from 1 to 8",
         ("--sends", "many"): "--sends",
@@ -126,8 +118,7 @@ def explore_words():
     expect("explore --help", run(EXPLORE, "--help"), 0, "tools/kernel/explore [--steps MINE.h]", "Exit codes: 0 right in these sizes", "--bypass N")
 
 
-@case
-def explore_undecided():
+def test_explore_undecided():
     """No room, no compiler, no SPIN: that nothing is decided is said, with a code of its own."""
     expect("explore, no room", run(EXPLORE, "--memory", 1, "--seats", 3, "--sends", 3), 3, "not decided: ", "there is no memory for more: give --memory")
     tools = ROOM / "without"
@@ -138,8 +129,7 @@ def explore_undecided():
     expect("explore, no SPIN", run(EXPLORE, "--engine", "spin", env=without), 3, "there is no spin: apt-get install spin")
 
 
-@case
-def explore_spin():
+def test_explore_spin():
     """SPIN finds as many states by the same steps, and the same mistake."""
     if shutil.which("spin"):
         expect("explore, SPIN", run(EXPLORE, "--engine", "spin", "--seats", 2, "--sends", 1, "--quick"), 0, f"SPIN: {states_apart(2, 1):,} states, seats told apart; no packet is left or lost")
@@ -178,24 +168,20 @@ def plain(m):
     return m._replace(qdisc=q, seats=tuple(s._replace(run=0, packet=unnumbered(s.packet)) for s in m.seats))
 
 
-@case
-def explore_table():
+def test_explore_table():
     """The table of positions has each that `trace` prints, and each change that has a name is one of the text."""
     said = run(EXPLORE, "--positions")
     expect("explore --positions", said, 0, "miss\tsets MISSED\tqdisc_run_begin()\tinclude/net/sch_generic.h\ttest_and_set_bit(__QDISC_STATE_MISSED, &qdisc->state)\t")
     names = [line.split("\t")[0] for line in said[1].splitlines()]
     for name in ("enter", "check", "put", "try1", "miss", "try2", "recheck", "gate", "xmit", "stop", "post", "deq", "test", "clearm", "cleard", "cclear", "cload", "cmiss", "cdrain", "again", "quota", "unlock", "tail", "sched", "leave", "soft", "sclear", "late", "wake"):
-        if name not in names:
-            fault(f"explore --positions: no {name}")
+        fault_if(name not in names, f"explore --positions: no {name}")
     steps = steps_text.STEPS.read_text(encoding="utf-8")
     for edit in steps_text.edits().values():
-        if steps_text.edited(steps, edit) == steps:
-            fault(f"{edit.name} changes nothing")
+        fault_if(steps_text.edited(steps, edit) == steps, f"{edit.name} changes nothing")
     expect("explore --edits", run(EXPLORE, "--edits"), 0, *(f"{name}: " for name in machine.MISTAKES))
 
 
-@case
-def play_page():
+def test_play_page():
     """The page to play is what the steps make of it, and its machine leaves of schedules by dice what the steps do."""
     expect("make-play --check", run(HERE / "make-play", "--check"), 0)
     expect("make-play, wrong words", run(HERE / "make-play", "--none"), 2, "tools/make-play [--check] [OUT.html]")
@@ -207,17 +193,14 @@ def play_page():
         expect("the page's machine", run("node", HERE / "play/agree.js", TOP / "docs/play.html", file), 0, "100 schedules by the page's machine: 0 differ")
 
 
-@case
-def explore_walks():
+def test_explore_walks():
     """Random schedules by the steps, and by the model that draws; with the program, by `lqtx trace`."""
     program = next(iter(sorted((TOP / "build").glob("lqtx.*"))), None) if (TOP / "build").is_dir() else None
     count, file = 0, ROOM / "walk.schedule"
     for schedule, left in search.walks(steps_text.STEPS.read_text(encoding="utf-8"), 7, 60, ROOM):
         count += 1
-        if len(schedule) < 8000 and machine.trace(schedule.encode()) != (0, left):
-            fault(f"explore: the steps and tools/lib/machine.py part over\n{schedule}")
+        fault_if(len(schedule) < 8000 and machine.trace(schedule.encode()) != (0, left), f"explore: the steps and tools/lib/machine.py part over\n{schedule}")
         file.write_text(schedule, encoding="utf-8")
         if program and os.access(program, os.X_OK) and run(program, "trace", file)[1] != left:
             fault(f"explore: the steps and the program part over\n{schedule}")
-    if count != 60:
-        fault(f"explore: {count} schedules by dice, and not 60")
+    fault_if(count != 60, f"explore: {count} schedules by dice, and not 60")

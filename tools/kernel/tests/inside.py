@@ -4,7 +4,7 @@ import shutil
 import subprocess
 
 from kernel.inside import changes, extract, sizes
-from tests.bench import HERE, ROOM, case, expect, expect_none, fault, run
+from tests.bench import HERE, ROOM, expect, expect_none, fault, fault_if, run
 
 # a letter box: who puts a letter serves it, or leaves it to the one who holds the lock
 HEADER = """/* A letter box { not a brace. */
@@ -118,8 +118,7 @@ def refusal(top, *given):
     return "nothing"
 
 
-@case
-def inside_calls_extractor():
+def test_inside_calls_extractor():
     top = tree("box")
     cut = extract.cut(top, top / "worlds/tap.names")
     texts = {"include/box.h": HEADER.split("\n"), "box.c": POST.split("\n")}
@@ -128,27 +127,23 @@ def inside_calls_extractor():
         fault(f"what is cut out of a tree is another: {cut}")
     mended = extract.cut(top, top / "worlds/tap.names", [extract.Change(*change) for change in MEND])
     wanted = cut.text.replace("\tif (!spin", "\tagain: if (!spin").replace("\treturn 1;", "\tif (!mailbox_empty(m)) goto again; return 1;")
-    if mended.changed != 2 or mended.text != wanted:
-        fault(f"a change isn't what was asked: {mended.text[-300:]}")
+    fault_if(mended.changed != 2 or mended.text != wanted, f"a change isn't what was asked: {mended.text[-300:]}")
     refusals = {
         "matches 3 times, and not once": ("mailbox_post", "MAILBOX_LETTER|spin_unlock", ""),
         "no regular expression": ("mailbox_post", "(", ""),
         "no definition of that name is cut": ("mailbox_gone", "a", "b"),
     }
     for text, change in refusals.items():
-        if text not in refusal(top, change):
-            fault(f"the extractor says nothing of {text!r}: {refusal(top, change)}")
+        fault_if(text not in refusal(top, change), f"the extractor says nothing of {text!r}: {refusal(top, change)}")
     shutil.rmtree(top / "include")
-    if refusal(top) != f"{top} has no include/box.h":
-        fault(f"a tree without a file: {refusal(top)}")
+    fault_if(refusal(top) != f"{top} has no include/box.h", f"a tree without a file: {refusal(top)}")
     lacks = tree("lacks", **{"box.c": POST.replace("mailbox_post", "mailbox_send"), "include/box.h": HEADER.replace("struct mailbox {", "struct mail {")})
     if "has no type mailbox, function mailbox_post (looked for in include/box.h, box.c)" not in refusal(lacks):
         fault(f"a tree that lacks definitions: {refusal(lacks)}")
     expect("inside-calls, a tree that lacks a function", search(lacks), 3, "inside-calls: ", "has no type mailbox, function mailbox_post")
 
 
-@case
-def inside_calls_words():
+def test_inside_calls_words():
     tool = HERE / "kernel/inside-calls"
     expect("inside-calls --help", run(tool, "--help"), 0, "tools/kernel/inside-calls TREE", "It is no proof")
     expect("inside-calls --sizes", run(tool, "--sizes"), 0, "a stop and a wake: stops=1,wakes=1", "words of a size: seats (2)")
@@ -175,8 +170,7 @@ def inside_calls_words():
     tree_file.parent.mkdir(parents=True)
     tree_file.write_text("kept", encoding="utf-8")
     expect("inside-calls, a schedule that is an input", run(tool, ROOM / "linux", "--schedule", tree_file), 2, "ptr_ring.h")
-    if tree_file.read_text(encoding="utf-8") != "kept":
-        fault("inside-calls: a file of the tree is overwritten")
+    fault_if(tree_file.read_text(encoding="utf-8") != "kept", "inside-calls: a file of the tree is overwritten")
     expect("inside-calls, an empty tree", run(tool, ROOM, "--folder", ROOM / "inside"), 3, "has no include/linux/netdevice.h, ")
     if [broken.is_found for broken in changes.BREAKS].count(True) != 19 or len({broken.name for broken in changes.BREAKS}) != 26:
         fault("inside-calls: there are other changes than the 26")
@@ -184,12 +178,10 @@ def inside_calls_words():
     for broken in changes.BREAKS:
         if broken.values not in standard:
             fault(f"inside-calls: the size of {broken.name} is no standard one, so that nobody finds such a change who names no size")
-    if len({size.text for size in sizes.STANDARD + sizes.LARGE}) != len(sizes.STANDARD + sizes.LARGE):
-        fault("inside-calls: two sizes have one name")
+    fault_if(len({size.text for size in sizes.STANDARD + sizes.LARGE}) != len(sizes.STANDARD + sizes.LARGE), "inside-calls: two sizes have one name")
 
 
-@case
-def inside_calls_missing_packages():
+def test_inside_calls_missing_packages():
     path = ROOM / "few-programs"
     path.mkdir()
     python = os.path.realpath(shutil.which("python3"))
@@ -210,8 +202,7 @@ def inside_calls_missing_packages():
     expect("inside-calls, a line that isn't offered", said, 3, "Debian's unstable and trixie-backports offer no linux-source-7.2 any more; they have linux-source-7.4")
 
 
-@case
-def inside_calls_search():
+def test_inside_calls_search():
     if not all(map(shutil.which, ("gcc", "g++", "addr2line"))):
         print("tools: no g++ here, so that the search of inside-calls isn't tried")
         return
@@ -237,8 +228,7 @@ def inside_calls_search():
     expect("inside-calls, mended with a barrier, on x86", search(top, *held, "--model", "x86"), 0, "nothing goes wrong", "memory x86, ")
 
 
-@case
-def inside_calls_changes():
+def test_inside_calls_changes():
     """A size whose text hasn't what a change names is left out; a change of nothing is refused."""
     top = tree("path", **{"worlds/path.names": NAMES + "function mailbox_long\n"})
     expect("inside-calls, a size without the change", search(top, "--change", "mailbox_long", "a", "b"), 3, "not searched: its text has no definition that is changed", "no size has a definition")

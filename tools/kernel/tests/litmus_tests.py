@@ -2,7 +2,7 @@
 import os
 
 from kernel.memory_model import answer, herd, language
-from tests.bench import HERE, ROOM, TOP, case, expect, fault, run
+from tests.bench import HERE, ROOM, TOP, expect, fault, fault_if, run
 
 SHAPES = sorted((TOP / "examples/litmus/shapes").glob("*.litmus"))
 ROWS = sorted((TOP / "examples/litmus").glob("*.litmus"))
@@ -14,17 +14,14 @@ def wrong(files, without=()):
     return [name for name, text in texts.items() if f"Result: {answer.decide(language.read(text), without).word}" not in text]
 
 
-@case
-def published_litmus_answers():
+def test_published_litmus_answers():
     """The well-known tests have the published answers, and the orders of the run lock those that docs/BARRIERS.md has."""
-    if len(SHAPES) < 50 or len(ROWS) < 18:
-        fault(f"there are {len(SHAPES)} well-known litmus tests and {len(ROWS)} of the run lock")
+    fault_if(len(SHAPES) < 50 or len(ROWS) < 18, f"there are {len(SHAPES)} well-known litmus tests and {len(ROWS)} of the run lock")
     for name in wrong([*SHAPES, *ROWS]):
         fault(f"litmus: {name} isn't decided as its file says")
 
 
-@case
-def wrong_axioms_are_noticed():
+def test_wrong_axioms_are_noticed():
     """A model without atomicity, or whose full barrier orders nothing, gives other answers."""
     if not {"atomicity+incs", "atomicity+trylocks"} <= set(wrong([file for file in SHAPES if "atomicity" in file.stem], ("atomicity",))):
         fault("litmus: a model without atomicity isn't noticed")
@@ -32,8 +29,7 @@ def wrong_axioms_are_noticed():
         fault("litmus: a barrier that orders nothing isn't noticed")
 
 
-@case
-def litmus_beside_herd7():
+def test_litmus_beside_herd7():
     """Every example is decided as herd7 decides it, by each model that is there; where it isn't installed, this says so."""
     if not herd.is_installed() or not herd.models():
         print(f"the tools: no litmus test is compared with herd7: {'no model of a kernel is there' if herd.is_installed() else 'it is not installed'}")
@@ -41,12 +37,10 @@ def litmus_beside_herd7():
     for path in [*SHAPES, *ROWS]:
         word = answer.decide(language.read(path.read_text(encoding="utf-8"))).word
         for model, other in ((known, herd.ask(known, path)) for known in herd.models()):
-            if word != other:
-                fault(f"litmus: {path.stem} is {word}, and herd7 with {model} says {other}")
+            fault_if(word != other, f"litmus: {path.stem} is {word}, and herd7 with {model} says {other}")
 
 
-@case
-def litmus_with_a_herd7_of_our_own():
+def test_litmus_with_a_herd7_of_our_own():
     """What --herd prints of another program's answers."""
     test, model, room = ROOM / "herd.litmus", ROOM / "model", ROOM / "bin"
     for folder in (model, room):
@@ -67,8 +61,7 @@ def litmus_with_a_herd7_of_our_own():
     expect("litmus --herd alone", run(HERE / "kernel/litmus", "--herd", env=path), 2, "--herd: expected one argument")
 
 
-@case
-def litmus_command():
+def test_litmus_command():
     """What it prints, and what it refuses: nothing is decided that it doesn't know."""
     test = ROOM / "one.litmus"
     body = "{}\n\nP0(int *x, int *y)\n{\n\tint r0;\n\n\tWRITE_ONCE(*x, 1);\n\tr0 = READ_ONCE(*y);\n}\n\nP1(int *x, int *y)\n{\n\tWRITE_ONCE(*y, 1);\n}\n\n"

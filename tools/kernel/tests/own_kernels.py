@@ -4,7 +4,7 @@ import shutil
 import struct
 
 from kernel.linux import own
-from tests.bench import HERE, ROOM, TOP, case, expect, expect_none, fault, is_equal, run
+from tests.bench import HERE, ROOM, TOP, expect, expect_none, fault_if, is_equal, run
 
 TOOL = HERE / "kernel/beside-linux"
 # names in the tests' common room are others'
@@ -34,8 +34,7 @@ def kernel(name, release="6.1.9", built="6.1.9", without=()):
     return ["--image", room / "bzImage", "--headers", room]
 
 
-@case
-def own_kernel_words():
+def test_own_kernel_words():
     whole = kernel("whole")
     for words in (whole[:2], whole[2:], [*whole, "--kernel", "6.1"], ["--modules", OWN]):
         expect(f"beside-linux {words}", run(TOOL, "--rules-alone", *words, *FILES), 2, "--image BZIMAGE --headers DIR [--modules DIR]")
@@ -49,8 +48,7 @@ def own_kernel_words():
     is_equal("what a kernel lacks", own.lacking("CONFIG_64BIT=y\n# CONFIG_SMP is not set\n" + "".join(f"CONFIG_{name}=m\n" for name in own.MUST_HAVE if name not in ("64BIT", "SMP"))), ["CONFIG_SMP"])
 
 
-@case
-def own_kernel_refused():
+def test_own_kernel_refused():
     rows = {
         "is of 6.1.8 and": kernel("other", "6.1.8"),
         "lacks CONFIG_SMP, CONFIG_TRACEPOINTS: --config prints": kernel("lacks", without=("SMP", "TRACEPOINTS")),
@@ -66,13 +64,11 @@ def own_kernel_refused():
     expect("beside-linux, no image", run(TOOL, "--rules-alone", *words, *FILES), 4, "bzImage: No such file")
 
 
-@case
-def own_kernel_missing_packages():
+def test_own_kernel_missing_packages():
     path = OWN / "bare"
     path.mkdir(parents=True)
     (path / "python3").symlink_to(os.path.realpath(shutil.which("python3")))
     words = ["--rules-alone", "--folder", OWN / "folder", *kernel("packages"), *FILES]
     said = run(path / "python3", TOOL, *words, env=dict(os.environ, PATH=str(path)))
     expect("beside-linux --image without packages", said, 3, "there is no program 'apt-get', which Debian has")
-    if (OWN / "folder/tools").exists():
-        fault("beside-linux: without apt-get a folder of packages is made")
+    fault_if((OWN / "folder/tools").exists(), "beside-linux: without apt-get a folder of packages is made")

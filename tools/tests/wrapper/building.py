@@ -6,7 +6,7 @@ import shutil
 import time
 
 from tests.bench import TOP
-from tests.wrapper.bench import COOKED_CAPTURE, EMPTY_CAPTURE, case, cases, do
+from tests.wrapper.bench import COOKED_CAPTURE, EMPTY_CAPTURE, cases, do
 
 PROCESSORS = len(os.sched_getaffinity(0))
 MANY = min(PROCESSORS, 8)
@@ -48,8 +48,7 @@ CASES = {
 cases(CASES)
 
 
-@case
-def sources_that_are_only_newer_or_not_the_program_s(lqtx):
+def test_sources_that_are_only_newer_or_not_the_program_s(lqtx):
     lqtx.run("words")
     time.sleep(0.01)
     for path in lqtx.repo.glob("crates/*/src/lib.rt"):
@@ -61,8 +60,7 @@ def sources_that_are_only_newer_or_not_the_program_s(lqtx):
     lqtx.calls("low", "lqtx")
 
 
-@case
-def crates_side_by_side_the_longest_chain_first(lqtx):
+def test_crates_side_by_side_the_longest_chain_first(lqtx):
     lqtx.write(lqtx.repo / "crates.txt", "lqtx: high left\nhigh: low\nlow:\nleft:\n")
     for crate in ("high", "left"):
         lqtx.source(crate, f"one {crate}")
@@ -85,8 +83,7 @@ def crates_side_by_side_the_longest_chain_first(lqtx):
                "the longest chain of what is left hasn't all processors")
 
 
-@case
-def libraries_are_packed_once_the_program_is_built(lqtx):
+def test_libraries_are_packed_once_the_program_is_built(lqtx):
     lqtx.run("words")
     kept = lqtx.build / "libraries"
     lqtx.check((kept / "low.packed").is_file() and not list((lqtx.room / "cache").iterdir()), f"not packed: {list(kept.iterdir())}")
@@ -103,16 +100,14 @@ def libraries_are_packed_once_the_program_is_built(lqtx):
     lqtx.check(folder.is_dir() and not (kept / "low.packed").exists(), "packed though the program isn't built")
 
 
-@case
-def no_room_on_the_disk(lqtx):
+def test_no_room_on_the_disk(lqtx):
     tool = lqtx.repo / "tools/build"
     lqtx.write(tool, re.sub(r"^NEEDS = [^#]*", "NEEDS = 2**60 ", tool.read_text(encoding="utf-8"), flags=re.M))
     lqtx.run("words", 1, tells="not built: a build takes")
     lqtx.calls()
 
 
-@case
-def words_and_inputs_are_judged_before_anything_is_built(lqtx):
+def test_words_and_inputs_are_judged_before_anything_is_built(lqtx):
     refusal = "crates/lq_files/src/refusal.rt"
     lqtx.write(lqtx.repo / refusal, (TOP / refusal).read_text(encoding="utf-8"))
     lqtx.write("plan", "")
@@ -127,8 +122,7 @@ def words_and_inputs_are_judged_before_anything_is_built(lqtx):
     lqtx.calls("low", "lqtx")
 
 
-@case
-def a_checkout_that_can_not_be_written(lqtx):
+def test_a_checkout_that_can_not_be_written(lqtx):
     lqtx.write(lqtx.build, "")
     lqtx.run("words", 1, tells="can't be written")
     lqtx.calls()
@@ -155,8 +149,7 @@ CHANGES = {
 }
 
 
-@case
-def a_program_that_is_there_is_started_by_the_shell_alone(lqtx):
+def test_a_program_that_is_there_is_started_by_the_shell_alone(lqtx):
     lqtx.run("words")
     lqtx.plans()
     lqtx.write("capture", EMPTY_CAPTURE)
@@ -172,8 +165,7 @@ def a_program_that_is_there_is_started_by_the_shell_alone(lqtx):
     lqtx.run("run plan out/o.0.pcap out/o", 99)
 
 
-@case
-def a_program_is_started_by_python_once_sources_or_inputs_may_have_changed(lqtx):
+def test_a_program_is_started_by_python_once_sources_or_inputs_may_have_changed(lqtx):
     lqtx.plans()
     for change, do in CHANGES.items():
         (lqtx.room / "bin/python3").unlink(missing_ok=True)

@@ -4,7 +4,7 @@ import os
 import shutil
 import subprocess
 
-from tests.wrapper.bench import EMPTY_CAPTURE, case
+from tests.wrapper.bench import EMPTY_CAPTURE
 
 # how an output is made that is an input: the file that the input is named by, where it isn't the input itself, and what the outputs' names begin with
 WAYS = {
@@ -59,8 +59,7 @@ def try_one_file(lqtx, row, way):
     lqtx.check(not (lqtx.here / "new").exists(), "made a folder")
 
 
-@case
-def no_output_is_an_input(lqtx):
+def test_no_output_is_an_input(lqtx):
     lqtx.run("words")
     lqtx.write("plan", "writes\n")
     lqtx.write("capture", "a capture")
@@ -76,8 +75,7 @@ def no_output_is_an_input(lqtx):
         lqtx.remove(output)
 
 
-@case
-def no_output_is_an_input_or_another_output_of_other_words(lqtx):
+def test_no_output_is_an_input_or_another_output_of_other_words(lqtx):
     """Before anything is built, and without a proof; numbers aren't inputs, and other files aren't outputs."""
     lqtx.write("plan", "[[station]]\n")
     for name in ("capture", "x.0.pcap", "x.16.pcap"):
@@ -95,8 +93,7 @@ def no_output_is_an_input_or_another_output_of_other_words(lqtx):
     lqtx.run("run plan capture x", 2, tells="x.fates and x.0.pcap are one file")
 
 
-@case
-def no_output_is_an_input_where_a_name_of_another_case_is_the_same_file(lqtx):
+def test_no_output_is_an_input_where_a_name_of_another_case_is_the_same_file(lqtx):
     """On a file system of FUSE that makes no difference, where there is one."""
     if not all(map(shutil.which, ("mkfs.exfat", "mount.exfat-fuse", "losetup"))):
         return
@@ -150,8 +147,7 @@ def writing_program(lqtx):
     (lqtx.here / "way").symlink_to("deep")
 
 
-@case
-def an_output_that_is_not_as_a_call_left_it_is_overwritten_only_with_force(lqtx):
+def test_an_output_that_is_not_as_a_call_left_it_is_overwritten_only_with_force(lqtx):
     writing_program(lqtx)
     for words, output in CALLS.items():
         lqtx.remove("t.*")
@@ -169,8 +165,7 @@ def an_output_that_is_not_as_a_call_left_it_is_overwritten_only_with_force(lqtx)
             lqtx.run(words, 0, silent=True)
 
 
-@case
-def outputs_that_are_there(lqtx):
+def test_outputs_that_are_there(lqtx):
     """Of several all are named; those of units that the plan doesn't have, or this run hasn't, stay; an empty file has nothing to lose."""
     writing_program(lqtx)
     mine = (lqtx.here / "mine").read_bytes()

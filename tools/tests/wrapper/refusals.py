@@ -1,5 +1,5 @@
 """What the wrapper says of a refusal, of a fault, of a capture, and of a folder as an output."""
-from tests.wrapper.bench import COOKED_CAPTURE, case, cases, do
+from tests.wrapper.bench import COOKED_CAPTURE, cases, do
 
 # of each reason for which a capture is refused what is said of it
 WAYS_OUT = {
@@ -42,8 +42,7 @@ CASES = {
 cases(CASES)
 
 
-@case
-def what_is_found_of_a_capture(lqtx):
+def test_what_is_found_of_a_capture(lqtx):
     found = "lqtx: capture: 1 of 1 packets (100%) are Linux cooked (SLL), as of tcpdump -i any: no IPv4 header is looked for in them"
     lqtx.run("words")
     lqtx.plans()

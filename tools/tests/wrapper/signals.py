@@ -5,7 +5,7 @@ import signal
 import subprocess
 import time
 
-from tests.wrapper.bench import case, ended_by
+from tests.wrapper.bench import ended_by
 
 
 def unless_ignored():
@@ -20,14 +20,12 @@ def heeding(lqtx, words, **how):
                             stdout=subprocess.DEVNULL, stderr=subprocess.PIPE, text=True, preexec_fn=unless_ignored, **how)
 
 
-@case
-def a_signal(lqtx):
+def test_a_signal(lqtx):
     lqtx.run("words")
     lqtx.run("kill", 137, tells="ended by signal 9 (KILL)")
 
 
-@case
-def it_ends_by_the_signal_itself(lqtx):
+def test_it_ends_by_the_signal_itself(lqtx):
     """So a loop of runs ends with it; and the program ends, too."""
     lqtx.run("words")
     for number in (signal.SIGHUP, signal.SIGINT, signal.SIGQUIT, signal.SIGTERM):
@@ -45,8 +43,7 @@ def it_ends_by_the_signal_itself(lqtx):
         lqtx.check(not own.exists(), "the program goes on")
 
 
-@case
-def a_signal_during_the_build(lqtx):
+def test_a_signal_during_the_build(lqtx):
     process = lqtx.start("words", SLOW="5")
     lqtx.until(lambda: lqtx.read(lqtx.room / "rattle.log"))
     process.terminate()
@@ -54,8 +51,7 @@ def a_signal_during_the_build(lqtx):
     lqtx.leaves_nothing()
 
 
-@case
-def a_signal_to_all_during_the_build(lqtx):
+def test_a_signal_to_all_during_the_build(lqtx):
     """As a terminal sends it."""
     lqtx.env["SLOW"] = "5"
     process = heeding(lqtx, "words", start_new_session=True)
@@ -68,8 +64,7 @@ def a_signal_to_all_during_the_build(lqtx):
     lqtx.leaves_nothing()
 
 
-@case
-def a_build_that_is_killed_leaves_nothing_in_the_checkout_that_the_gate_refuses(lqtx):
+def test_a_build_that_is_killed_leaves_nothing_in_the_checkout_that_the_gate_refuses(lqtx):
     # a library of its own, so that one is there and another under way
     lqtx.write(lqtx.repo / "crates.txt", "lqtx: high\nhigh: low\nlow:\n")
     lqtx.source("high", "one high")
@@ -85,8 +80,7 @@ def a_build_that_is_killed_leaves_nothing_in_the_checkout_that_the_gate_refuses(
     time.sleep(3)
 
 
-@case
-def two_first_builds_at_once(lqtx):
+def test_two_first_builds_at_once(lqtx):
     other = lqtx.start("words 4", out="other", SLOW="0.2")
     lqtx.run("words 3", 3, "one low: words 3", SLOW="0.2")
     lqtx.end(other, 4, "one low: words 4", out="other")
