@@ -1,6 +1,4 @@
-/*
- * What the jobs in C share: the packets of a capture of little-endian microseconds, and the files that tell of them.
- */
+/* What the jobs in C share: the packets of a capture of little-endian microseconds, and the files that tell of them. */
 
 enum { FILE_HEADER = 24, RECORD_HEADER = 16, MAX_FRAME = 262144, PIECE = 65536 };
 

@@ -1,6 +1,4 @@
-/*
- * What the kernel's ptr_ring.h takes from other headers of the kernel, in C for a user's program, and that header itself.
- */
+/* What the kernel's ptr_ring.h takes from other headers of the kernel, in C for a user's program, and that header itself. */
 #include <errno.h>
 #include <malloc.h>
 #include <pthread.h>
@@ -43,28 +41,14 @@ static void *kmalloc(size_t size, gfp_t gfp)
 	return p;
 }
 
-static inline void *kmalloc_array(size_t n, size_t size, gfp_t gfp)
-{
-	return kmalloc(n * size, gfp);
-}
-
-static inline void *kcalloc(size_t n, size_t size, gfp_t gfp)
-{
-	return kmalloc_array(n, size, gfp | __GFP_ZERO);
-}
-
-static inline void kfree(void *p)
-{
-	free(p);
-}
+static inline void *kmalloc_array(size_t n, size_t size, gfp_t gfp) { return kmalloc(n * size, gfp); }
+static inline void *kcalloc(size_t n, size_t size, gfp_t gfp) { return kmalloc_array(n, size, gfp | __GFP_ZERO); }
+static inline void kfree(void *p) { free(p); }
 
 #define kvmalloc_array kmalloc_array
 #define kvfree kfree
 
-static inline void spin_lock_init(spinlock_t *lock)
-{
-	pthread_spin_init(lock, PTHREAD_PROCESS_PRIVATE);
-}
+static inline void spin_lock_init(spinlock_t *lock) { pthread_spin_init(lock, PTHREAD_PROCESS_PRIVATE); }
 
 /* Threads are preempted where processors of the kernel aren't, so a long wait yields. */
 static void spin_lock(spinlock_t *lock)
@@ -78,10 +62,7 @@ static void spin_lock(spinlock_t *lock)
 	}
 }
 
-static inline void spin_unlock(spinlock_t *lock)
-{
-	pthread_spin_unlock(lock);
-}
+static inline void spin_unlock(spinlock_t *lock) { pthread_spin_unlock(lock); }
 
 #define spin_lock_bh spin_lock
 #define spin_unlock_bh spin_unlock

@@ -47,10 +47,7 @@ static struct {
 
 static __thread bool raised;
 
-static bool try_lock(void)
-{
-	return !atomic_load_explicit(&run_lock, memory_order_relaxed) && !atomic_exchange(&run_lock, 1);
-}
+static bool try_lock(void) { return !atomic_load_explicit(&run_lock, memory_order_relaxed) && !atomic_exchange(&run_lock, 1); }
 
 static bool run_begin(void)
 {
@@ -74,10 +71,7 @@ static void run_end(void)
 		schedule();
 }
 
-static bool is_non_empty(void)
-{
-	return atomic_load(&state) & NON_EMPTY;
-}
+static bool is_non_empty(void) { return atomic_load(&state) & NON_EMPTY; }
 
 static void maybe_clear_missed(void)
 {

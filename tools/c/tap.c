@@ -21,10 +21,7 @@ static uint32_t senders, most;
 static struct ptr_ring ring ____cacheline_aligned_in_smp;
 static _Atomic uint32_t ended ____cacheline_aligned_in_smp;
 
-static void classify(struct packet *p, const uint8_t *frame, uint32_t len)
-{
-	(void)p, (void)frame, (void)len;
-}
+static void classify(struct packet *p, const uint8_t *frame, uint32_t len) { (void)p, (void)frame, (void)len; }
 
 /* ptr_ring_produce, which tells the packet in the slot of a full ring too */
 static struct packet *produce(struct packet *p)

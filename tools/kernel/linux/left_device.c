@@ -32,25 +32,10 @@ module_param(cure, int, 0644); /* each queue is scheduled when dev_activate retu
 static atomic_t accepted;
 static u32 before;
 
-static struct Qdisc *own_qdisc(void)
-{
-	return rcu_dereference_raw(txq->qdisc_sleeping);
-}
-
-static bool is_deactivated(void)
-{
-	return test_bit(__QDISC_STATE_DEACTIVATED, &own_qdisc()->state);
-}
-
-static bool is_frozen(void)
-{
-	return test_bit(__QUEUE_STATE_FROZEN, &txq->state);
-}
-
-static bool has_begun(void)
-{
-	return READ_ONCE(is_ready);
-}
+static struct Qdisc *own_qdisc(void) { return rcu_dereference_raw(txq->qdisc_sleeping); }
+static bool is_deactivated(void) { return test_bit(__QDISC_STATE_DEACTIVATED, &own_qdisc()->state); }
+static bool is_frozen(void) { return test_bit(__QUEUE_STATE_FROZEN, &txq->state); }
+static bool has_begun(void) { return READ_ONCE(is_ready); }
 
 /* Waits until something holds, or until it is too late for it; whether it does. */
 static bool await(bool (*holds)(void))
@@ -75,10 +60,7 @@ static int left_open(struct net_device *d)
 	return 0;
 }
 
-static int left_stop(struct net_device *d)
-{
-	return 0;
-}
+static int left_stop(struct net_device *d) { return 0; }
 
 static const struct net_device_ops left_ops = { .ndo_open = left_open, .ndo_stop = left_stop, .ndo_start_xmit = left_xmit };
 

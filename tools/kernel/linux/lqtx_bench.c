@@ -53,11 +53,7 @@ struct pfifo_fast_priv {
 };
 
 struct accepted {
-	u32 mark;
-	u32 priority;
-	u32 crc;
-	u32 queue;
-	u32 len;
+	u32 mark, priority, crc, queue, len;
 };
 
 struct dropped {
@@ -66,13 +62,7 @@ struct dropped {
 };
 
 struct unit {
-	u32 burst;
-	u32 busy_every;
-	u32 busy_limit;
-	u32 hang_after;
-	u32 calls;
-	u32 busy;
-	u32 accepted;
+	u32 burst, busy_every, busy_limit, hang_after, calls, busy, accepted;
 	bool hung;
 	struct accepted *log;
 };
@@ -106,20 +96,12 @@ static __printf(1, 2) void say(const char *format, ...)
 	va_list args;
 
 	va_start(args, format);
-	answer_len += vscnprintf(answer + answer_len, BENCH_ANSWER - answer_len,
-				 format, args);
+	answer_len += vscnprintf(answer + answer_len, BENCH_ANSWER - answer_len, format, args);
 	va_end(args);
 }
 
-static u32 unit_count(const struct bench *b)
-{
-	return b->shared ? 1 : b->queues;
-}
-
-static struct unit *unit_of(struct bench *b, u32 queue)
-{
-	return &b->unit[b->shared ? 0 : queue];
-}
+static u32 unit_count(const struct bench *b) { return b->shared ? 1 : b->queues; }
+static struct unit *unit_of(struct bench *b, u32 queue) { return &b->unit[b->shared ? 0 : queue]; }
 
 /* The device */
 
@@ -138,14 +120,10 @@ static void log_accepted(struct bench *b, struct unit *u, struct sk_buff *skb)
 	u->accepted++;
 }
 
-static bool has_descriptor(const struct bench *b)
-{
-	return !b->descriptors || b->unit[0].accepted - b->ended < b->descriptors;
-}
+static bool has_descriptor(const struct bench *b) { return !b->descriptors || b->unit[0].accepted - b->ended < b->descriptors; }
 
 /* As drivers do it: BUSY is an error of the driver or of the stack. */
-static netdev_tx_t card_start_xmit(struct bench *b, struct sk_buff *skb,
-				   struct netdev_queue *txq)
+static netdev_tx_t card_start_xmit(struct bench *b, struct sk_buff *skb, struct netdev_queue *txq)
 {
 	struct unit *u = &b->unit[0];
 	u32 len = skb->len;
@@ -169,14 +147,12 @@ static netdev_tx_t bench_start_xmit(struct sk_buff *skb, struct net_device *dev)
 	struct bench *b = netdev_priv(dev);
 	u32 queue = skb_get_queue_mapping(skb);
 	struct unit *u = unit_of(b, queue);
-	u32 i;
 
 	if (b->descriptors || b->bytes)
 		return card_start_xmit(b, skb, netdev_get_tx_queue(dev, queue));
 
 	u->calls++;
-	if (u->busy_every && u->calls % u->busy_every == 0 &&
-	    u->busy < u->busy_limit) {
+	if (u->busy_every && u->calls % u->busy_every == 0 && u->busy < u->busy_limit) {
 		u->busy++;
 		return NETDEV_TX_BUSY;
 	}
@@ -186,7 +162,7 @@ static netdev_tx_t bench_start_xmit(struct sk_buff *skb, struct net_device *dev)
 
 	if (u->hang_after && u->accepted == u->hang_after) {
 		u->hung = true;
-		for (i = 0; i < b->queues; i++)
+		for (u32 i = 0; i < b->queues; i++)
 			if (b->shared || i == queue)
 				netif_tx_stop_queue(netdev_get_tx_queue(dev, i));
 	} else if (u->burst && u->accepted % u->burst == 0) {
@@ -195,17 +171,13 @@ static netdev_tx_t bench_start_xmit(struct sk_buff *skb, struct net_device *dev)
 	return NETDEV_TX_OK;
 }
 
-static u16 bench_select_queue(struct net_device *dev, struct sk_buff *skb,
-			      struct net_device *sb_dev)
+static u16 bench_select_queue(struct net_device *dev, struct sk_buff *skb, struct net_device *sb_dev)
 {
 	return QUEUE_OF(skb->mark) % dev->real_num_tx_queues;
 }
 
 /* A queue stays as it is while the device goes down and up. */
-static int bench_stay(struct net_device *dev)
-{
-	return 0;
-}
+static int bench_stay(struct net_device *dev) { return 0; }
 
 static const struct net_device_ops bench_ops = {
 	.ndo_open		= bench_stay,
@@ -215,11 +187,9 @@ static const struct net_device_ops bench_ops = {
 };
 
 #if LINUX_VERSION_CODE >= KERNEL_VERSION(6, 11, 0)
-static void probe_kfree_skb(void *data, struct sk_buff *skb, void *where,
-			    enum skb_drop_reason reason, struct sock *rx_sk)
+static void probe_kfree_skb(void *data, struct sk_buff *skb, void *where, enum skb_drop_reason reason, struct sock *rx_sk)
 #else
-static void probe_kfree_skb(void *data, struct sk_buff *skb, void *where,
-			    enum skb_drop_reason reason)
+static void probe_kfree_skb(void *data, struct sk_buff *skb, void *where, enum skb_drop_reason reason)
 #endif
 {
 	struct bench *b;
@@ -237,33 +207,26 @@ static void probe_kfree_skb(void *data, struct sk_buff *skb, void *where,
 
 /* Making and freeing */
 
-/*
- * Devices are unregistered many at a time, since each time waits for a grace
- * period.
- */
+/* Devices are unregistered many at a time, since each time waits for a grace period. */
 static void unregister_retired(void)
 {
-	unsigned int i;
 	LIST_HEAD(gone);
 
 	rtnl_lock();
-	for (i = 0; i < retired_count; i++)
+	for (unsigned int i = 0; i < retired_count; i++)
 		unregister_netdevice_queue(retired[i], &gone);
 	unregister_netdevice_many(&gone);
 	rtnl_unlock();
-	for (i = 0; i < retired_count; i++) {
+	for (unsigned int i = 0; i < retired_count; i++) {
 		vfree(((struct bench *)netdev_priv(retired[i]))->drops);
 		free_netdev(retired[i]);
 	}
 	retired_count = 0;
 }
 
-static int retire_devices(struct net_device *none, const u32 *n,
-			  const char *rest)
+static int retire_devices(struct net_device *none, const u32 *n, const char *rest)
 {
-	u32 j;
-
-	for (j = 0; j < BENCH_DEVICES; j++) {
+	for (u32 j = 0; j < BENCH_DEVICES; j++) {
 		if (!devices[j])
 			continue;
 		rtnl_lock();
@@ -280,9 +243,7 @@ static int retire_devices(struct net_device *none, const u32 *n,
 /* Units that have seen no packet yet */
 static void set_params(struct bench *b, const u32 *params)
 {
-	u32 i;
-
-	for (i = 0; i < unit_count(b); i++)
+	for (u32 i = 0; i < unit_count(b); i++)
 		b->unit[i] = (struct unit){
 			.burst = params[0],
 			.busy_every = params[1],
@@ -297,11 +258,10 @@ static bool make_logs(struct bench *b)
 {
 	size_t entry = sizeof(*b->drops) + unit_count(b) * sizeof(struct accepted);
 	struct accepted *log;
-	u32 i;
 
 	b->drops = vzalloc(array_size(b->room, entry));
 	log = (struct accepted *)(b->drops + b->room);
-	for (i = 0; i < unit_count(b); i++)
+	for (u32 i = 0; i < unit_count(b); i++)
 		b->unit[i].log = log + i * b->room;
 	return b->drops;
 }
@@ -317,8 +277,7 @@ static int make_device(struct net_device *none, const u32 *n, const char *rest)
 		return -EEXIST;
 	if (!queues || queues > BENCH_QUEUES)
 		return -EINVAL;
-	dev = alloc_netdev_mqs(sizeof(*b), "lq%d", NET_NAME_ENUM, ether_setup,
-			       queues, 1);
+	dev = alloc_netdev_mqs(sizeof(*b), "lq%d", NET_NAME_ENUM, ether_setup, queues, 1);
 	if (!dev)
 		return -ENOMEM;
 	b = netdev_priv(dev);
@@ -361,9 +320,8 @@ static struct Qdisc *qdisc_of(struct net_device *dev, u32 queue)
 static void wake_queues(struct net_device *dev)
 {
 	struct bench *b = netdev_priv(dev);
-	u32 i;
 
-	for (i = 0; i < b->queues; i++)
+	for (u32 i = 0; i < b->queues; i++)
 		if (!unit_of(b, i)->hung)
 			netif_tx_wake_queue(netdev_get_tx_queue(dev, i));
 }
@@ -373,18 +331,12 @@ struct hard_wake {
 	struct net_device *dev;
 };
 
-static void hard_wake_fn(struct irq_work *work)
-{
-	wake_queues(container_of(work, struct hard_wake, work)->dev);
-}
+static void hard_wake_fn(struct irq_work *work) { wake_queues(container_of(work, struct hard_wake, work)->dev); }
 
 /* From a hard interrupt, as most drivers do, or with soft interrupts off. */
 static void wake_device(struct net_device *dev, bool hard)
 {
-	struct hard_wake wake = {
-		.work = IRQ_WORK_INIT_HARD(hard_wake_fn),
-		.dev = dev,
-	};
+	struct hard_wake wake = { .work = IRQ_WORK_INIT_HARD(hard_wake_fn), .dev = dev };
 
 	if (hard) {
 		irq_work_queue(&wake.work);
@@ -402,10 +354,7 @@ static int kick(struct net_device *dev, const u32 *n, const char *rest)
 	return 0;
 }
 
-/*
- * With one number as both of its bounds a byte queue limit is that from the
- * first completion on.
- */
+/* With one number as both of its bounds a byte queue limit is that from the first completion on. */
 static int set_card(struct net_device *dev, const u32 *n, const char *rest)
 {
 	struct netdev_queue *txq = netdev_get_tx_queue(dev, 0);
@@ -431,12 +380,11 @@ static int poll_card(struct net_device *dev, const u32 *n, const char *rest)
 	struct bench *b = netdev_priv(dev);
 	u32 frames = n[1];
 	u32 bytes = 0;
-	u32 i;
 
 	if (frames > b->unit[0].accepted - b->ended)
 		return -EINVAL;
 	local_bh_disable();
-	for (i = 0; i < frames; i++)
+	for (u32 i = 0; i < frames; i++)
 		bytes += b->unit[0].log[b->ended++].len;
 	if (b->bytes)
 		netdev_tx_completed_queue(txq, frames, bytes);
@@ -448,9 +396,7 @@ static int poll_card(struct net_device *dev, const u32 *n, const char *rest)
 
 static bool is_scheduled(struct net_device *dev)
 {
-	u32 i;
-
-	for (i = 0; i < unit_count(netdev_priv(dev)); i++)
+	for (u32 i = 0; i < unit_count(netdev_priv(dev)); i++)
 		if (test_bit(__QDISC_STATE_SCHED, &qdisc_of(dev, i)->state))
 			return true;
 	return false;
@@ -521,35 +467,27 @@ static u32 entry_of(const struct ptr_ring *ring, u32 slot, u32 held)
 	return behind < held ? NUMBER_OF(skb->mark) + 1 : STALE;
 }
 
-/*
- * producer,head,tail,size,batch,held,sum: the sum is that of all slots, each
- * times the power of 31 that its number is, in 64 bits.
- */
+/* producer,head,tail,size,batch,held,sum: the sum is that of all slots, each times the power of 31 that its number is, in 64 bits. */
 static void say_ring(const struct ptr_ring *ring, bool marks)
 {
 	u32 held = held_in(ring);
 	u64 power = 1;
 	u64 sum = 0;
-	u32 i;
 
-	for (i = 0; i < ring->size; i++) {
+	for (u32 i = 0; i < ring->size; i++) {
 		sum += power * entry_of(ring, i, held);
 		power *= 31;
 	}
-	say(" %d,%d,%d,%d,%d,%u,%llx", ring->producer, ring->consumer_head,
-	    ring->consumer_tail, ring->size, ring->batch, held, sum);
+	say(" %d,%d,%d,%d,%d,%u,%llx", ring->producer, ring->consumer_head, ring->consumer_tail, ring->size, ring->batch, held, sum);
 	if (!marks)
 		return;
-	for (i = 0; i < held; i++)
-		say("%c%u", i ? ',' : ':',
-		    entry_of(ring, (ring->consumer_head + i) % ring->size,
-			     held) - 1);
+	for (u32 i = 0; i < held; i++)
+		say("%c%u", i ? ',' : ':', entry_of(ring, (ring->consumer_head + i) % ring->size, held) - 1);
 }
 
 /*
- * W NUMBER QDISC STATE LOCK STOPS REQUEUED BAD_TXQ ACCEPTED DROPPED SOFTIRQS and
- * the three rings.  STOPS has a digit for each queue: open, stopped, hung.
- * DROPPED is a count of the whole device.
+ * W NUMBER QDISC STATE LOCK STOPS REQUEUED BAD_TXQ ACCEPTED DROPPED SOFTIRQS and the three rings. STOPS has a digit for each queue: open,
+ * stopped, hung. DROPPED is a count of the whole device.
  */
 static void say_words(struct net_device *dev, bool marks)
 {
@@ -558,29 +496,25 @@ static void say_words(struct net_device *dev, bool marks)
 	struct netdev_queue *txq;
 	u32 softirqs = softirqs_since_told();
 	struct Qdisc *q;
-	u32 i, j;
 
-	for (i = 0; i < unit_count(b); i++) {
+	for (u32 i = 0; i < unit_count(b); i++) {
 		q = qdisc_of(dev, i);
-		say("W %u %u %lu %d ", b->number, i, q->state,
-		    spin_is_locked(&q->seqlock));
-		for (j = 0; j < b->queues; j++) {
+		say("W %u %u %lu %d ", b->number, i, q->state, spin_is_locked(&q->seqlock));
+		for (u32 j = 0; j < b->queues; j++) {
 			txq = netdev_get_tx_queue(dev, j);
 			if (!b->shared && j != i)
 				continue;
-			say("%d", !netif_xmit_stopped(txq) ? 0 :
-				  unit_of(b, j)->hung ? 2 : 1);
+			say("%d", !netif_xmit_stopped(txq) ? 0 : unit_of(b, j)->hung ? 2 : 1);
 		}
 		say_list(&q->gso_skb);
 		say_list(&q->skb_bad_txq);
-		say(" %u %u %u", b->unit[i].accepted, atomic_read(&b->dropped),
-		    i ? 0 : softirqs);
+		say(" %u %u %u", b->unit[i].accepted, atomic_read(&b->dropped), i ? 0 : softirqs);
 		if (q->ops != &pfifo_fast_ops) {
 			say(" %s\n", q->ops->id);
 			continue;
 		}
 		priv = qdisc_priv(q);
-		for (j = 0; j < BENCH_BANDS; j++)
+		for (u32 j = 0; j < BENCH_BANDS; j++)
 			say_ring(&priv->q[j].ring, marks);
 		say("\n");
 	}
@@ -592,16 +526,13 @@ static void say_units(struct net_device *dev)
 	struct bench *b = netdev_priv(dev);
 	struct accepted *entry;
 	struct unit *u;
-	u32 i, k;
 
-	for (i = 0; i < unit_count(b); i++) {
+	for (u32 i = 0; i < unit_count(b); i++) {
 		u = &b->unit[i];
-		say("L %u %u %u %u %u %d", b->number, i, u->calls, u->busy,
-		    u->accepted, u->hung);
-		for (k = 0; k < min(u->accepted, b->room); k++) {
+		say("L %u %u %u %u %u %d", b->number, i, u->calls, u->busy, u->accepted, u->hung);
+		for (u32 k = 0; k < min(u->accepted, b->room); k++) {
 			entry = &u->log[k];
-			say(" %u/%u/%x/%u", NUMBER_OF(entry->mark),
-			    entry->priority, entry->crc, entry->queue);
+			say(" %u/%u/%x/%u", NUMBER_OF(entry->mark), entry->priority, entry->crc, entry->queue);
 		}
 		say("\n");
 	}
@@ -612,11 +543,10 @@ static int say_logs(struct net_device *dev, const u32 *n, const char *rest)
 {
 	struct bench *b = netdev_priv(dev);
 	u32 count = atomic_read(&b->dropped);
-	u32 i;
 
 	say_units(dev);
 	say("G %u %d %u", b->number, atomic_read(&b->overflow), b->waits);
-	for (i = 0; i < min(count, b->room); i++)
+	for (u32 i = 0; i < min(count, b->room); i++)
 		say(" %u/%ps", NUMBER_OF(b->drops[i].mark), b->drops[i].where);
 	say("\n");
 	return 0;
@@ -625,17 +555,16 @@ static int say_logs(struct net_device *dev, const u32 *n, const char *rest)
 /* Events that a kernel doesn't have as such */
 
 /*
- * The resize that a change of tx_queue_len does, while the qdisc is active, and
- * then the end of a run.  Nothing else may use the device meanwhile.
+ * The resize that a change of tx_queue_len does, while the qdisc is active, and then the end of a run. Nothing else may use the device
+ * meanwhile.
  */
 static int resize_live(struct net_device *dev, const u32 *n, const char *rest)
 {
 	struct Qdisc *q;
 	int err = 0;
-	u32 i;
 
 	rtnl_lock();
-	for (i = 0; i < unit_count(netdev_priv(dev)) && !err; i++) {
+	for (u32 i = 0; i < unit_count(netdev_priv(dev)) && !err; i++) {
 		q = qdisc_of(dev, i);
 		err = q->ops->change_tx_queue_len(q, n[1]);
 		if (err)
@@ -656,13 +585,12 @@ static int swap_device(struct net_device *dev, const u32 *n, const char *rest)
 {
 	struct bench *b = netdev_priv(dev);
 	int err;
-	u32 i;
 
 	rtnl_lock();
 	dev_close(dev);
 	say_units(dev);
 	set_params(b, n + 1);
-	for (i = 0; i < b->queues; i++)
+	for (u32 i = 0; i < b->queues; i++)
 		netif_tx_start_queue(netdev_get_tx_queue(dev, i));
 	err = dev_open(dev, NULL);
 	rtnl_unlock();
@@ -671,9 +599,7 @@ static int swap_device(struct net_device *dev, const u32 *n, const char *rest)
 
 static int forbid_bypass(struct net_device *dev, const u32 *n, const char *rest)
 {
-	u32 i;
-
-	for (i = 0; i < unit_count(netdev_priv(dev)); i++)
+	for (u32 i = 0; i < unit_count(netdev_priv(dev)); i++)
 		qdisc_of(dev, i)->flags &= ~TCQ_F_CAN_BYPASS;
 	return 0;
 }
@@ -684,20 +610,18 @@ static bool is_done(struct net_device *dev)
 	struct pfifo_fast_priv *priv;
 	struct netdev_queue *txq;
 	struct Qdisc *q;
-	u32 i, j;
 
 	if (!netif_running(dev))
 		return true;
-	for (i = 0; i < b->queues; i++) {
+	for (u32 i = 0; i < b->queues; i++) {
 		txq = netdev_get_tx_queue(dev, i);
 		q = qdisc_of(dev, i);
 		if (unit_of(b, i)->hung)
 			continue;
-		if (netif_xmit_stopped(txq) || q->gso_skb.qlen ||
-		    q->skb_bad_txq.qlen)
+		if (netif_xmit_stopped(txq) || q->gso_skb.qlen || q->skb_bad_txq.qlen)
 			return false;
 		priv = qdisc_priv(q);
-		for (j = 0; j < BENCH_BANDS; j++)
+		for (u32 j = 0; j < BENCH_BANDS; j++)
 			if (held_in(&priv->q[j].ring))
 				return false;
 	}
@@ -747,8 +671,8 @@ static int receive(struct net_device *dev, const u32 *n, const char *hex)
 enum tells { NOTHING, WORDS, WORDS_AND_MARKS };
 
 /*
- * How many numbers a command has, of which the first is the device's, what it
- * does, and whether the words are told afterwards, once all is quiet.
+ * How many numbers a command has, of which the first is the device's, what it does, and whether the words are told afterwards, once all is
+ * quiet.
  */
 static const struct command {
 	const char *name;
@@ -801,17 +725,14 @@ static int run_command(const struct command *c, const char *rest)
 static int command(const char *text)
 {
 	size_t len = strcspn(text, " ");
-	u32 i;
 
-	for (i = 0; i < ARRAY_SIZE(commands); i++)
-		if (strlen(commands[i].name) == len &&
-		    !strncmp(commands[i].name, text, len))
+	for (u32 i = 0; i < ARRAY_SIZE(commands); i++)
+		if (strlen(commands[i].name) == len && !strncmp(commands[i].name, text, len))
 			return run_command(&commands[i], text + len);
 	return -EINVAL;
 }
 
-static ssize_t bench_write(struct file *file, const char __user *from,
-			   size_t len, loff_t *place)
+static ssize_t bench_write(struct file *file, const char __user *from, size_t len, loff_t *place)
 {
 	char *text;
 	int err;
@@ -829,17 +750,12 @@ static ssize_t bench_write(struct file *file, const char __user *from,
 	return err ? err : len;
 }
 
-static ssize_t bench_read(struct file *file, char __user *to, size_t len,
-			  loff_t *place)
+static ssize_t bench_read(struct file *file, char __user *to, size_t len, loff_t *place)
 {
 	return simple_read_from_buffer(to, len, place, answer, answer_len);
 }
 
-static const struct proc_ops bench_proc_ops = {
-	.proc_write	= bench_write,
-	.proc_read	= bench_read,
-	.proc_lseek	= default_llseek,
-};
+static const struct proc_ops bench_proc_ops = { .proc_write = bench_write, .proc_read = bench_read, .proc_lseek = default_llseek };
 
 static int __init bench_init(void)
 {

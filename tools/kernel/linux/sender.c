@@ -56,8 +56,7 @@
 #define ANSWER		(16 << 20)
 
 struct device {
-	int there;
-	int index;
+	int there, index;
 	char name[IFNAMSIZ];
 };
 
@@ -150,15 +149,8 @@ static int set_up(int j, int up)
 	return ioctl(plain, SIOCSIFFLAGS, &r) < 0 ? -errno : 0;
 }
 
-static int step_down(struct step *t)
-{
-	return set_up(t->number[0], 0);
-}
-
-static int step_up(struct step *t)
-{
-	return set_up(t->number[0], 1);
-}
+static int step_down(struct step *t) { return set_up(t->number[0], 0); }
+static int step_up(struct step *t) { return set_up(t->number[0], 1); }
 
 static int step_tx_queue_len(struct step *t)
 {
@@ -205,9 +197,7 @@ static int set_one_root(int j)
 	int err = -EIO;
 	int s = socket(AF_NETLINK, SOCK_RAW, NETLINK_ROUTE);
 
-	if (send(s, &message, sizeof(message), 0) > 0 &&
-	    recv(s, back, sizeof(back), 0) > 0 &&
-	    reply->nlmsg_type == NLMSG_ERROR)
+	if (send(s, &message, sizeof(message), 0) > 0 && recv(s, back, sizeof(back), 0) > 0 && reply->nlmsg_type == NLMSG_ERROR)
 		err = ((struct nlmsgerr *)NLMSG_DATA(reply))->error;
 	close(s);
 	return err;
@@ -223,8 +213,7 @@ static int step_new(struct step *t)
 
 	if (err)
 		return err;
-	if (pread(control, answer, sizeof(answer), 0) < 0 ||
-	    sscanf(answer, "device %15s", d->name) != 1)
+	if (pread(control, answer, sizeof(answer), 0) < 0 || sscanf(answer, "device %15s", d->name) != 1)
 		return -EIO;
 	d->there = 1;
 	r = request(j);
@@ -246,18 +235,14 @@ static int step_new(struct step *t)
 
 static int packet_socket(int j, int priority)
 {
-	struct sockaddr_ll address = {
-		.sll_family = AF_PACKET,
-		.sll_ifindex = devices[j].index,
-	};
+	struct sockaddr_ll address = { .sll_family = AF_PACKET, .sll_ifindex = devices[j].index };
 	int room = 1 << 29;
 	int *s = &sockets[j][priority];
 
 	if (*s)
 		return *s;
 	*s = socket(AF_PACKET, SOCK_RAW, 0);
-	if (*s < 0 ||
-	    bind(*s, (struct sockaddr *)&address, sizeof(address)) ||
+	if (*s < 0 || bind(*s, (struct sockaddr *)&address, sizeof(address)) ||
 	    setsockopt(*s, SOL_SOCKET, SO_SNDBUFFORCE, &room, sizeof(room)) ||
 	    setsockopt(*s, SOL_SOCKET, SO_PRIORITY, &priority, sizeof(priority)))
 		die("packet socket");
@@ -295,10 +280,7 @@ static int send_with(int s, struct msghdr message, int level, int type, int valu
 	return sendmsg(s, &message, 0) < 0 ? -errno : 0;
 }
 
-static int digit(char c)
-{
-	return c <= '9' ? c - '0' : c - 'a' + 10;
-}
+static int digit(char c) { return c <= '9' ? c - '0' : c - 'a' + 10; }
 
 static int step_send(struct step *t)
 {
@@ -315,18 +297,9 @@ static int step_send(struct step *t)
 /* The type of service is the socket's, or one message's. */
 static int step_datagram(struct step *t)
 {
-	struct sockaddr_in to = {
-		.sin_family = AF_INET,
-		.sin_port = htons(9),
-		.sin_addr.s_addr = htonl(0x0a000002 + ((t->number[0] + 1) << 16)),
-	};
+	struct sockaddr_in to = { .sin_family = AF_INET, .sin_port = htons(9), .sin_addr.s_addr = htonl(0x0a000002 + ((t->number[0] + 1) << 16)) };
 	struct iovec piece = { "lqtx", 4 };
-	struct msghdr message = {
-		.msg_name = &to,
-		.msg_namelen = sizeof(to),
-		.msg_iov = &piece,
-		.msg_iovlen = 1,
-	};
+	struct msghdr message = { .msg_name = &to, .msg_namelen = sizeof(to), .msg_iov = &piece, .msg_iovlen = 1 };
 	int *mark = &t->number[1], *tos = &t->number[2], of_message = t->number[3];
 	int s = socket(AF_INET, SOCK_DGRAM, 0);
 	int err = 0;
@@ -340,10 +313,7 @@ static int step_datagram(struct step *t)
 }
 
 /* What the module does with the line as it is. */
-static int step_module(struct step *t)
-{
-	return tell("%s", t->line);
-}
+static int step_module(struct step *t) { return tell("%s", t->line); }
 
 static int step_kick(struct step *t)
 {
@@ -389,8 +359,7 @@ static struct step read_step(const char *line)
 	size_t len = strcspn(line, " ");
 	char *at = (char *)line + len;
 
-	while (t.form->name && (strncmp(t.form->name, line, len) ||
-				t.form->name[len]))
+	while (t.form->name && (strncmp(t.form->name, line, len) || t.form->name[len]))
 		t.form++;
 	for (int i = 0; i < t.form->numbers; i++)
 		t.number[i] = strtoul(at, &at, 10);
@@ -447,8 +416,7 @@ static void keep_step(struct sender *me, const char *line)
 		return;
 	}
 	if (me->count % 256 == 0)
-		me->steps = realloc(me->steps,
-				    (me->count + 256) * sizeof(*me->steps));
+		me->steps = realloc(me->steps, (me->count + 256) * sizeof(*me->steps));
 	me->steps[me->count++] = t;
 }
 
@@ -456,8 +424,7 @@ static void tell_results(struct sender *me)
 {
 	for (struct step *t = me->steps; t < me->steps + me->count; t++) {
 		if (t->form->run == step_send)
-			fprintf(out, "S %u %d\n", t->number[1] & 0xffffff,
-				-t->result);
+			fprintf(out, "S %u %d\n", t->number[1] & 0xffffff, -t->result);
 		else if (t->result)
 			fprintf(out, "! %s: %d\n", t->line, -t->result);
 		free((char *)t->line);
@@ -518,8 +485,7 @@ int main(int argc, char **argv)
 	setvbuf(out, NULL, _IOFBF, 1 << 20);
 	while (fgets(line, LINE, in)) {
 		line[strcspn(line, "\n")] = 0;
-		if (sscanf(line, "sender %d", &k) == 1 && k >= 0 &&
-		    k < SENDERS) {
+		if (sscanf(line, "sender %d", &k) == 1 && k >= 0 && k < SENDERS) {
 			current = k;
 			if (k >= sender_count)
 				sender_count = k + 1;
