@@ -72,7 +72,8 @@ def run(*words, cwd=None, env=None):
 
 def heeding():
     """For a process that is to be interrupted: a shell that started this in the background has it ignore interrupts."""
-    signal.signal(signal.SIGINT, signal.SIG_DFL)
+    for number in (signal.SIGINT, signal.SIGQUIT):
+        signal.signal(number, signal.SIG_DFL)
 
 
 def expect(name, said, code, *parts):

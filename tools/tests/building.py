@@ -1,4 +1,6 @@
-"""Tools that build and measure: beside C, the first build, and what the gate costs."""
+"""Tools that build, measure and compare: beside C, the first build, what the gate costs, and a kernel's tree."""
+import contextlib
+import io
 import os
 import re
 import shutil
@@ -6,7 +8,7 @@ import subprocess
 import sys
 
 from lib import packed
-from tests.bench import HERE, ROOM, expect, fault_if, is_equal, repository, room_of, run, write
+from tests.bench import HERE, ROOM, TOP, expect, fault_if, is_equal, load, repository, room_of, run, write
 
 
 def test_compare_with_c():
@@ -88,3 +90,35 @@ def test_gate_cost():
     fault_if(not low or (low[1], low[2]) != ("1", "0") or low[3] not in ("1", "2"), f"gate-cost: the line of low is {low and low[0]!r}")
     expect("gate-cost --read", run(top / "tools/gate-cost", "--read", top / "build/gate-cost.json"), 0, " min; processor seconds of each crate")
     expect("gate-cost, no file", run(top / "tools/gate-cost", "--read", top / "none"), 1, "gate-cost: ")
+
+
+# it is called with the tree; its answers are those of a row
+STAND_IN = """#!/bin/sh
+echo "$1" >>"{called}"
+[ {cut} = 0 ] || exit {cut}
+for order; do :; done
+[ {finds} = 0 ] || echo "{order}" >"$order"
+exit {finds}
+"""
+# of a row: what the stand-in answers, the exit code, and what is said
+ORDER = "seats 2 len 2 bypass 0\n0 send 1\n0 step 3"
+ROWS = [
+    ({}, 0, "the order of the text without its second try, as a schedule: the program works it as the model does\n"),
+    ({"cut": 3}, 1, "the kernel's text isn't compared"),
+    ({"finds": 0}, 1, "the text without its second try leaves no packet"),
+    ({"order": ORDER + "\n0 send 1"}, 1, "as a schedule: differs"),
+]
+
+
+def test_compare_tree():
+    """With a stand-in for tools/kernel/inside-calls: by itself it takes minutes, and a tree."""
+    compare, room = load("compare"), room_of("compared", {"tree/file": ""})
+    compare.TOP, compare.PARTS = room, ()
+    called, stand_in = room / "called", room / "tools/kernel/inside-calls"
+    for row, code, said in ROWS:
+        write(stand_in, STAND_IN.format(**{"called": called, "cut": 0, "finds": 1, "order": ORDER} | row))
+        with contextlib.redirect_stdout(io.StringIO()) as told:
+            ended = compare.main([str(HERE / "tests/by-the-rules"), "0", "--tree", str(room / "tree")])
+        expect(f"compare --tree, {row}", (int(ended), told.getvalue(), ""), code, said)
+    is_equal("the tree that compare names", set(called.read_text(encoding="utf-8").split()), {str(room / "tree")})
+    expect("inside-calls of no tree", run(TOP / "tools/kernel/inside-calls", room / "none"), 3, "none is no folder")

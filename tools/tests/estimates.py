@@ -8,16 +8,10 @@ from lib import estimate
 from tests.bench import HERE, ROOM, fault_if, is_equal, load, run
 
 
-def two_crates():
-    """Two processors check `low`, 60 s by one, in 36 s: 72 s of a processor. Then one checks `high` in 30 s, while the other is idle."""
-    def starts(ended, under_way):
-        return [name for name in ("low", "high") if name not in ended and name not in under_way and (name == "low" or "low" in ended)]
-
-    return estimate.simulate({"low": 60, "high": 30}, {"low"}, 2, starts)
-
-
 def test_estimates():
-    plan = two_crates()
+    """Two processors check `low`, 60 s by one, in 36 s: 72 s of a processor. Then one checks `high` in 30 s, while the other is idle."""
+    starts = lambda ended, under_way: [name for name in ("low", "high") if name not in ended and name not in under_way and (name == "low" or "low" in ended)]
+    plan = estimate.simulate({"low": 60, "high": 30}, {"low"}, 2, starts)
     is_equal("the plan's ends", {crate: round(at, 3) for crate, at in plan.ends.items()}, {"low": 36, "high": 66})
     is_equal("the plan's processor time", [round(seconds, 3) for seconds in plan.work], [0, 72, 102])
     is_equal("half of it", round(plan.time_of(36), 3), 18)

@@ -171,13 +171,9 @@ def test_outputs_of_the_program_without_its_proof():
         expect(f"show-run, {name} as an output", run(*call, "--dropped", name, cwd=room), 2, f"{name} is an input")
 
 
-def short_of_room():
-    """For a process whose files have no room for more than a few bytes."""
-    resource.setrlimit(resource.RLIMIT_FSIZE, (100, 100))
-
-
 def test_no_room_for_an_output():
     """A fault of the disk names the output. What was there is there still, and no part of the new file is left."""
+    short_of_room = lambda: resource.setrlimit(resource.RLIMIT_FSIZE, (100, 100))
     room, files = inputs_of("no room", "")
     for words in ("out.svg", "--dropped out.pcap", "--table out.csv", "--html out.html", "--marked out.pcapng"):
         call = [HERE / "show-run", files["plan"], files["capture"], room / "run", *words.split()]

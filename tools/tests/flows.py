@@ -37,8 +37,7 @@ def test_published_flows():
     """Each published example, in a frame of Ethernet, of one with a tag, and as raw IP."""
     for source, source_port, destination, destination_port, with_ports, without in PUBLISHED:
         ends = source, source_port, destination, destination_port
-        ways = [(TCP, with_ports), (UDP, with_ports), (ICMP, without)]
-        for protocol, wanted in ways:
+        for protocol, wanted in [(TCP, with_ports), (UDP, with_ports), (ICMP, without)]:
             data = packet(*ends, protocol)
             frames = [(framed(data), ETHERNET), (framed(data, b"\x81\0\0\5"), ETHERNET), (data, RAW_IP)]
             found = {flow_hash.flow_of(frame, link) for frame, link in frames}

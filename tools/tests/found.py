@@ -115,8 +115,7 @@ def mended(room, command, said):
     program = command.partition(" ")[0]
     if not shutil.which(program) and "/" not in program:
         return None
-    words = command.replace("tools/", f"{HERE}/")
-    done = subprocess.run(words, shell=True, cwd=room, capture_output=True, text=True, timeout=100)
+    done = subprocess.run(command.replace("tools/", f"{HERE}/"), shell=True, cwd=room, capture_output=True, text=True, timeout=100)
     made = re.search(r">(\S+)$|-w (\S+)|(\S+)$", command)
     file = room / next(group for group in made.groups() if group)
     if done.returncode or not file.exists():

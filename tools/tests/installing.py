@@ -23,8 +23,7 @@ def test_installed_tools_work_anywhere():
     prefix, room = ROOM / "prefix", room_of("anywhere", {"all.pcap": (TOP / "examples/link.pcap").read_bytes()})
     expect("install", installed(prefix), 0, "7 tools are in", "export PATH=")
     env = os.environ | {"PATH": f"{prefix}/bin:{os.environ['PATH']}"}
-    page = (prefix / "lib/lqtx/INSTALLED.md").read_text(encoding="utf-8")
-    commands = [line.strip() for line in page.splitlines() if line.startswith("    lqtx")]
+    commands = [line.strip() for line in (prefix / "lib/lqtx/INSTALLED.md").read_text(encoding="utf-8").splitlines() if line.startswith("    lqtx")]
     is_equal("INSTALLED.md: commands", [command.split()[0] for command in commands], ["lqtx-check-capture", "lqtx-how-long", "lqtx-at-rate", "lqtx", "lqtx-show-run"])
     for command in commands:
         said = subprocess.run(command, shell=True, cwd=room, env=env, capture_output=True, text=True, timeout=300)
@@ -73,7 +72,6 @@ def test_install_before_the_proof():
     """In a repository whose program isn't built it says so, installs the tools, and begins no proof."""
     top = repository("to-install", {"crates.txt": "lqtx:\n", "docs/lqtx.1": ".Dd x\n", "docs/INSTALLED.md": "# x\n", "docs/FORMATS.md": "# x\n", "crates/lqtx/src/main.rt": ""})
     shutil.copytree(HERE / "kernel", top / "tools/kernel", ignore=shutil.ignore_patterns("inside", "linux", "tests"))
-    said = run(top / "tools/install", "--prefix", top / "prefix")
-    expect("install before the proof", said, 1, "there is no proved program yet", "7 tools are in")
+    expect("install before the proof", run(top / "tools/install", "--prefix", top / "prefix"), 1, "there is no proved program yet", "7 tools are in")
     expect("a tool before the proof", run(top / "prefix/bin/lqtx-check-plan", TOP / "examples/drops.toml"), 0, "accepted")
     expect("the program before the proof", run(top / "prefix/bin/lqtx", "gen", "1", "5", top / "g"), 1, "the proved program wasn't there when this was installed")

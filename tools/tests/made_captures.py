@@ -102,9 +102,7 @@ def random_capture(of):
     """A capture of up to 200 packets, in one of the formats."""
     count, order = of.choice([0, 1, of.randint(2, 60), of.randint(60, 200)]), of.choice("<>")
     times, frames = random_times(of, count), [random_frame(of) for _ in range(count)]
-    if of.random() < 0.5:
-        return b"".join(pcapng(of, times, frames, order))
-    return classic(times, frames, order, of.random() < 0.5)
+    return b"".join(pcapng(of, times, frames, order)) if of.random() < 0.5 else classic(times, frames, order, of.random() < 0.5)
 
 
 def random_passage(of):

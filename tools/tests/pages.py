@@ -3,7 +3,7 @@ import re
 
 from lib import crates
 from tests import exemplars
-from tests.bench import ROOM, TOP, is_equal
+from tests.bench import TOP, is_equal, room_of
 
 CHAPTER = """# Changing it
 
@@ -35,11 +35,7 @@ FILES = {
 
 def faults_with(name, changes):
     """What is found in the repository with some files changed."""
-    top = ROOM / f"exemplars-{name}"
-    for path, text in (FILES | changes).items():
-        (top / path).parent.mkdir(parents=True, exist_ok=True)
-        (top / path).write_text(text, encoding="utf-8")
-    return [fault.removeprefix("docs/CHANGING.md: A fate: ") for fault in exemplars.faults(top)]
+    return [fault.removeprefix("docs/CHANGING.md: A fate: ") for fault in exemplars.faults(room_of(f"exemplars-{name}", FILES | changes))]
 
 
 def test_files_that_a_chapter_leaves_out():

@@ -1,5 +1,5 @@
 """Tools that read the sources: what nobody needs, names with several meanings, and what is to be read."""
-from tests.bench import expect, expect_none, is_equal, repository, run
+from tests.bench import expect, expect_none, is_equal, repository, run, write
 
 SMALL = {
     "README.md": "A law stands: `kept_law`.\n",
@@ -110,8 +110,7 @@ def test_dead():
         "tools/mine": "#!/bin/sh\n# tools/gone, and OUT.schedule\necho docs/GONE.md\n",
     }
     for path, text in comments.items():
-        (top / path).parent.mkdir(exist_ok=True)
-        (top / path).write_text(text, encoding="utf-8")
+        write(top / path, text)
     said = run(top / "tools/dead")
     gone = ["tools/c/mine.h:2: a comment names docs/GONE.md", "tools/mine:2: a comment names tools/gone", "tools/mine.py:2: a comment names crates/low/specs/Gone.antt", "tools/mine.py:3: a comment names gone.py"]
     expect("dead, comments", said, 1, *gone)

@@ -31,8 +31,7 @@ def test_times_of_captures():
             data = bytearray(classic([0, 0], [frame(0, 0, 0)] * 2, order, is_nano))
             data[24:32] = struct.pack(order + "II", 7, 5)
             data[24 + 50 : 32 + 50] = struct.pack(order + "II", 0, 3)
-            found = list(times.moments_of(captures.Capture(bytes(data))))
-            is_equal(f"times, {order} {is_nano}", found, [wanted[0], 3 if is_nano else 3000])
+            is_equal(f"times, {order} {is_nano}", list(times.moments_of(captures.Capture(bytes(data)))), [wanted[0], 3 if is_nano else 3000])
         rows = {
             "microseconds where nothing is said": ([[]], [(0, 7), None], [7000, 7000]),
             "powers of ten and of two": ([[(9, b"\x03")], [(9, b"\x8a")]], [(0, 2), (1, 512), (1, 1)], [2000000, 500000000, 976562]),
@@ -61,8 +60,7 @@ def test_places_by_flow():
     shape = "[[station]]\nmq = 3\n[[station]]\nqueues = 4\n[[station]]\nmq = 2\n"
     flow, source = Places(plan_of(f'version = 4\nspread = "flow"\nsplit = "flow"\nsenders = 7\n{shape}'), capture), Places(plan_of(f"version = 3\nsenders = 7\n{shape}"), capture)
     # the third frame has a flow of its addresses alone, the fourth none
-    third = flow.hashes[2]
-    wanted = [0x51CCC178, 0x323E8FC2, third, None]
+    wanted = [0x51CCC178, 0x323E8FC2, flow.hashes[2], None]
     is_equal("the hashes", flow.hashes, wanted)
     firsts, many, queues = [0, 3, 4], [3, 1, 2], [1, 4, 1]
     for n, number in enumerate(wanted):

@@ -1,6 +1,6 @@
 """tools/wrong-bodies: which functions edits change, which are tried together, and what a check says of each."""
 from lib import wrong
-from tests.bench import ROOM, is_equal
+from tests.bench import is_equal, room_of
 
 SOURCE = """impl Ring for Slots {
     fn put(&mut self) -> bool
@@ -35,14 +35,8 @@ fn low::ring::law: no proof: `search` did not prove `returns`
 
 
 def small_crate():
-    crate = ROOM / "wrong/crates/low"
-    for path, text in [("src/ring.rt", SOURCE), ("specs/Ring.antt", "size = 4\n")]:
-        (crate / path).parent.mkdir(parents=True, exist_ok=True)
-        (crate / path).write_text(text, encoding="utf-8")
-    (crate / "must-fail").mkdir(exist_ok=True)
-    for name, (file, old, new) in EDITS.items():
-        (crate / f"must-fail/{name}.edit").write_text(f"file: {file}\nold: {old}\nnew: {new}\n", encoding="utf-8")
-    return ROOM / "wrong"
+    edits = {f"must-fail/{name}.edit": f"file: {file}\nold: {old}\nnew: {new}\n" for name, (file, old, new) in EDITS.items()}
+    return room_of("wrong/crates/low", {"src/ring.rt": SOURCE, "specs/Ring.antt": "size = 4\n"} | edits).parent.parent
 
 
 def test_wrong_bodies_in_rounds():

@@ -5,7 +5,7 @@ import io
 import shutil
 
 from kernel.inside import extract, sizes
-from tests.bench import HERE, ROOM, TOP, expect, fault, fault_if, is_equal, load, run
+from tests.bench import HERE, ROOM, TOP, expect, fault, fault_if, is_equal, load, room_of, run
 
 TOOL = HERE / "kernel/check-kernel"
 NAMES = "file a.h\nmacro LETTER\nfunction post\nfunction take?\nfunction gone?\n"
@@ -32,10 +32,8 @@ def test_check_kernel_differences():
     """A comment or a blank is no difference; a word is, and so is a definition that only one tree has."""
     tool, texts = load("kernel/check-kernel"), {}
     for name, text in {"old": TEXT, "comment": TEXT.replace("once", "twice").replace("\treturn", "\treturn "), "word": TEXT.replace("take", "gone").replace("LETTER;", "LETTER + 1;")}.items():
-        (ROOM / f"texts-{name}").mkdir()
-        (ROOM / f"texts-{name}/a.h").write_text(text, encoding="utf-8")
-        (ROOM / "a.names").write_text(NAMES, encoding="utf-8")
-        texts[name] = extract.code_of(ROOM / f"texts-{name}", ROOM / "a.names")
+        room = room_of(f"texts-{name}", {"a.h": text, "a.names": NAMES})
+        texts[name] = extract.code_of(room, room / "a.names")
     is_equal("another comment", printed(tool.differences, "it", texts["old"], texts["comment"])[1], "of 3 definitions that it has, too, 0 differ\n")
     wanted = "of 2 definitions that it has, too, 1 differ: post\nonly this tree has: gone\nonly it has: take\n"
     is_equal("another word", printed(tool.differences, "it", texts["old"], texts["word"])[1], wanted)

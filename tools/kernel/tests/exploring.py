@@ -7,7 +7,7 @@ import xml.etree.ElementTree
 
 from lib import machine
 from kernel.orders import search, text as steps_text
-from tests.bench import HERE, ROOM, TOP, expect, expect_none, fault, fault_if, run
+from tests.bench import HERE, ROOM, TOP, expect, expect_none, fault, fault_if, room_of, run
 
 EXPLORE = HERE / "kernel/explore"
 
@@ -121,8 +121,7 @@ def test_explore_words():
 def test_explore_undecided():
     """No room, no compiler, no SPIN: that nothing is decided is said, with a code of its own."""
     expect("explore, no room", run(EXPLORE, "--memory", 1, "--seats", 3, "--sends", 3), 3, "not decided: ", "there is no memory for more: give --memory")
-    tools = ROOM / "without"
-    tools.mkdir()
+    tools = room_of("without")
     (tools / "python3").symlink_to(sys.executable)
     without = os.environ | {"PATH": str(tools)}
     expect("explore, no compiler", run(EXPLORE, "--seats", 2, env=without), 3, "there is no C compiler: apt-get install gcc")
@@ -160,10 +159,7 @@ def states_apart(seats, sends):
 
 def plain(m):
     """A machine by all that decides what comes next: the numbers and owners of packets are nothing to a step."""
-
-    def unnumbered(packet):
-        return packet and machine.Packet(0, 0, packet.band)
-
+    unnumbered = lambda packet: packet and machine.Packet(0, 0, packet.band)
     q = m.qdisc._replace(ring=tuple(machine.Ring(map(unnumbered, ring)) for ring in m.qdisc.ring), gso_skb=unnumbered(m.qdisc.gso_skb), sent=0, full=0)
     return m._replace(qdisc=q, seats=tuple(s._replace(run=0, packet=unnumbered(s.packet)) for s in m.seats))
 

@@ -4,7 +4,7 @@ import shutil
 import subprocess
 
 from kernel.inside import changes, extract, sizes
-from tests.bench import HERE, ROOM, expect, expect_none, fault, fault_if, run
+from tests.bench import HERE, ROOM, expect, expect_none, fault, fault_if, room_of, run, write
 
 # a letter box: who puts a letter serves it, or leaves it to the one who holds the lock
 HEADER = """/* A letter box { not a brace. */
@@ -95,11 +95,7 @@ PLAIN void world_text(char *text) { sprintf(text, "flags %lu", world.m.flags); }
 
 def tree(name, **files):
     """A tree with a letter box, and the world around it."""
-    top = ROOM / name
-    for path, text in {"include/box.h": HEADER, "box.c": POST, "worlds/tap.names": NAMES, "worlds/tap.c": WORLD, **files}.items():
-        (top / path).parent.mkdir(parents=True, exist_ok=True)
-        (top / path).write_text(text, encoding="utf-8")
-    return top
+    return room_of(name, {"include/box.h": HEADER, "box.c": POST, "worlds/tap.names": NAMES, "worlds/tap.c": WORLD, **files})
 
 
 def search(top, *words):
@@ -167,8 +163,7 @@ def test_inside_calls_words():
         expect(f"inside-calls --size {size}", run(tool, ROOM, "--size", size), 2, text)
     expect("inside-calls, no folder", run(tool, ROOM / "none"), 3, "is no folder")
     tree_file = ROOM / "linux/include/linux/ptr_ring.h"
-    tree_file.parent.mkdir(parents=True)
-    tree_file.write_text("kept", encoding="utf-8")
+    write(tree_file, "kept")
     expect("inside-calls, a schedule that is an input", run(tool, ROOM / "linux", "--schedule", tree_file), 2, "ptr_ring.h")
     fault_if(tree_file.read_text(encoding="utf-8") != "kept", "inside-calls: a file of the tree is overwritten")
     expect("inside-calls, an empty tree", run(tool, ROOM, "--folder", ROOM / "inside"), 3, "has no include/linux/netdevice.h, ")
@@ -182,8 +177,7 @@ def test_inside_calls_words():
 
 
 def test_inside_calls_missing_packages():
-    path = ROOM / "few-programs"
-    path.mkdir()
+    path = room_of("few-programs")
     python = os.path.realpath(shutil.which("python3"))
     for name in ("gcc", "addr2line"):
         (path / name).symlink_to("/bin/true")
@@ -194,10 +188,8 @@ def test_inside_calls_missing_packages():
     expect("inside-calls without apt-get", run(*command, env=environment), 3, "the package linux-source-6.1 can't be had (there is no program 'apt-get'")
     newer = [python, HERE / "kernel/inside-calls", "--source", "7.2", "--folder", ROOM / "sources"]
     expect("inside-calls without apt-get, 7.2", run(*newer, env=environment), 3, "there is no program 'apt-get', which Debian has")
-    (path / "apt-get").write_text("#!/bin/sh\ncase \"$*\" in *update) exit 0 ;; esac\necho 'E: Unable to locate package' >&2\nexit 100\n", encoding="utf-8")
-    (path / "apt-cache").write_text("#!/bin/sh\necho 'linux-source-7.4 - Linux'\n", encoding="utf-8")
-    for name in ("apt-get", "apt-cache"):
-        (path / name).chmod(0o755)
+    write(path / "apt-get", "#!/bin/sh\ncase \"$*\" in *update) exit 0 ;; esac\necho 'E: Unable to locate package' >&2\nexit 100\n")
+    write(path / "apt-cache", "#!/bin/sh\necho 'linux-source-7.4 - Linux'\n")
     said = run(*newer, env=environment)
     expect("inside-calls, a line that isn't offered", said, 3, "Debian's unstable and trixie-backports offer no linux-source-7.2 any more; they have linux-source-7.4")
 

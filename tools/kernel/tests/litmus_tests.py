@@ -2,7 +2,7 @@
 import os
 
 from kernel.memory_model import answer, herd, language
-from tests.bench import HERE, ROOM, TOP, expect, fault, fault_if, run
+from tests.bench import HERE, ROOM, TOP, expect, fault, fault_if, room_of, run, write
 
 SHAPES = sorted((TOP / "examples/litmus/shapes").glob("*.litmus"))
 ROWS = sorted((TOP / "examples/litmus").glob("*.litmus"))
@@ -42,10 +42,7 @@ def test_litmus_beside_herd7():
 
 def test_litmus_with_a_herd7_of_our_own():
     """What --herd prints of another program's answers."""
-    test, model, room = ROOM / "herd.litmus", ROOM / "model", ROOM / "bin"
-    for folder in (model, room):
-        folder.mkdir()
-    (model / "linux-kernel.cfg").touch()
+    test, model, room = ROOM / "herd.litmus", room_of("model", {"linux-kernel.cfg": ""}), room_of("bin")
     test.write_text("C ONE\n\n{}\n\nP0(int *x)\n{\n\tWRITE_ONCE(*x, 1);\n}\n\nexists (x=1)\n", encoding="utf-8")
     command, path = [HERE / "kernel/litmus", "--quiet", "--herd", model, test], {**os.environ, "PATH": f"{room}:{os.environ['PATH']}"}
     for said, code, line in (
@@ -53,8 +50,7 @@ def test_litmus_with_a_herd7_of_our_own():
         ("echo 'Observation ONE Never 0 1'", 1, "ONE: Always, and herd7 says Never"),
         ("echo 'Warning: File \"a\": Unknown macro f (User error)' >&2", 1, "ONE: Always, and herd7 says that it can't read it: Unknown macro f"),
     ):
-        (room / "herd7").write_text(f"#!/bin/sh\n{said}\n", encoding="utf-8")
-        (room / "herd7").chmod(0o755)
+        write(room / "herd7", f"#!/bin/sh\n{said}\n")
         expect("litmus --herd", run(*command, env=path), code, line)
     expect("litmus --herd, no model", run(HERE / "kernel/litmus", "--herd", ROOM, test, env=path), 3, "has no linux-kernel.cfg")
     expect("litmus --herd, no folder", run(HERE / "kernel/litmus", "--herd", "nosuch", test, env=path), 3, "nosuch: no such folder")

@@ -4,7 +4,7 @@ import shutil
 import struct
 
 from kernel.linux import own
-from tests.bench import HERE, ROOM, TOP, expect, expect_none, fault_if, is_equal, run
+from tests.bench import HERE, ROOM, TOP, expect, expect_none, fault_if, is_equal, room_of, run
 
 TOOL = HERE / "kernel/beside-linux"
 # names in the tests' common room are others'
@@ -24,13 +24,8 @@ def image_of(release):
 
 def kernel(name, release="6.1.9", built="6.1.9", without=()):
     """The image and the folder of a kernel that was built here."""
-    room = OWN / name
-    for file in (own.RELEASE, own.VALUES):
-        (room / file).parent.mkdir(parents=True)
-    (room / "bzImage").write_bytes(image_of(release))
-    (room / own.RELEASE).write_text(f'#define UTS_RELEASE "{built}"\n', encoding="utf-8")
-    values = (f"CONFIG_{option}={'m' if option == '9P_FS' else 'y'}\n" for option in own.MUST_HAVE if option not in without)
-    (room / own.VALUES).write_text("".join(values), encoding="utf-8")
+    values = "".join(f"CONFIG_{option}={'m' if option == '9P_FS' else 'y'}\n" for option in own.MUST_HAVE if option not in without)
+    room = room_of(OWN / name, {"bzImage": image_of(release), own.RELEASE: f'#define UTS_RELEASE "{built}"\n', own.VALUES: values})
     return ["--image", room / "bzImage", "--headers", room]
 
 
@@ -65,8 +60,7 @@ def test_own_kernel_refused():
 
 
 def test_own_kernel_missing_packages():
-    path = OWN / "bare"
-    path.mkdir(parents=True)
+    path = room_of(OWN / "bare")
     (path / "python3").symlink_to(os.path.realpath(shutil.which("python3")))
     words = ["--rules-alone", "--folder", OWN / "folder", *kernel("packages"), *FILES]
     said = run(path / "python3", TOOL, *words, env=dict(os.environ, PATH=str(path)))

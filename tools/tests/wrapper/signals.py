@@ -5,24 +5,16 @@ import signal
 import subprocess
 import time
 
-from tests.wrapper.bench import ended_by
+from tests import bench
+from tests.wrapper.bench import cases, do, ended_by
 
-
-def unless_ignored():
-    """For a process that is to heed these signals: a shell that started this in the background has it ignore them."""
-    for number in (signal.SIGINT, signal.SIGQUIT):
-        signal.signal(number, signal.SIG_DFL)
+cases({"a signal": [do.run("words"), do.run("kill", 137, tells="ended by signal 9 (KILL)")]})
 
 
 def heeding(lqtx, words, **how):
     """Starts the wrapper so that it heeds all signals."""
     return subprocess.Popen([lqtx.repo / "lqtx", *words.split()], cwd=lqtx.here, env=lqtx.env,
-                            stdout=subprocess.DEVNULL, stderr=subprocess.PIPE, text=True, preexec_fn=unless_ignored, **how)
-
-
-def test_a_signal(lqtx):
-    lqtx.run("words")
-    lqtx.run("kill", 137, tells="ended by signal 9 (KILL)")
+                            stdout=subprocess.DEVNULL, stderr=subprocess.PIPE, text=True, preexec_fn=bench.heeding, **how)
 
 
 def test_it_ends_by_the_signal_itself(lqtx):
