@@ -5,8 +5,10 @@ the sources as they are, as long as none of the files in `build/sources.*` has c
 """
 import contextlib
 import os
+import subprocess
 
 from lib.crates import CRATES, TOP, NoKit, checksum_of_sources, checksum_of_toolchain, crates_below, files_of, folders_of, kit, told_by_toolchain
+from lib.words import Failed, say
 
 KEPT = TOP / "build"
 # the unproved one for small inputs is compiled in less time; of a module the other is made
@@ -52,3 +54,23 @@ def drop_old(kind):
     kept = sorted((path for path in KEPT.glob(f"{kind}.*.*") if path.is_file()), key=lambda path: path.stat().st_mtime, reverse=True)
     for old in kept[STAYING[kind] :]:
         old.unlink()
+
+
+def program_for(tool, is_unproved):
+    """The program that a tool runs: one that is kept, or the one that tools/install put beside the tools. A proof isn't begun here: it takes too long for that."""
+    if not CRATES.exists():
+        if not (TOP / "program").exists():
+            raise Failed("the proved program wasn't there when this was installed: --program PATH names one")
+        return TOP / "program"
+    sources = Sources()
+    proved, unproved = sources.program(PROVED), sources.program(UNPROVED)
+    if not is_unproved and is_made(proved):
+        return proved
+    if not is_unproved and not any(is_made(sources.program(kind)) for kind in (UNPROVED, FOR_SMALL)):
+        raise Failed("no program is built: --unproved compiles one without its proof, in a minute or two; `./lqtx run PLAN CAPTURE OUT` proves and builds one")
+    if not is_made(unproved):
+        said = subprocess.run([TOP / "lqtx", "--unproved"], env=os.environ | {"LQTX_SHOW_PROGRAM": "1"}, stdout=subprocess.DEVNULL, stdin=subprocess.DEVNULL)
+        if said.returncode:
+            raise Failed("the program isn't compiled")
+    say(tool, "the runs are those of the program without its proof" + ("" if is_unproved else ": the proved one isn't built"))
+    return unproved
