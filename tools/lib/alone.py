@@ -266,13 +266,10 @@ class Station:
     def runs_after_bypass(self):
         return self.is_non_empty()
 
-    def may_bypass(self):
-        return self.bypass and not self.is_non_empty()
-
     def transmit(self, n):
         if self.state & DEACTIVATED:
             self.trail.put(n, REFUSED, self.down_by)
-        elif self.may_bypass():
+        elif self.bypass and not self.is_non_empty():
             if self.direct_transmit([n]) and self.runs_after_bypass():
                 self.run()
             self.run_end()

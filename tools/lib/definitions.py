@@ -32,13 +32,8 @@ class Definition:
     lines: list = field(default_factory=list)
     mentions: set = field(default_factory=set)
 
-    @property
-    def key(self):
-        return (self.module, self.name)
-
-    @property
-    def size(self):
-        return len(self.comment) + len(self.lines)
+    key = property(lambda self: (self.module, self.name))
+    size = property(lambda self: len(self.comment) + len(self.lines))
 
 
 def module_of(path):
@@ -106,9 +101,7 @@ class Names:
         """What a text mentions, as modules and names; of a qualified name, both its parts; of `do`, the operator that joins its lines."""
         tokens = TOKEN.findall(text)
         words = set(tokens) | ({">>="} if "do" in tokens else set())
-        for name, key in self.items.items():
-            if "◌" in name and words.issuperset(filter(None, name.split("◌"))):
-                yield key
+        yield from (key for name, key in self.items.items() if "◌" in name and words.issuperset(filter(None, name.split("◌"))))
         for at, token in enumerate(tokens):
             if token in self.modules and tokens[at + 1 : at + 2] == ["."]:
                 yield (self.modules[token], tokens[at + 2])
@@ -246,8 +239,7 @@ class Repository:
             if module[:1] in (["specs"], ["proofs"]):
                 names.items[name] = (".".join([crate, *module]), name)
         bare = IMPORT.sub("", blank_strings_and_comments(text or whole))
-        keys = {self.meant(*key) for key in names.mentioned_in(bare)}
-        return keys - {None}
+        return {self.meant(*key) for key in names.mentioned_in(bare)} - {None}
 
     def reached_from(self, keys, without=()):
         """These definitions and all that they rest on, each after those that it rests on; some and what only they rest on are left out."""

@@ -174,8 +174,7 @@ def side_by_side(before, after):
     """A line for each crate, with its seconds before and after; then their sums, over the crates of both and over all."""
     before, after = ({crate: used for _, crate, used, _ in lines_of_log(text) if crate and used is not None} for text in (before, after))
     yield f"{'seconds of a processor':24}{'before':>8}{'after':>8}"
-    for crate in sorted({*before, *after}):
-        yield f"{crate:24}{before.get(crate, ''):>8}{after.get(crate, ''):>8}"
+    yield from (f"{crate:24}{before.get(crate, ''):>8}{after.get(crate, ''):>8}" for crate in sorted({*before, *after}))
     both = [crate for crate in before if crate in after]
     yield f"{f'{len(both)} crates of both':24}{sum(before[crate] for crate in both):>8}{sum(after[crate] for crate in both):>8}"
     yield f"{'all':24}{sum(before.values()):>8}{sum(after.values()):>8}"

@@ -83,16 +83,13 @@ class Seen:
             return []
         if len(set(self.capture.links)) == 1 and min(self.captured) >= size:
             return (data[at : at + size] for at in self.frames)
-        rows = zip(self.frames, self.captured, self.links)
-        return (data[at : at + size] for at, captured, own in rows if own == link and captured >= size)
+        return (data[at : at + size] for at, captured, own in zip(self.frames, self.captured, self.links) if own == link and captured >= size)
 
     @cached_property
     def times(self):
         return list(moments_of(self.capture))
 
-    @property
-    def card(self):
-        return self.plan and self.plan.station[0].card
+    card = property(lambda self: self.plan and self.plan.station[0].card)
 
     def looks_at_times(self):
         return self.plan is None or self.plan.by_time
@@ -250,8 +247,7 @@ def names_of_frames(seen):
     found = Counter()
     for link, count in Counter(seen.links).items():
         if link == ETHERNET:
-            types = Counter(head[12:18] if head[12:14] in TAGS else head[12:14] for head in seen.heads(link, 18))
-            for kind, many in types.items():
+            for kind, many in Counter(head[12:18] if head[12:14] in TAGS else head[12:14] for head in seen.heads(link, 18)).items():
                 name = name_of_ethernet(bytes(12) + kind)
                 if name:
                     found[name] += many

@@ -60,18 +60,14 @@ def bytes_of_ipv4(frame, start):
     return frame[start + 12 : start + 20] + ports
 
 
-def bytes_of_ipv6(frame, start):
-    """The addresses, and the ports where no other header stands before them."""
-    return frame[start + 8 : start + 40] + ports_at(frame, start + 40, frame[start + 6])
-
-
 def flow_bytes(frame, link):
     """What is hashed of a frame; None of one that is neither IPv4 nor IPv6."""
     start = start_of(frame, link, IPV4)
     if has_header(frame, start, 20, 4):
         return bytes_of_ipv4(frame, start)
     start = start_of(frame, link, IPV6)
-    return bytes_of_ipv6(frame, start) if has_header(frame, start, 40, 6) else None
+    # the addresses, and the ports where no other header stands before them
+    return frame[start + 8 : start + 40] + ports_at(frame, start + 40, frame[start + 6]) if has_header(frame, start, 40, 6) else None
 
 
 def flow_of(frame, link):

@@ -54,13 +54,8 @@ class Qdisc(NamedTuple):
     slot = property(lambda q: q.gso_skb)
     locked = property(lambda q: bool(q.seqlock))
 
-    @property
-    def held(self):
-        return sum(ring.held for ring in self.ring) + (self.gso_skb is not None)
-
-    @property
-    def state(self):
-        return sum(getattr(self, name) << at for at, name in enumerate(BITS))
+    held = property(lambda self: sum(ring.held for ring in self.ring) + (self.gso_skb is not None))
+    state = property(lambda self: sum(getattr(self, name) << at for at, name in enumerate(BITS)))
 
     def bits(self):
         """The names of the bits that are set."""
@@ -83,9 +78,7 @@ class Seat(NamedTuple):
     found: int = 0
     packet: Optional[Packet] = None
 
-    @property
-    def name(self):
-        return f"{self.at} {'second' if self.second else 'first'}" if self.at.startswith("scan") else self.at
+    name = property(lambda self: f"{self.at} {'second' if self.second else 'first'}" if self.at.startswith("scan") else self.at)
 
 
 class Machine(NamedTuple):
@@ -307,9 +300,7 @@ class Event(NamedTuple):
     after: Machine
     said: str = ""  # what a step did, in words: {packet} and {band} are its packet's
 
-    @property
-    def is_start(self):
-        return self.what.split()[0] in STARTS
+    is_start = property(lambda self: self.what.split()[0] in STARTS)
 
 
 def answer_of(what):
@@ -474,8 +465,7 @@ def left(m):
     q = m.qdisc
     if q.xoff or not (q.held or any(has_lock(s) and carries(s) for s in m.seats)):
         return None
-    packets = q.held + sum(map(carries, m.seats))
-    return PACKET_PAYS * packets + sum(way(q, s) + INTERRUPT_PAYS * s.raised for s in m.seats)
+    return PACKET_PAYS * (q.held + sum(map(carries, m.seats))) + sum(way(q, s) + INTERRUPT_PAYS * s.raised for s in m.seats)
 
 
 # TELLING A STEP

@@ -52,9 +52,7 @@ class Command:
         """The names of its outputs, as they are said."""
         return self.out if self.words[0] == "gen" else f"{self.out}.*"
 
-    @property
-    def note(self) -> str:
-        return f"{self.out}.run"
+    note = property(lambda self: f"{self.out}.run")
 
     def written(self) -> Dict[str, str]:
         """The outputs that are there, by what follows OUT in their names, each with its state."""

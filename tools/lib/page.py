@@ -74,8 +74,7 @@ def classes_of(run):
     """Each line of the counts: its name, whether it is a whole, which packets it is of, and the station and band of one band."""
     if not run.has_units:
         yield "all", True, lambda sender: True, None
-        for wanted in range(run.many):
-            yield f"sender {wanted}", False, lambda sender, wanted=wanted: sender == wanted, None
+        yield from ((f"sender {wanted}", False, lambda sender, wanted=wanted: sender == wanted, None) for wanted in range(run.many))
         return
     for station, table in enumerate(run.tables):
         for at, children in run.groups:

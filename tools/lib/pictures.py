@@ -198,8 +198,7 @@ def draw_panel(run, panel, axis, top, room):
     yield from axes(top, panel.most, panel.said)
     yield from events_above(panel, axis, top)
     points = points_of(panel, axis, len(run.capture), room) if panel.most else []
-    for of, (_, colour) in panel.names.items():
-        yield dots(points, top, of, colour)
+    yield from (dots(points, top, of, colour) for of, (_, colour) in panel.names.items())
     yield from rows_below(run, panel, axis, top + HEIGHT)
     yield from marks_below(top + panel.tall(run) - TITLE - FOOT, axis)
 
@@ -227,7 +226,7 @@ def unit_panels(run, waits, station, dropped, first):
     units = run.units[station]
     for place, (unit, since) in enumerate(units):
         until = units[place + 1][1] if place + 1 < len(units) else len(run.capture)
-        numbers, late = run.numbers[unit], waits.late_by(unit) if waits else 0
+        numbers, late = run.numbers[unit], sum(run.names[n] == unit for n in waits.late) if waits else 0
         title = f"{name_of(run, station)}, unit {unit}: sent {len(numbers)}" + (f", from packet {since + first} on" if since else "")
         events = list(events_of(run, station, since, until, first))
         yield Panel(title, "serial", numbers, run.serials_of(unit), run.bands, BANDS, len(numbers), dropped, since, until, late, events)
@@ -270,25 +269,18 @@ def title_of(run, waits, of):
 def heads(run, waits, of, names, axis, more=""):
     """What stands above the first panel, and how tall it is."""
     titles = textwrap.wrap(title_of(run, waits, of), 115)
-    for row, title in enumerate(titles):
-        yield text(16, 18 + 15 * row, title, more=' font-weight="bold"')
+    yield from (text(16, 18 + 15 * row, title, more=' font-weight="bold"') for row, title in enumerate(titles))
     y = 21 + 15 * len(titles)
     yield from legend(y, names)
     yield text(LEFT + WIDTH, y, axis.words + more, "end")
     yield y + 8
 
 
-def kinds_of(run):
-    """The kinds of fates that there are of packets that weren't sent, with their colours."""
-    packets, _ = run.of_kinds()
-    return [(kind, DROP_COLOURS[kind]) for kind in run.KINDS[1:] if packets[kind]]
-
-
 def drawn(run, waits, of, names, panels, first):
     """The picture of some panels."""
     panels, more = list(panels), "; packets that share a dot: their colours alternate" if len(run.capture) > FEW else ""
-    axis = axis_of(run, first)
-    *lines, top = heads(run, waits, of, [*names, *kinds_of(run)], axis, more)
+    axis, (packets, _) = axis_of(run, first), run.of_kinds()
+    *lines, top = heads(run, waits, of, [*names, *((kind, DROP_COLOURS[kind]) for kind in run.KINDS[1:] if packets[kind])], axis, more)
     for panel in panels:
         lines += draw_panel(run, panel, axis, top, DOTS // len(panels))
         if panel.names is not BANDS:

@@ -404,35 +404,15 @@ class Station(record("Station", STATION)):
 class Plan(record("Plan", ROOT)):
     """A plan that is accepted. What fates and counts call stations are its stations' children."""
 
-    @property
-    def children(self):
-        """The numbers of the children of each station."""
-        return numbered([station.mq for station in self.station])
-
-    @property
-    def tables(self):
-        """Each child's station."""
-        return [station for station in self.station for _ in range(station.mq)]
-
-    @property
-    def groups(self):
-        """The stations that have several children, each with these."""
-        return [(at, child) for at, child in enumerate(self.children) if len(child) > 1]
-
-    @property
-    def by_time(self):
-        """Whether queues are opened by the capture's times."""
-        return self.irq_us is not None or self.station[0].card is not None
-
-    @property
-    def wants_order(self):
-        """Whether it takes no capture whose times go back."""
-        return self.version > 4 and self.by_time
-
-    @property
-    def units(self):
-        """How many units it needs: one for each child, and one for each swap."""
-        return sum(station.mq for station in self.station) + sum(event.kind == "swap" for event in self.event)
+    # the numbers of the children of each station; each child's station; and the stations that have several children, each with these
+    children = property(lambda self: numbered([station.mq for station in self.station]))
+    tables = property(lambda self: [station for station in self.station for _ in range(station.mq)])
+    groups = property(lambda self: [(at, child) for at, child in enumerate(self.children) if len(child) > 1])
+    # whether queues are opened by the capture's times, and whether it takes no capture whose times go back
+    by_time = property(lambda self: self.irq_us is not None or self.station[0].card is not None)
+    wants_order = property(lambda self: self.version > 4 and self.by_time)
+    # how many it needs: one for each child, and one for each swap
+    units = property(lambda self: sum(station.mq for station in self.station) + sum(event.kind == "swap" for event in self.event))
 
 
 def plan_of(root):
@@ -451,10 +431,7 @@ def read(name, code=1):
 
 def text_of(root):
     """The text of a document."""
-
-    def value(given):
-        return str(given).lower() if isinstance(given, bool) else json.dumps(given)
-
+    value = lambda given: str(given).lower() if isinstance(given, bool) else json.dumps(given)
     lines = [f"{name} = {value(given)}" for name, given in root.items() if not isinstance(given, list)]
     for name in ("station", "event"):
         for table in root.get(name, []):

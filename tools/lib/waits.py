@@ -70,10 +70,6 @@ class Waits:
         run = self.run
         return sum(wanted(run.stations[n], run.bands[n], run.queues[n]) for n in self.late)
 
-    def late_by(self, unit):
-        """The same, of those that a unit sent: they have its last serials."""
-        return sum(self.run.names[n] == unit for n in self.late)
-
     def waiting(self, station, bands=(0, 1, 2)):
         """How many packets of these bands of a station wait after each packet. The slot's packet counts with its band."""
         key = station, tuple(bands)

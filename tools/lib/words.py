@@ -1,7 +1,6 @@
 """How a tool begins and ends: its words, its help, its exit code, and one line for whatever may go wrong outside of it.
 
-    if __name__ == "__main__":
-        words.run("check-plan", __doc__, main)
+    words.run("check-plan", __doc__, main)
 
 `main` gets the words of the command line and returns the exit code, or nothing for 0. `--help` prints the tool's own text to standard output
 and ends with 0; `Wrong` ends with 2, `Failed` with 1 or its own code. No traceback reaches a user: a fault of a file, of memory or of
@@ -120,15 +119,14 @@ def heed_signals() -> None:
         signal.signal(number, on_signal)
 
 
-def asks_for_help(given: List[str]) -> bool:
-    """Whether a word asks for help, before any that ends the options."""
-    options = given[: given.index("--")] if "--" in given else given
-    return "--help" in options or "-h" in options
+def options_of(given: List[str]) -> List[str]:
+    """The words before the one that ends the options."""
+    return given[: given.index("--")] if "--" in given else given
 
 
 def without_force(given: List[str]) -> List[str]:
     global forced
-    options = given[: given.index("--")] if "--" in given else given
+    options = options_of(given)
     forced = "--force" in options
     return [option for option in options if option != "--force"] + given[len(options) :]
 
@@ -139,7 +137,7 @@ def code_of(tool: str, about: str, main: Main, given: List[str]) -> int:
         # a name may have bytes that aren't UTF-8: it goes out as it came
         sys.stdout.reconfigure(errors="surrogateescape")
         given = without_force(given)
-        if asks_for_help(given):
+        if {"--help", "-h"}.intersection(options_of(given)):
             print(about.strip())
             code = 0
         else:

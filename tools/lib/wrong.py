@@ -38,13 +38,8 @@ class Edit:
     by: Optional[str]  # the function that refuses it, if it changes no body
     functions: List[Function] = field(default_factory=list)
 
-    @property
-    def file(self):
-        return TOP / "crates" / self.crate / self.folder / self.name
-
-    @property
-    def targets(self):
-        return [self.by] if self.by else [function.path for function in self.functions]
+    file = property(lambda self: TOP / "crates" / self.crate / self.folder / self.name)
+    targets = property(lambda self: [self.by] if self.by else [function.path for function in self.functions])
 
 
 class Tried(NamedTuple):
@@ -203,8 +198,7 @@ def check(crate, edits, targets, holes):
                 shutil.copytree(TOP / "crates" / crate / part, room / part)
         for edit in edits:
             for file, old, new in edit.pairs:
-                text = (room / file).read_text(encoding="utf-8")
-                (room / file).write_text(text.replace(old, new), encoding="utf-8")
+                (room / file).write_text((room / file).read_text(encoding="utf-8").replace(old, new), encoding="utf-8")
         make_holes(room, crate, holes)
         only = [word for target in targets for word in ("--only", target)]
         how = {"cwd": room, "stdin": subprocess.DEVNULL, "stdout": subprocess.PIPE, "stderr": subprocess.STDOUT, "text": True, "errors": "replace"}
@@ -277,8 +271,7 @@ def tried(crate, edits):
                 yield came
             else:
                 left.append(edit)
-    for edit in left:
-        yield by_itself(edit)
+    yield from (by_itself(edit) for edit in left)
 
 
 def by_itself(edit):

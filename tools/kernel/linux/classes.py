@@ -39,28 +39,21 @@ def bands_of(lines, device):
     words = [read_words(line) for line in lines if line.startswith(f"W {device} ")]
     producers = [[int(ring["producer"]) for ring in told.bands] for told in words]
     bands = [band for before, after in zip(producers, producers[1:]) for band in range(3) if after[band] != before[band]]
-    sent = next(line for line in lines if line.startswith(f"L {device} 0 "))
-    return bands, {int(number): int(priority) for number, priority, *_ in marks_of(sent)}
+    return bands, {int(number): int(priority) for number, priority, *_ in marks_of(next(line for line in lines if line.startswith(f"L {device} 0 ")))}
 
 
 def judge(found):
     """How many are as the rules say, of how many, and the faults."""
-    good, total, faults = 0, 0, []
+    faults = []
     for way, name in enumerate(WAYS):
         for begin in range(0, 256, BATCH):
             bands, priorities = bands_of(found[f"class-{way}-{begin}"], 1)
             for at, tos in enumerate(range(begin, begin + BATCH)):
                 priority = PRIORITY[(tos & 0x1E) // 2]
                 got = priorities.get(tos), bands[at] if at < len(bands) else None
-                total += 1
-                good += got == (priority, BAND[priority & 15])
                 if got != (priority, BAND[priority & 15]):
                     faults.append(f"type of service {tos:#04x} by {name}: priority and band {got}")
     bands, _ = bands_of(found["class-priorities"], 0)
-    for priority in range(64):
-        total += 1
-        fits = bands[priority : priority + 1] == [BAND[priority & 15]]
-        good += fits
-        if not fits:
-            faults.append(f"priority {priority}: another band")
-    return good, total, faults
+    faults += [f"priority {priority}: another band" for priority in range(64) if bands[priority : priority + 1] != [BAND[priority & 15]]]
+    total = 256 * len(WAYS) + 64
+    return total - len(faults), total, faults

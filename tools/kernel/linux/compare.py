@@ -12,15 +12,13 @@ CAUSES = [
           "same length: a change of tx_queue_len to the length that the device has already is nothing to Linux, since "
           "dev_change_tx_queue_len (net/core/dev.c) compares first; the rules deactivate, purge and activate"),
     Cause("too_long", lambda plan: any((event.len or 0) > 32767 for event in plan.event),
-          "too long: a tx_queue_len above 32,767 is refused by dev_change_tx_queue_len (net/core/dev.c) since 6.1.189; the "
-          "rules take it"),
+          "too long: a tx_queue_len above 32,767 is refused by dev_change_tx_queue_len (net/core/dev.c) since 6.1.189; the rules take it"),
     Cause("bulk", lambda plan: any(station.queues > 1 for station in plan.station),
           "bulk dequeue: where several queues share a qdisc, try_bulk_dequeue_skb_slow (net/sched/sch_generic.c) takes up to "
           "eight more packets of the same queue with one; the rules take one at a time"),
     Cause("put_ahead", lambda plan: any(station.queues > 1 for station in plan.station),
           "put ahead: what bulk dequeue took and the device didn't get goes back ahead of what waits in the requeue list, by "
-          "dev_requeue_skb (net/sched/sch_generic.c) of 6.12.117; 6.1.192 appends it, so that a busy device is given such packets "
-          "out of order"),
+          "dev_requeue_skb (net/sched/sch_generic.c) of 6.12.117; 6.1.192 appends it, so that a busy device is given such packets out of order"),
 ]
 
 # agrees: nothing parts. causes: the fewest that explain all that does, or None
@@ -68,10 +66,7 @@ def names_of_steps(packets):
 
 def first_difference(packets, answers, run):
     """The first step after which the words differ, with both sides, or None."""
-    for name, theirs, ours in zip(names_of_steps(packets), answers.steps, run.steps):
-        if theirs != ours:
-            return name, theirs, ours
-    return None
+    return next((step for step in zip(names_of_steps(packets), answers.steps, run.steps) if step[1] != step[2]), None)
 
 
 def tell_difference(verdict, most=20):

@@ -40,8 +40,7 @@ def windows(of, version, trip, begin):
 
 def steady(of, length, version, tos, period, begin):
     """A frame each so many nanoseconds, a tenth of that early or late."""
-    for n in range(10**9):
-        yield Sent(begin + n * period + of.randrange(period // 10), length, version, tos)
+    yield from (Sent(begin + n * period + of.randrange(period // 10), length, version, tos) for n in range(10**9))
 
 
 def heaps(of):

@@ -115,11 +115,6 @@ def fetch(names, folder, lists=Lists()):
     return [package.name for package in packages]
 
 
-def not_installed(names):
-    """The packages that an installation of these would bring, in apt's order."""
-    return re.findall(r"^Inst (\S+)", run(["apt-get", "install", "--simulate", "--no-install-recommends", *names]), flags=re.M)
-
-
 PT_INTERP = 3
 
 
@@ -140,17 +135,15 @@ class Tools:
         if self.root.exists() and not (self.root / COMPLETE).exists():
             shutil.rmtree(self.root)
         wanted = [package for name, package in PROGRAMS.items() if not self._found(name)]
-        wanted += [package for file, package in FILES.items() if not self._has(file)]
+        wanted += [package for file, package in FILES.items() if not os.path.exists(file) and not (self.root / file.lstrip("/")).exists()]
         if wanted:
-            names = not_installed(wanted)
+            # those that an installation would bring, in apt's order
+            names = re.findall(r"^Inst (\S+)", run(["apt-get", "install", "--simulate", "--no-install-recommends", *wanted]), flags=re.M)
             if not names:
                 raise Missing(f"{' '.join(wanted)}: installed, and yet not found")
             tell(f"fetching {len(names)} packages for {' '.join(wanted)}")
             fetch(names, folder / "tools")
             (self.root / COMPLETE).touch()
-
-    def _has(self, file):
-        return os.path.exists(file) or (self.root / file.lstrip("/")).exists()
 
     def _folders(self, *below):
         return [str(self.root / name) for name in below if (self.root / name).is_dir()]
@@ -180,8 +173,7 @@ class Tools:
 
     def firmware(self):
         """The words that tell the emulator where its firmware is."""
-        folders = self._folders("usr/share/qemu", "usr/share/seabios")
-        return [word for folder in folders for word in ("-L", folder)]
+        return [word for folder in self._folders("usr/share/qemu", "usr/share/seabios") for word in ("-L", folder)]
 
 
 class Kernel:
@@ -210,8 +202,7 @@ class Kernel:
                     file.symlink_to(target)
             make = headers / "Makefile"
             if "common" not in headers.name and make.exists():
-                text = make.read_text(encoding="utf-8")
-                make.write_text(re.sub(r"(?<=[ =])/usr/(src|lib)/", rf"{self.root}/usr/\1/", text), encoding="utf-8")
+                make.write_text(re.sub(r"(?<=[ =])/usr/(src|lib)/", rf"{self.root}/usr/\1/", make.read_text(encoding="utf-8")), encoding="utf-8")
 
     def _mend_programs(self, tell):
         """Programs for building that need a newer C library than the system's are called with that library."""

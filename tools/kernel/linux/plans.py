@@ -59,10 +59,7 @@ def of_length(frame, length):
 def text_of(plan):
     """The text of a plan."""
 
-
-    def told(part):
-        return {name: value for name, value in part._asdict().items() if value != part._field_defaults[name]}
-
+    told = lambda part: {name: value for name, value in part._asdict().items() if value != part._field_defaults[name]}
     stations, events = list(map(told, plan.station)), list(map(told, plan.event))
     for number, station in enumerate(plan.station):
         stations[number]["max_len"] = max([station.len, *(event.len for event in plan.event if event.station == number and event.len)])

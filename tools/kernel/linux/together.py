@@ -14,8 +14,7 @@ def case_of(name, packets):
         raise Refused("a kernel has no live resize and no swap of a device beside running senders; with several senders a "
                       "plan may have down, up and tx_queue_len")
     yield f"case {name}"
-    for j in range(len(plan.station)):
-        yield new_line(plan, j, len(packets))
+    yield from (new_line(plan, j, len(packets)) for j in range(len(plan.station)))
     for sender in range(plan.senders):
         yield f"sender {sender}"
         for what, number in steps_of(packets, sender):
@@ -61,17 +60,14 @@ class Together:
             for n in serials:
                 station = self.packets.stations[n]
                 key = self.packets.senders[n], station, self.packets.bands[n]
-                if last.get(key, -1) > n and self.may_bulk(station):
+                # where several queues share a qdisc, a busy device is given the packets that were taken at once out of order: each one that it doesn't
+                # take goes behind the others (dev_requeue_skb of net/sched/sch_generic.c, up to 6.1.192)
+                if last.get(key, -1) > n and self.plan.tables[station].queues > 1:
                     self.by_bulk += 1
                 elif last.get(key, -1) > n:
                     self.faults.append(f"unit {unit}: packet {n} after packet {last[key]} of the same sender and band")
                 self.overtaking += n < highest
                 last[key], highest = n, max(highest, n)
-
-    def may_bulk(self, station):
-        """Where several queues share a qdisc, a busy device is given the packets that were taken at once out of order: each one
-        that it doesn't take goes behind the others (dev_requeue_skb of net/sched/sch_generic.c, up to 6.1.192)."""
-        return self.plan.tables[station].queues > 1
 
     def judge_quiet(self, step):
         for line in (line for line in step if line.startswith("W ")):

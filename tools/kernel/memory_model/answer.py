@@ -13,9 +13,7 @@ RELATIONS = ("rf", "co", "fr", "po_loc", "mb", "rmb", "wmb", "acq_po", "po_rel",
 
 def value_of(execution, left):
     thread, name = left
-    if thread is None:
-        return execution.events[execution.coherence[name][-1]].value
-    return execution.registers[thread].get(name, 0)
+    return execution.events[execution.coherence[name][-1]].value if thread is None else execution.registers[thread].get(name, 0)
 
 
 def is_met(execution, condition):

@@ -118,8 +118,7 @@ class Reader(Tokens):
         self.expect("(")
         before, condition = self.expression()
         self.expect(")")
-        then = self.block()
-        return before + [If(condition, then, self.block() if self.accept("else") else [])]
+        return before + [If(condition, self.block(), self.block() if self.accept("else") else [])]
 
     def declaration(self):
         self.skip(*TYPES, "*")

@@ -221,8 +221,7 @@ def picture_of(found: Result, size: Size, title: str) -> str:
 def verdict_of(found: Result) -> str:
     """What is wrong with an order, in a line."""
     if found.wrong == "left":
-        last = found.moves[-1]
-        return f"{VERDICTS['left']}: held {last.held}"
+        return f"{VERDICTS['left']}: held {found.moves[-1].held}"
     return found.why if found.wrong == "lost" else VERDICTS[found.wrong]
 
 

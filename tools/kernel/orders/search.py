@@ -43,10 +43,7 @@ class Size(namedtuple("Size", LIMITS, defaults=[first for first, *_ in LIMITS.va
 
     def words(self) -> str:
         """The size in a line."""
-
-        def many(count, name):
-            return f"{count} {name}{'s' * (count != 1)}"
-
+        many = lambda count, name: f"{count} {name}{'s' * (count != 1)}"
         said = [many(self.seats, "seat"), f"{many(self.sends, 'transmit')} of each", f"into {many(self.bands, 'band')} of {many(self.len, 'slot')}"]
         said += [many(self.queues, "queue")] * (self.queues > 1) + ["past the bands where that is allowed"] * self.bypass
         said += [f"a quota of {self.quota}"] * (self.quota <= self.seats * self.sends)
@@ -191,15 +188,13 @@ def search(steps: str, size: Size, both: bool, room: pathlib.Path, megabytes: in
 def states_apart(steps: str, size: Size, room: pathlib.Path, megabytes: int, seconds: float) -> int:
     """How many states there are where the seats are told apart, as SPIN has them."""
     program = compile_search(steps, [*size.defines(), "-DAPART"], room)
-    done = subprocess.run([str(program), "0", str(megabytes), str(seconds)], capture_output=True, text=True)
-    return read_result(done.stdout).states
+    return read_result(subprocess.run([str(program), "0", str(megabytes), str(seconds)], capture_output=True, text=True).stdout).states
 
 
 def walks(steps: str, seed: int, count: int, room: pathlib.Path) -> Iterator[Tuple[str, str]]:
     """Random schedules of 1 to 8 seats that the steps can do, and what each leaves, as `lqtx trace` prints it."""
     size = Size(seats=8, sends=15, bands=3)
     program = compile_search(steps, [*size.defines(), "-DWALK"], room, "-O1")
-    done = subprocess.run([str(program), "walk", str(seed), str(count)], capture_output=True, text=True)
-    for walk in done.stdout.split("==\n")[:-1]:
+    for walk in subprocess.run([str(program), "walk", str(seed), str(count)], capture_output=True, text=True).stdout.split("==\n")[:-1]:
         schedule, _, left = walk.partition("--\n")
         yield schedule, left

@@ -40,10 +40,7 @@ def search(steps: str, size: Size, live: bool, room: pathlib.Path, megabytes: in
     source = room / "steps.h"
     source.write_text(steps, encoding="utf-8")
     (room / "machine.pml").write_text(model_of(size, source), encoding="utf-8")
-
-    def run(*words):
-        return subprocess.run(list(map(str, words)), cwd=room, capture_output=True, text=True)
-
+    run = lambda *words: subprocess.run(list(map(str, words)), cwd=room, capture_output=True, text=True)
     made = run("spin", *["-DLIVE"] * live, "-a", "machine.pml")
     # with one seat an order may end; with several, one that ends goes on for ever as it is
     options = ["-DNOSTUTTER"] * (size.seats == 1) if live else ["-DSAFETY"]
