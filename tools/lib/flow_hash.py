@@ -53,18 +53,13 @@ def ports_at(frame, place, protocol):
     return frame[place : place + 4] if protocol in (TCP, UDP) and place + 4 <= len(frame) else b""
 
 
-def bytes_of_ipv4(frame, start):
-    """The addresses, and behind a whole header of a packet that is no fragment the ports."""
-    length, is_fragment = frame[start] % 16 * 4, int.from_bytes(frame[start + 6 : start + 8], "big") & 0x3FFF
-    ports = b"" if is_fragment or length < 20 else ports_at(frame, start + length, frame[start + 9])
-    return frame[start + 12 : start + 20] + ports
-
-
 def flow_bytes(frame, link):
     """What is hashed of a frame; None of one that is neither IPv4 nor IPv6."""
     start = start_of(frame, link, IPV4)
     if has_header(frame, start, 20, 4):
-        return bytes_of_ipv4(frame, start)
+        # the addresses, and behind a whole header of a packet that is no fragment the ports
+        length, is_fragment = frame[start] % 16 * 4, int.from_bytes(frame[start + 6 : start + 8], "big") & 0x3FFF
+        return frame[start + 12 : start + 20] + (b"" if is_fragment or length < 20 else ports_at(frame, start + length, frame[start + 9]))
     start = start_of(frame, link, IPV6)
     # the addresses, and the ports where no other header stands before them
     return frame[start + 8 : start + 40] + ports_at(frame, start + 40, frame[start + 6]) if has_header(frame, start, 40, 6) else None

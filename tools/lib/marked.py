@@ -38,10 +38,8 @@ def comments(run, waits, first):
             words = b"sent %d %d" % (name, serial) if has_units else b"read %d" % serial
         elif kind == FULL:
             words = b"full %d" % (name + first)
-        elif not has_units:
-            words = kinds[kind]
         else:
-            words = kinds[kind] + (b" hung" if name == HANGS else b" %d" % name)
+            words = kinds[kind] + (b"" if not has_units else b" hung" if name == HANGS else b" %d" % name)
         waited = f", waited {microseconds(waits.time(n))}".encode() if n in accepted else b""
         yield b"lqtx: " + words + place + waited + ends[is_late]
 

@@ -17,13 +17,6 @@ def need_programs():
         raise Missing(f"no {', '.join(missing)}: Debian has {'it' if len(missing) == 1 else 'them'} in {' '.join(dict.fromkeys(missing.values()))}")
 
 
-def lists_of(line, folder, tell):
-    if line not in LINES[2:]:
-        return Lists()
-    tell(f"looking at the package lists of Debian's {' and '.join(NEWER)}")
-    return Lists(folder)
-
-
 def why_not(package, lists, fault):
     """Why a package can't be had: the lists haven't it any more, or apt's own words."""
     if not lists.words:
@@ -41,7 +34,9 @@ def fetch(line, files, folder, tell):
     if done.exists() and all((tree / file).exists() for file in files):
         return tree, done.read_text(encoding="utf-8").strip()
     shutil.rmtree(room, ignore_errors=True)
-    lists = lists_of(line, folder, tell)
+    if line in LINES[2:]:
+        tell(f"looking at the package lists of Debian's {' and '.join(NEWER)}")
+    lists = Lists(folder if line in LINES[2:] else None)
     tell(f"fetching the package {package} (about 150 MB)")
     try:
         archive, = fetch_packages([package], room, lists)

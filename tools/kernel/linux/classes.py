@@ -23,10 +23,7 @@ def case_lines():
             yield from (f"new {j} 1000 1 1 {BATCH} 0 0 0 0 0 0 0" for j in (0, 1))
             yield from (f"address {j}" for j in (0, 1))
             for tos in range(begin, begin + BATCH):
-                if way < 2:
-                    yield f"datagram 1 {tos} {tos} {way}"
-                else:
-                    yield f"receive 0 {tos} {forwarded(tos, way == 3).hex()}"
+                yield f"datagram 1 {tos} {tos} {way}" if way < 2 else f"receive 0 {tos} {forwarded(tos, way == 3).hex()}"
             yield "end"
     yield "case class-priorities"
     yield "new 0 1000 1 1 64 0 0 0 0 0 0 0"

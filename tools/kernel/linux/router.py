@@ -172,14 +172,11 @@ def counts():
 # SENDING AND CAPTURING
 
 
-def go_into(space):
+def packet_socket(space, device):
+    """A socket of a device, in the namespace of which this process is from now on."""
     with open(f"/run/netns/{space}", "rb") as file:
         if ctypes.CDLL(None, use_errno=True).setns(file.fileno(), 0):
             raise OSError(ctypes.get_errno(), f"setns {space}")
-
-
-def packet_socket(space, device):
-    go_into(space)
     found = socket.socket(socket.AF_PACKET, socket.SOCK_RAW, socket.htons(3))
     found.bind((device, 3))
     return found

@@ -60,21 +60,18 @@ class Debugger:
     """The emulator's debugger, by the protocol of gdb's remote targets."""
 
     def __init__(self, path, patience):
-        self.end = time.monotonic() + patience
+        end = time.monotonic() + patience
         self.wire = socket.socket(socket.AF_UNIX)
         while self.wire.connect_ex(str(path)):
-            self._wait()
+            if time.monotonic() > end:
+                raise Missing("the emulator's debugger doesn't answer")
+            time.sleep(0.1)
         self.wire.settimeout(patience)
         self.read = self.wire.makefile("rb")
         # it stops the guest for who connects, and says so unasked
         self.send("Hg0")
         while self.answer() != "OK":
             pass
-
-    def _wait(self):
-        if time.monotonic() > self.end:
-            raise Missing("the emulator's debugger doesn't answer")
-        time.sleep(0.1)
 
     def send(self, words):
         self.wire.sendall(f"${words}#{sum(words.encode()) % 256:02x}".encode())

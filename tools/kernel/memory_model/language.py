@@ -305,16 +305,12 @@ def call_of(name, words, register):
     """The statements that a call is; None where the call isn't known."""
     if (name, len(words)) in FORMS:
         return FORMS[name, len(words)](register, *words)
-    stem, order = order_in(name)
+    # without an order at the end of its name the operation is fully ordered
+    stem, _, order = name.rpartition("_")
+    stem, order = (stem, order) if order in ORDERS else (name, "mb")
     if (stem, len(words)) in ORDERED:
         return ORDERED[stem, len(words)](register, order, *words)
     return atomic_of(stem, order, words, register)
-
-
-def order_in(name):
-    """A name without the order at its end, and that order; without one the operation is fully ordered."""
-    stem, _, order = name.rpartition("_")
-    return (stem, order) if order in ORDERS else (name, "mb")
 
 
 def atomic_of(stem, order, words, register):
