@@ -127,13 +127,11 @@ def about_of(shown):
 
 
 def pictures_of(drawn):
-    """The pictures, with heads."""
     heads = ["Packets, by number and serial", "Packets that wait"]
     return "\n".join(f"<h2>{head}</h2>\n<figure>{picture}</figure>" for head, picture in zip(heads, drawn))
 
 
 def whole(shown, drawn, first):
-    """The page."""
     parts = {
         "TITLE": svg.escaped(pictures.title_of(shown.run, shown.waits, shown.title)), "ABOUT": html.escape(about_of(shown)), "COUNTS": "".join(counts_table(shown)),
         "PICTURES": pictures_of(drawn), "FIRST": str(first), "LAST": str(first + max(len(shown.run.capture) - 1, 0)), "DATA": data_of(shown, first),

@@ -188,7 +188,6 @@ def late_mark(panel, top):
 
 
 def draw_panel(run, panel, axis, top, room):
-    """A panel below its title."""
     top += TITLE
     yield text(LEFT, top - 6, panel.title)
     if panel.late:

@@ -38,7 +38,6 @@ def send_line(n, packets):
 
 
 def case_of(name, packets):
-    """The lines of a case."""
     plan = packets.plan
     lines = {
         "send": lambda n: send_line(n, packets),

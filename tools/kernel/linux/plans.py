@@ -57,8 +57,6 @@ def of_length(frame, length):
 
 
 def text_of(plan):
-    """The text of a plan."""
-
     told = lambda part: {name: value for name, value in part._asdict().items() if value != part._field_defaults[name]}
     stations, events = list(map(told, plan.station)), list(map(told, plan.event))
     for number, station in enumerate(plan.station):

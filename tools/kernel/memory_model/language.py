@@ -324,7 +324,6 @@ def atomic_of(stem, order, words, register):
 
 
 def read(text):
-    """The test that a text is."""
     head, _, rest = without_comments(text).partition("\n")
     words = head.split()
     if len(words) != 2 or words[0] != "C":
