@@ -8,7 +8,7 @@ use Rattle.lq_model.specs.declared.device.Params.{Params}
 use Rattle.lq_model.specs.declared.plan.EventKind.{EventKind}
 use Rattle.lq_seat.specs.Calls.{DoesEvent, DoesSwap}
 use Rattle.lq_seat.specs.State.{SeatState}
-use Rattle.lq_senders.specs.Lanes.{AllDid, KeepSeats}
+use Rattle.lq_senders.specs.Senders.{AllDid, KeepSeats}
 use Rattle.lq_senders.specs.Seats.{KeepsSeat}
 use Rattle.lq_senders.specs.Woken.{PlanCall, PlanCalls, event_done, swapped, not_called, one_more}
 use Rattle.lq_senders.proofs.Seats.{each-set, event-keeps, keeps-itself, seat-kept, seat-on}

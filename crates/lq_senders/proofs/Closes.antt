@@ -16,8 +16,8 @@ use Rattle.lq_qdisc.specs.Alone.{IsAlone, running}
 use Rattle.lq_seat.specs.Ends.{EndsTrail, Finishes, IsClosedAs, IsSoundAtClose, MayFinish}
 use Rattle.lq_seat.specs.State.{HasAllOf, HasAlone, SeatState, Setup, TableState, seat_account, first_account, is_heard, latest_unit, setup_of, solo_of, units_of}
 use Rattle.lq_senders.specs.Ends.{AllMayClose, ClosedState, FirstClosed, HaveFatesAlone, IsClosedStation, MayCloseAt}
-use Rattle.lq_senders.specs.Joins.{IsTakenIn, Joined, JoinedAt, LaneJoined}
-use Rattle.lq_senders.specs.Lanes.{AllDid, AreRunAlone}
+use Rattle.lq_senders.specs.Joins.{IsTakenIn, Joined, JoinedAt, SenderJoined}
+use Rattle.lq_senders.specs.Senders.{AllDid, AreRunAlone}
 use Rattle.lq_senders.specs.Seats.{KeepsSeat}
 use Rattle.lq_senders.specs.Units.{SameDevices, unit_at}
 use Rattle.lq_senders.specs.Way.{IsOnWay, down_after_events}
@@ -86,12 +86,12 @@ heard-past start (Swap unit ∷ past) = ap (after (Swap unit)) (heard-past start
 heard-past start (Up ∷ past) = ap (after Up) (heard-past start past)
 
 -- finished seats may be closed
-pub finished-may-close : (plan : Plan) (infos : List Info) (tables : List TableState) (old new : List SeatState) → LaneJoined plan infos 0 tables old → AllDid Finishes old new → AllMayClose plan infos tables new
-finished-may-close plan infos tables old new lane did = record {
-  long = did.long ∙ lane.long;
-  all = lane.all;
+pub finished-may-close : (plan : Plan) (infos : List Info) (tables : List TableState) (old new : List SeatState) → SenderJoined plan infos 0 tables old → AllDid Finishes old new → AllMayClose plan infos tables new
+finished-may-close plan infos tables old new standing did = record {
+  long = did.long ∙ standing.long;
+  all = standing.all;
   each = λ j t c at at'.
-      let was = some-there old new j c (sym did.long) at' in let before = lane.each j t was.0 at was.1 in let own = did.each j was.0 c was.1 at' in
+      let was = some-there old new j c (sym did.long) at' in let before = standing.each j t was.0 at was.1 in let own = did.each j was.0 c was.1 at' in
       let trail = ends-trail plan j was.0 c before.joined.way own.trail in let sole = sole-at plan infos j was.0 before.joined in
       record {
         table = before.table;
@@ -117,11 +117,11 @@ devices-did old new did = record {
 }
 
 -- where the seats had the stations of the run of one sender, the fates are those of that run
-pub fates-finished : (plan : Plan) (infos : List Info) (tables : List TableState) (old new : List SeatState) (from : List RunningStation) → LaneJoined plan infos 0 tables old → AllDid Finishes old new
+pub fates-finished : (plan : Plan) (infos : List Info) (tables : List TableState) (old new : List SeatState) (from : List RunningStation) → SenderJoined plan infos 0 tables old → AllDid Finishes old new
     → AreRunAlone plan infos old from → HaveFatesAlone new (map (finished infos) from)
-fates-finished plan infos tables old new from lane did runs j c at =
-    let was = some-there old new j c (sym did.long) at in let t = some-there tables old j was.0 (sym lane.long) was.1 in
-    let own = lane.each j t.0 was.0 t.1 was.1 in let before = runs j was.0 was.1 in (
+fates-finished plan infos tables old new from standing did runs j c at =
+    let was = some-there old new j c (sym did.long) at in let t = some-there tables old j was.0 (sym standing.long) was.1 in
+    let own = standing.each j t.0 was.0 t.1 was.1 in let before = runs j was.0 was.1 in (
       finished infos (running (start_of plan j) (solo_of was.0)),
       mapped-at (finished infos) from j _ before.1,
       fates j was.0 c (made-of plan infos j t.0 own.table was.0 own.seat) (did.each j was.0 c was.1 at) before.0,

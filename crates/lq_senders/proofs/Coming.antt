@@ -11,14 +11,14 @@ use Rattle.lq_model.specs.declared.fate.Info.{Info}
 use Rattle.lq_plan.specs.Packets.{IsInfoWithin}
 use Rattle.lq_seat.specs.Calls.{MaySendNext, SendsPacket}
 use Rattle.lq_seat.specs.State.{SeatState, Setup, TableState, times}
-use Rattle.lq_senders.specs.Lanes.{AreRunAlone, IsSendable, IsSending, KeepAll, LaneStands, SentPacket, StandsAt}
+use Rattle.lq_senders.specs.Senders.{AreRunAlone, IsSendable, IsSending, KeepAll, SenderStands, SentPacket, StandsAt}
 use Rattle.lq_senders.specs.Way.{IsSplitAt, StandAfter, StandBefore, StandEarlier}
 use Rattle.lq_senders.proofs.Calls.{called-keep}
 use Rattle.lq_senders.proofs.Devices.{devices-kept}
 use Rattle.lq_senders.proofs.OpenedTimes.{AreOpenedAfter, turn-ended}
 use Rattle.lq_senders.proofs.Seats.{all-at, keep-set, made-of, seat-at, seats-kept, sends-keep, table-at}
 use Rattle.lq_senders.proofs.Sending.{sending-own}
-use Rattle.lq_senders.proofs.Sent.{lane-sent, owner-is, rank-is, runs-sent, station-is}
+use Rattle.lq_senders.proofs.Sent.{sender-sent, owner-is, rank-is, runs-sent, station-is}
 use Rattle.lq_senders.proofs.Turns.{FirstEvents, keep-on, no-events-yet, seats-on}
 
 -- THE EVENTS BEFORE THE PACKET
@@ -29,31 +29,31 @@ pub record EventsDone (plan : Plan) (infos : List Info) (tables : List TableStat
   pub within : e ≤ length plan.events
   pub left : sender ≡ 0 → StandAfter plan e n
   pub first : FirstEvents plan infos tables next n e start brought now spares
-  pub stands : LaneStands plan infos sender e n tables now
+  pub stands : SenderStands plan infos sender e n tables now
   pub others : sender ≢ 0 → now ≡ start
 
 pub none-done : (plan : Plan) (infos : List Info) (tables : List TableState) (sender next n : ℕ) (seats : List SeatState) (spares : List DeviceState)
-    → next ≤ length plan.events → (sender ≡ 0 → StandAfter plan next n) → LaneStands plan infos sender next n tables seats → EventsDone plan infos tables sender next n next seats spares seats spares
-none-done plan infos tables sender next n seats spares within left lane = record {
+    → next ≤ length plan.events → (sender ≡ 0 → StandAfter plan next n) → SenderStands plan infos sender next n tables seats → EventsDone plan infos tables sender next n next seats spares seats spares
+none-done plan infos tables sender next n seats spares within left standing = record {
   order = omega arith;
   within = within;
   left = left;
   first = no-events-yet plan infos tables next n seats spares;
-  stands = lane;
+  stands = standing;
   others = λ _. refl;
 }
 
 -- they are the first sender's
 pub some-done : (plan : Plan) (infos : List Info) (tables : List TableState) (sender next n e : ℕ) (start : List SeatState) (brought : List DeviceState) (now : List SeatState) (spares : List DeviceState)
-    → sender ≡ 0 → next ≤ e → e ≤ length plan.events → StandAfter plan e n → FirstEvents plan infos tables next n e start brought now spares → LaneStands plan infos sender next n tables start
+    → sender ≡ 0 → next ≤ e → e ≤ length plan.events → StandAfter plan e n → FirstEvents plan infos tables next n e start brought now spares → SenderStands plan infos sender next n tables start
     → EventsDone plan infos tables sender next n e start brought now spares
-some-done plan infos tables sender next n e start brought now spares zero_th order within left first lane = record {
+some-done plan infos tables sender next n e start brought now spares zero_th order within left first standing = record {
   order = order;
   within = within;
   left = λ _. left;
   first = first;
-  stands = subst (λ (s : ℕ). LaneStands plan infos s e n tables now) (sym zero_th)
-      (first.stands n (subst (λ (s : ℕ). LaneStands plan infos s next n tables start) zero_th lane));
+  stands = subst (λ (s : ℕ). SenderStands plan infos s e n tables now) (sym zero_th)
+      (first.stands n (subst (λ (s : ℕ). SenderStands plan infos s next n tables start) zero_th standing));
   others = λ other. absurd (other zero_th);
 }
 
@@ -70,7 +70,7 @@ all-before plan infos tables sender next n e start brought now spares earlier ev
 
 -- a sender, before which so many events were done, sent packet n
 pub record PacketSent (plan : Plan) (infos : List Info) (tables : List TableState) (sender count n : ℕ) (old new : List SeatState) : Type 0 where
-  pub stands : LaneStands plan infos sender count (n + 1) tables new
+  pub stands : SenderStands plan infos sender count (n + 1) tables new
   pub keeps : KeepAll old new
   pub packet : SentPacket infos n old new
   pub runs : (stations : List RunningStation) → AreRunAlone plan infos old stations → AreRunAlone plan infos new (with_packet plan infos n stations)
@@ -81,19 +81,19 @@ pub record SeatOfPacket (plan : Plan) (infos : List Info) (tables : List TableSt
   pub next : MaySendNext n c
   pub sent : (c' : SeatState) → (sender ≡ 0 → IsSplitAt plan count n) → SendsPacket n c c' → PacketSent plan infos tables sender count n seats (slice_set seats info.station c')
 
-module _ (plan : Plan) (infos : List Info) (sendable : IsSendable plan infos) (tables : List TableState) (sender count n : ℕ) (seats : List SeatState) (lane : LaneStands plan infos sender count n tables seats)
+module _ (plan : Plan) (infos : List Info) (sendable : IsSendable plan infos) (tables : List TableState) (sender count n : ℕ) (seats : List SeatState) (standing : SenderStands plan infos sender count n tables seats)
     (info : Info) (there : slice_get infos n ≡ Some info) (own : info.owner ≡ sender) (t : TableState) (is-t : t ≡ slice_index_or tables info.station t) (c : SeatState) (is-c : c ≡ slice_index_or seats info.station c) where
   within : info.station < length plan.stations
   within = (all-at (IsInfoWithin plan) infos n info sendable.within there).station
 
   at-t : slice_get tables info.station ≡ Some t
-  at-t = table-at plan infos sender count n tables seats lane info.station t within is-t
+  at-t = table-at plan infos sender count n tables seats standing info.station t within is-t
 
   at-c : slice_get seats info.station ≡ Some c
-  at-c = seat-at plan infos sender count n tables seats lane info.station c within is-c
+  at-c = seat-at plan infos sender count n tables seats standing info.station c within is-c
 
   here : StandsAt plan infos sender count n info.station t c
-  here = lane.each info.station t c at-t at-c
+  here = standing.each info.station t c at-t at-c
 
   may-send : MaySendNext n c
   may-send =
@@ -108,7 +108,7 @@ module _ (plan : Plan) (infos : List Info) (sendable : IsSendable plan infos) (t
 
   packet-sent : (c' : SeatState) → (sender ≡ 0 → IsSplitAt plan count n) → SendsPacket n c c' → PacketSent plan infos tables sender count n seats (slice_set seats info.station c')
   packet-sent c' split sends = record {
-    stands = lane-sent plan infos sender count n tables seats info t c c' sendable.ranks there own at-t at-c split sends lane;
+    stands = sender-sent plan infos sender count n tables seats info t c c' sendable.ranks there own at-t at-c split sends standing;
     keeps = keep-set seats info.station c c' at-c (sends-keep n c c' sends);
     packet = let at : info.station ≡ station_in infos n = sym (station-is infos n info there) in record {
       before = c;
@@ -117,7 +117,7 @@ module _ (plan : Plan) (infos : List Info) (sendable : IsSendable plan infos) (t
       sends = sends;
       laid = ap (λ (j : ℕ). slice_set seats j c') at;
     };
-    runs = λ stations runs. runs-sent plan infos sender count n tables seats stations info t c c' there at-t at-c sends lane runs;
+    runs = λ stations runs. runs-sent plan infos sender count n tables seats stations info t c c' there at-t at-c sends standing runs;
   }
 
   pub seat-of-packet : SeatOfPacket plan infos tables sender count n seats info t c

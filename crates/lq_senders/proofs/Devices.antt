@@ -12,7 +12,7 @@ use Rattle.lq_model.specs.Plan.{Plan, is_swap, unit_of_swap}
 use Rattle.lq_model.specs.declared.fate.Info.{Info}
 use Rattle.lq_model.specs.declared.plan.EventPlan.{EventPlan}
 use Rattle.lq_seat.specs.State.{SeatState, HasServed}
-use Rattle.lq_senders.specs.Lanes.{KeepAll}
+use Rattle.lq_senders.specs.Senders.{KeepAll}
 use Rattle.lq_senders.specs.Units.{DevicesStand, IsTaken, SameDevices, swaps_before, unit_at}
 use Rattle.lq_senders.proofs.Seats.{each-set, set-here, set-apart}
 use Rattle.lq_senders.proofs.Turns.{event-there, some-there}

@@ -11,7 +11,7 @@ use Rattle.lq_qdisc.specs.Alone.{Does, IsAlone, running}
 use Rattle.lq_seat.specs.Calls.{MayChange}
 use Rattle.lq_seat.specs.State.{SeatState, Setup, TableState, solo_of}
 use Rattle.lq_senders.specs.Seats.{Keeps}
-use Rattle.lq_senders.specs.Lanes.{AllDid, DoesEventAt, KeepAll, LaneStands, AreRunAlone, StandsInRun, StandsAt}
+use Rattle.lq_senders.specs.Senders.{AllDid, DoesEventAt, KeepAll, SenderStands, AreRunAlone, StandsInRun, StandsAt}
 use Rattle.lq_senders.specs.Woken.{PlanCalls, not_called}
 use Rattle.lq_senders.proofs.Calls.{event-call}
 use Rattle.lq_senders.proofs.Orders.{may-do-next}
@@ -19,7 +19,7 @@ use Rattle.lq_senders.proofs.Seats.{event-changes, event-keeps, here-kept, keeps
 use Rattle.lq_senders.proofs.Turns.{event-there, some-there}
 
 module _ (plan : Plan) (infos : List Info) (e : ℕ) (event : EventPlan) (there : slice_get plan.events e ≡ Some event) (order : is_out_of_order plan.events ≡ false) (few : length plan.stations ≤ 8) where
-  -- a seat of the lane may do it, where it is an event of its station
+  -- a seat of the standing may do it, where it is an event of its station
   pub may-do-at : (n j : ℕ) (t : TableState) (c : SeatState) → j < length plan.stations → IsEventWithin plan.stations event → StandsAt plan infos 0 e n j t c
       → is_at j event ≡ true → MayChange event.kind c
   may-do-at n j t c below within stands at = record {
@@ -43,14 +43,14 @@ module _ (plan : Plan) (infos : List Info) (e : ℕ) (event : EventPlan) (there 
     one-keeps v w (inl (at, does)) = event-keeps plan e event.kind v w (does plan)
     one-keeps v w (inr (other, same)) = subst (Keeps v) (sym same) (keeps-itself v)
 
-    pub all-stand : (n : ℕ) → LaneStands plan infos 0 e n tables old → LaneStands plan infos 0 (e + 1) n tables new
-    all-stand n lane = record {
-      long = all.long ∙ lane.long;
-      all = lane.all;
+    pub all-stand : (n : ℕ) → SenderStands plan infos 0 e n tables old → SenderStands plan infos 0 (e + 1) n tables new
+    all-stand n standing = record {
+      long = all.long ∙ standing.long;
+      all = standing.all;
       each = λ j t c at-t at-c.
           let more : suc e ≡ e + 1 = omega arith in
-          let was = some-there old new j c (sym all.long) at-c in let stands = lane.each j t was.0 at-t was.1 in let did = all.each j was.0 c was.1 at-c in
-          let below = slice_get_within tables j t at-t in let whole = lane.all in
+          let was = some-there old new j c (sym all.long) at-c in let stands = standing.each j t was.0 at-t was.1 in let did = all.each j was.0 c was.1 at-c in
+          let below = slice_get_within tables j t at-t in let whole = standing.all in
           subst (λ (k : ℕ). StandsAt plan infos 0 k n j t c) more (record {
             table = stands.table;
             seat = here-kept t was.0 c (seat-kept was.0 c (one-keeps was.0 c did)) stands.seat;
@@ -82,8 +82,8 @@ module _ (plan : Plan) (infos : List Info) (e : ℕ) (event : EventPlan) (there 
         subst (λ (w : SeatState). IsAlone infos (start_of plan j) (solo_of w) × (slice_get (changed_where (λ k. is_at k event) step stations) j ≡ Some (running (start_of plan j) (solo_of w)))) (sym same)
         (was.0, where-apart (λ k. is_at k event) j step stations (ap (λ k. is_at k event) (sym (number-at n j t c stands)) ∙ other) ∙ was.1)
 
-    pub all-run : (n : ℕ) (stations : List RunningStation) → LaneStands plan infos 0 e n tables old → AreRunAlone plan infos old stations → AreRunAlone plan infos new (with_event plan infos e stations)
-    all-run n stations lane runs = subst (AreRunAlone plan infos new) (sym (with-event plan infos e event stations there)) (λ j c' at'.
+    pub all-run : (n : ℕ) (stations : List RunningStation) → SenderStands plan infos 0 e n tables old → AreRunAlone plan infos old stations → AreRunAlone plan infos new (with_event plan infos e stations)
+    all-run n stations standing runs = subst (AreRunAlone plan infos new) (sym (with-event plan infos e event stations there)) (λ j c' at'.
         let was = some-there old new j c' (sym all.long) at' in
-        let within = slice_get_within old j was.0 was.1 in let long = lane.long in let t = event-there tables j (omega arith) in
-        one-runs n j t.0 was.0 c' stations (lane.each j t.0 was.0 t.1 was.1) (all.each j was.0 c' was.1 at') (runs j was.0 was.1))
+        let within = slice_get_within old j was.0 was.1 in let long = standing.long in let t = event-there tables j (omega arith) in
+        one-runs n j t.0 was.0 c' stations (standing.each j t.0 was.0 t.1 was.1) (all.each j was.0 c' was.1 at') (runs j was.0 was.1))

@@ -12,7 +12,7 @@ use Rattle.lq_seat.specs.State.{SeatState, Setup, seat_account}
 use Rattle.lq_senders.specs.Ends.{ClosedState, HasSentAll, IsClosedStation, IsReadable}
 use Rattle.lq_senders.specs.Told.{AreLent, IsLentBy}
 use Rattle.lq_table.specs.Ended.{EndedState}
-use Rattle.lq_senders.specs.Lanes.{IsSendable}
+use Rattle.lq_senders.specs.Senders.{IsSendable}
 use Rattle.lq_senders.proofs.Seats.{set-apart, set-here}
 use Rattle.lq_senders.proofs.Starts.{of-plan}
 use Rattle.lq_senders.proofs.Turns.{event-there}

@@ -11,8 +11,8 @@ use Rattle.lq_model.specs.Plan.{Plan}
 use Rattle.lq_model.specs.declared.fate.Info.{Info}
 use Rattle.lq_seat.specs.Calls.{IsBeside, Joins, with_turns}
 use Rattle.lq_seat.specs.State.{SeatState, TableState, times}
-use Rattle.lq_senders.specs.Joins.{AreFirst, IsOtherDone, IsTakenIn, Joined, JoinedAt, JoinsDown, LaneJoined}
-use Rattle.lq_senders.specs.Lanes.{IsDoneLane, KeepSeats, LaneDone, StandsInRun}
+use Rattle.lq_senders.specs.Joins.{AreFirst, IsOtherDone, IsTakenIn, Joined, JoinedAt, JoinsDown, SenderJoined}
+use Rattle.lq_senders.specs.Senders.{IsDoneSender, KeepSeats, SenderAtEnd, StandsInRun}
 use Rattle.lq_senders.specs.Units.{SameDevices}
 use Rattle.lq_senders.proofs.Lists.{take-all}
 use Rattle.lq_senders.proofs.Seats.{each-set}
@@ -74,7 +74,7 @@ module _ (plan : Plan) (infos : List Info) (station place : ℕ) (v w : SeatStat
 
 -- ALL SEATS
 
-pub joins-start : (plan : Plan) (infos : List Info) (place owner : ℕ) (tables : List TableState) (seats others : List SeatState) → LaneJoined plan infos (place + 1) tables seats → IsDoneLane plan infos tables place owner others
+pub joins-start : (plan : Plan) (infos : List Info) (place owner : ℕ) (tables : List TableState) (seats others : List SeatState) → SenderJoined plan infos (place + 1) tables seats → IsDoneSender plan infos tables place owner others
     → (count : ℕ) → length others ≡ count → JoinsDown plan infos place count tables seats others
 joins-start plan infos place owner tables seats others first done count so_many = record {
   long = first.long;
@@ -88,7 +88,7 @@ joins-start plan infos place owner tables seats others first done count so_many 
       subst (λ (o : ℕ). IsOtherDone plan infos o j t c) done.owner_is (record { seat = own.seat; stands = own.stands; shares = one.0; owners = one.1; first = one.2 });
 }
 
-pub joins-end : (plan : Plan) (infos : List Info) (place : ℕ) (tables : List TableState) (seats others : List SeatState) → JoinsDown plan infos place 0 tables seats others → LaneJoined plan infos place tables seats
+pub joins-end : (plan : Plan) (infos : List Info) (place : ℕ) (tables : List TableState) (seats others : List SeatState) → JoinsDown plan infos place 0 tables seats others → SenderJoined plan infos place tables seats
 joins-end plan infos place tables seats others down = record { long = down.long; all = down.all; each = λ j t c at at'. down.joined j t c (omega arith) at at' }
 
 -- it may be joined into the first sender's
@@ -134,12 +134,12 @@ join-one plan infos place n tables now all rest t d c d' is so_many at-t at-d jo
         }
 
 -- the first sender's seats after its last packet
-pub joined-first : (plan : Plan) (infos : List Info) (out : ℕ) (tables : List TableState) (seats : List SeatState) → out + 1 ≡ plan.senders → LaneDone plan infos 0 tables seats → AreFirst out seats → LaneJoined plan infos out tables seats
-joined-first plan infos out tables seats senders lane first = record {
-  long = lane.long;
-  all = lane.all;
+pub joined-first : (plan : Plan) (infos : List Info) (out : ℕ) (tables : List TableState) (seats : List SeatState) → out + 1 ≡ plan.senders → SenderAtEnd plan infos 0 tables seats → AreFirst out seats → SenderJoined plan infos out tables seats
+joined-first plan infos out tables seats senders standing first = record {
+  long = standing.long;
+  all = standing.all;
   each = λ j t c at at'.
-      let own = lane.each j t c at at' in let way = own.stands.way refl in let shares = first j c at' in
+      let own = standing.each j t c at at' in let way = own.stands.way refl in let shares = first j c at' in
       let zero_th : (owner : ℕ) → IsTakenIn plan out owner → owner ≡ 0 = λ owner taken. only-first owner taken in record {
         table = own.table;
         seat = own.seat;

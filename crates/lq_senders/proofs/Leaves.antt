@@ -21,7 +21,7 @@ use Rattle.lq_model.specs.declared.plan.EventPlan.{EventPlan}
 use Rattle.lq_seat.specs.State.{SeatState, seat_account, no_station, HasServed, new_seat, no_device, setup_of}
 use Rattle.lq_senders.specs.Ends.{AreBack, AreOver, ClosedState, EndsAt, FatesRead, HasSentAll, IsClosedStation, RunEnds, UnitEnds, home_device}
 use Rattle.lq_senders.specs.Fates.{AllTell, AreFatesOf, IsEndedAs}
-use Rattle.lq_senders.specs.Lanes.{AllOwn, IsSendable}
+use Rattle.lq_senders.specs.Senders.{AllOwn, IsSendable}
 use Rattle.lq_senders.specs.Units.{DevicesStand, swaps_before, undone, unit_at}
 use Rattle.lq_senders.proofs.AtEnd.{configured-below, unit-at-end, unit-configured}
 use Rattle.lq_senders.proofs.FatesOfRun.{fates_of_run}

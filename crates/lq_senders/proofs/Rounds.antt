@@ -6,7 +6,7 @@ use mathlib.Core.Logic.{dite}
 use native.Mathlib.Decide.{ℕ_discrete}
 use Rattle.lq_seat.specs.Calls.{WakesQueues}
 use Rattle.lq_seat.specs.State.{SeatState, TableState, IsHere}
-use Rattle.lq_senders.specs.Lanes.{FirstDid, AllDid, AreSeats, WasOpened}
+use Rattle.lq_senders.specs.Senders.{FirstDid, AllDid, AreSeats, WasOpened}
 use Rattle.lq_senders.proofs.Seats.{read-at, set-here, set-apart}
 
 module _ (R : SeatState → SeatState → Type 0) where

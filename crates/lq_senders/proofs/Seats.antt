@@ -23,7 +23,7 @@ use Rattle.lq_account_laws.specs.Controls.{with_control}
 use Rattle.lq_seat.specs.Calls.{DoesAlone, DoesEvent, DoesSwap, Drains, SendsPacket}
 use Rattle.lq_seat.specs.State.{SeatState, TableState, IsTableOf, setup_of, IsHere, solo_of, Setup, first_account, times}
 use Rattle.lq_senders.specs.Seats.{Keeps, KeepsSeat}
-use Rattle.lq_senders.specs.Lanes.{IsWoken, StandsInRun, StandsAt, LaneStands, KeepAll, KeepSeats, AreRunAlone}
+use Rattle.lq_senders.specs.Senders.{IsWoken, StandsInRun, StandsAt, SenderStands, KeepAll, KeepSeats, AreRunAlone}
 use Rattle.lq_senders.specs.Way.{IsOnWay}
 use Rattle.lq_senders.proofs.Orders.{may-do-next}
 use Rattle.lq_senders.proofs.Ways.{way-event, way-elsewhere}
@@ -189,28 +189,28 @@ runs-set plan infos seats stations i c c' step there does runs =
     (let was = runs i c there in let now = does was.0 in (now.0, where-here (λ k. k == i) i step stations _ (eq-eqb i i refl) was.1 ∙ ap Some (sym now.1)))
     (λ j x other at. let was = runs j x at in (was.0, where-apart (λ k. k == i) j step stations (ne_eqb j i other) ∙ was.1))
 
-pub table-at : (plan : Plan) (infos : List Info) (sender count n : ℕ) (tables : List TableState) (seats : List SeatState) → LaneStands plan infos sender count n tables seats
+pub table-at : (plan : Plan) (infos : List Info) (sender count n : ℕ) (tables : List TableState) (seats : List SeatState) → SenderStands plan infos sender count n tables seats
     → (station : ℕ) (t : TableState) → station < length plan.stations → t ≡ slice_index_or tables station t → slice_get tables station ≡ Some t
-table-at plan infos sender count n tables seats lane station t within is = let all = lane.all in read-at tables station t (omega arith) is
+table-at plan infos sender count n tables seats standing station t within is = let all = standing.all in read-at tables station t (omega arith) is
 
-pub seat-at : (plan : Plan) (infos : List Info) (sender count n : ℕ) (tables : List TableState) (seats : List SeatState) → LaneStands plan infos sender count n tables seats
+pub seat-at : (plan : Plan) (infos : List Info) (sender count n : ℕ) (tables : List TableState) (seats : List SeatState) → SenderStands plan infos sender count n tables seats
     → (station : ℕ) (c : SeatState) → station < length plan.stations → c ≡ slice_index_or seats station c → slice_get seats station ≡ Some c
-seat-at plan infos sender count n tables seats lane station c within is = let all = lane.all in let long = lane.long in read-at seats station c (omega arith) is
+seat-at plan infos sender count n tables seats standing station c within is = let all = standing.all in let long = standing.long in read-at seats station c (omega arith) is
 
--- how a seat stands that was read from the lane
-pub stands-at : (plan : Plan) (infos : List Info) (sender count n : ℕ) (tables : List TableState) (seats : List SeatState) → LaneStands plan infos sender count n tables seats
+-- how a seat stands that was read from the standing
+pub stands-at : (plan : Plan) (infos : List Info) (sender count n : ℕ) (tables : List TableState) (seats : List SeatState) → SenderStands plan infos sender count n tables seats
     → (station : ℕ) (t : TableState) (c : SeatState) → station < length plan.stations → t ≡ slice_index_or tables station t → c ≡ slice_index_or seats station c → StandsAt plan infos sender count n station t c
-stands-at plan infos sender count n tables seats lane station t c within is-t is-c =
-    lane.each station t c (table-at plan infos sender count n tables seats lane station t within is-t) (seat-at plan infos sender count n tables seats lane station c within is-c)
+stands-at plan infos sender count n tables seats standing station t c within is-t is-c =
+    standing.each station t c (table-at plan infos sender count n tables seats standing station t within is-t) (seat-at plan infos sender count n tables seats standing station c within is-c)
 
 -- a swap of the plan, at its one station
-pub lane-event : (plan : Plan) (infos : List Info) (e n : ℕ) (tables : List TableState) (seats : List SeatState) (event : EventPlan) (t : TableState) (c c' : SeatState)
+pub sender-event : (plan : Plan) (infos : List Info) (e n : ℕ) (tables : List TableState) (seats : List SeatState) (event : EventPlan) (t : TableState) (c c' : SeatState)
     → slice_get plan.events e ≡ Some event → is_swap event ≡ true → event.station < 8 → is_out_of_order plan.events ≡ false
     → slice_get tables event.station ≡ Some t → slice_get seats event.station ≡ Some c → EventChanges plan e event.kind c c'
-    → LaneStands plan infos 0 e n tables seats → LaneStands plan infos 0 (e + 1) n tables (slice_set seats event.station c')
-lane-event plan infos e n tables seats event t c c' there swap few order at-t at-c does lane = record {
-  long = length-set seats event.station c' ∙ lane.long;
-  all = lane.all;
+    → SenderStands plan infos 0 e n tables seats → SenderStands plan infos 0 (e + 1) n tables (slice_set seats event.station c')
+sender-event plan infos e n tables seats event t c c' there swap few order at-t at-c does standing = record {
+  long = length-set seats event.station c' ∙ standing.long;
+  all = standing.all;
   each = λ j u d at at'. subst (λ (k : ℕ). StandsAt plan infos 0 k n j u d) more (stands j u d at at');
 }
   where
@@ -219,22 +219,22 @@ lane-event plan infos e n tables seats event t c c' there swap few order at-t at
 
     stands : (j : ℕ) (u : TableState) (d : SeatState) → slice_get tables j ≡ Some u → slice_get (slice_set seats event.station c') j ≡ Some d → StandsAt plan infos 0 (suc e) n j u d
     stands j u d at at' = each-set (λ (j : ℕ) (x : SeatState). (u : TableState) → slice_get tables j ≡ Some u → StandsAt plan infos 0 (suc e) n j u x) seats event.station c' (slice_get_within seats event.station c at-c)
-        (λ u at. let was = lane.each event.station t c at-t at-c in subst (λ (z : TableState). StandsAt plan infos 0 (suc e) n event.station z c') (same_Some t u (sym at-t ∙ at)) (record {
+        (λ u at. let was = standing.each event.station t c at-t at-c in subst (λ (z : TableState). StandsAt plan infos 0 (suc e) n event.station z c') (same_Some t u (sym at-t ∙ at)) (record {
           table = was.table;
           seat = here-kept t c c' does.keeps was.seat;
           stands = stands-event plan infos e n event.station event c c' there (at-own-swap event swap) few order does was.stands;
         }))
-        (λ j x other at u at'. let was = lane.each j u x at' at in record { table = was.table; seat = was.seat; stands = stands-elsewhere plan infos e n j event x there (swap-apart j event swap other) was.stands })
+        (λ j x other at u at'. let was = standing.each j u x at' at in record { table = was.table; seat = was.seat; stands = stands-elsewhere plan infos e n j event x there (swap-apart j event swap other) was.stands })
         j d at' u at
 
 pub runs-event : (plan : Plan) (infos : List Info) (e n : ℕ) (tables : List TableState) (seats : List SeatState) (stations : List RunningStation) (event : EventPlan) (t : TableState) (c c' : SeatState)
     → slice_get plan.events e ≡ Some event → is_swap event ≡ true → slice_get tables event.station ≡ Some t → slice_get seats event.station ≡ Some c
     → DoesAlone (λ s. served c.made.infos (changed plan e event.kind s)) c c'
-    → LaneStands plan infos 0 e n tables seats → AreRunAlone plan infos seats stations → AreRunAlone plan infos (slice_set seats event.station c') (with_event plan infos e stations)
-runs-event plan infos e n tables seats stations event t c c' there swap at-t at-c does lane runs =
+    → SenderStands plan infos 0 e n tables seats → AreRunAlone plan infos seats stations → AreRunAlone plan infos (slice_set seats event.station c') (with_event plan infos e stations)
+runs-event plan infos e n tables seats stations event t c c' there swap at-t at-c does standing runs =
     let step : RunningStation → RunningStation = λ s. served infos (changed plan e event.kind s) in
     let own : Does infos (start_of plan event.station) step (solo_of c) (solo_of c') =
-    let was = lane.each event.station t c at-t at-c in
+    let was = standing.each event.station t c at-t at-c in
     own-step plan infos event.station (λ k s. served k.infos (changed plan e event.kind s)) c c' (made-of plan infos event.station t was.table c was.seat) does in
     subst (AreRunAlone plan infos (slice_set seats event.station c')) (sym (with-event plan infos e event stations there))
     (each-set (λ (j : ℕ) (x : SeatState). IsAlone infos (start_of plan j) (solo_of x) × (slice_get (changed_where (λ k. is_at k event) step stations) j ≡ Some (running (start_of plan j) (solo_of x))))

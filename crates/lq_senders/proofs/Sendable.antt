@@ -12,7 +12,7 @@ use Rattle.lq_model.specs.Numbers.{first_numbers}
 use Rattle.lq_model.specs.Plan.{Plan, AreRanked, info_of, infos_of, owner_in, owner_of, queues_at, rank_in, station_in, station_of}
 use Rattle.lq_model.specs.declared.fate.Info.{Info}
 use Rattle.lq_plan.specs.Packets.{IsInfoWithin}
-use Rattle.lq_senders.specs.Lanes.{IsSendable}
+use Rattle.lq_senders.specs.Senders.{IsSendable}
 use Rattle.lq_senders.specs.Setup.{IsRunBy}
 use Rattle.lq_senders.proofs.Seats.{all-at, mapped-at}
 

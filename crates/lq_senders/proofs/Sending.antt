@@ -14,12 +14,12 @@ use Rattle.lq_model.specs.declared.fate.Info.{Info}
 use Rattle.lq_model.specs.declared.plan.EventPlan.{EventPlan}
 use Rattle.lq_plan.specs.Openings.{opens_while_stopped}
 use Rattle.lq_seat.specs.State.{SeatState, TableState}
-use Rattle.lq_senders.specs.Lanes.{LaneStands, KeepSeats, AreRunAlone, ComesPast, IsSending, SendsAndOpens}
+use Rattle.lq_senders.specs.Senders.{SenderStands, KeepSeats, AreRunAlone, ComesPast, IsSending, SendsAndOpens}
 use Rattle.lq_senders.specs.Units.{DevicesStand, DoTell}
 use Rattle.lq_senders.specs.Way.{numbers_from}
 use Rattle.lq_senders.proofs.Lists.{one-fails, one-passes}
 use Rattle.lq_senders.proofs.Seats.{seats-kept}
-use Rattle.lq_senders.proofs.Sent.{lane-past, owner-is}
+use Rattle.lq_senders.proofs.Sent.{sender-past, owner-is}
 use Rattle.lq_senders.proofs.Turns.{event-there, keep-none, numbers-more, seats-on}
 use Rattle.lq_senders.proofs.Woken.{count-sent-other, count-sent-own}
 
@@ -92,7 +92,7 @@ pub sending-own : (plan : Plan) (infos : List Info) (opens : ℕ → ℕ) (table
     (new : List SeatState) (left_over : List DeviceState) → next ≤ last → last ≤ length plan.events
     → ((j : ℕ) (event : EventPlan) → j < last → slice_get plan.events j ≡ Some event → event.before ≤ n)
     → (sender ≡ 0 → (j : ℕ) (event : EventPlan) → last ≤ j → slice_get plan.events j ≡ Some event → n < event.before)
-    → LaneStands plan infos sender last (n + 1) tables new → KeepSeats now new → (info : Info) → slice_get infos n ≡ Some info → info.owner ≡ sender
+    → SenderStands plan infos sender last (n + 1) tables new → KeepSeats now new → (info : Info) → slice_get infos n ≡ Some info → info.owner ≡ sender
     → SendsAndOpens infos (opens_while_stopped plan) sender n (opens n) now new
     → ((units : List DeviceState) → DevicesStand plan infos units next now spares → DevicesStand plan infos units last new left_over)
     → ((units : List DeviceState) → DevicesStand plan infos units next now spares → DoTell plan units → (stations : List RunningStation) → AreRunAlone plan infos now stations
@@ -127,21 +127,21 @@ sending-past plan infos opens tables sender n k next start brought now spares in
   sent = was.sent ∙ sym (count-sent-other infos sender n info there other);
   came = let more : suc n ≡ n + 1 = omega arith in subst (λ m. ComesPast infos (opens_while_stopped plan) opens sender m start now) more
       (now, (was.came, ((λ same. absurd (other (sym (owner-is infos n info there) ∙ same))), (λ _. refl))));
-  stands = lane-past plan infos sender next n tables now info there other was.stands;
+  stands = sender-past plan infos sender next n tables now info there other was.stands;
   earlier = λ j event below at. let lt = was.earlier j event below at in omega arith;
   keeps = was.keeps;
   devices = was.devices;
   alone = λ units stand tell z own from begins. absurd (other (sym (owner-is infos n info there) ∙ (own n (slice_get_within infos n info there) ∙ sym z)));
 }
 
-pub sending-start : (plan : Plan) (infos : List Info) (opens : ℕ → ℕ) (tables : List TableState) (sender : ℕ) (seats : List SeatState) (spares : List DeviceState) → LaneStands plan infos sender 0 0 tables seats
+pub sending-start : (plan : Plan) (infos : List Info) (opens : ℕ → ℕ) (tables : List TableState) (sender : ℕ) (seats : List SeatState) (spares : List DeviceState) → SenderStands plan infos sender 0 0 tables seats
     → IsSending plan infos opens tables sender 0 0 0 seats spares seats spares
-sending-start plan infos opens tables sender seats spares lane = record {
+sending-start plan infos opens tables sender seats spares standing = record {
   within = omega arith;
   few = omega arith;
   sent = refl;
   came = refl;
-  stands = lane;
+  stands = standing;
   earlier = λ j event below there. absurd (omega arith);
   keeps = seats-kept seats seats (keep-none seats);
   devices = λ units stand. stand;
@@ -158,11 +158,11 @@ at-last plan last n within left all = elim (cases_order last (length plan.events
 ]
 
 -- the events are the first sender's alone
-pub lane-any : (plan : Plan) (infos : List Info) (sender a b n : ℕ) (tables : List TableState) (seats : List SeatState) → sender ≢ 0 → LaneStands plan infos sender a n tables seats → LaneStands plan infos sender b n tables seats
-lane-any plan infos sender a b n tables seats other lane = record {
-  long = lane.long;
-  all = lane.all;
-  each = λ j t c at at'. let was = lane.each j t c at at' in record {
+pub sender-any : (plan : Plan) (infos : List Info) (sender a b n : ℕ) (tables : List TableState) (seats : List SeatState) → sender ≢ 0 → SenderStands plan infos sender a n tables seats → SenderStands plan infos sender b n tables seats
+sender-any plan infos sender a b n tables seats other standing = record {
+  long = standing.long;
+  all = standing.all;
+  each = λ j t c at at'. let was = standing.each j t c at at' in record {
     table = was.table;
     seat = was.seat;
     stands = record { is_sender = was.stands.is_sender; owner = was.stands.owner; wide = was.stands.wide; turn = was.stands.turn; raised = was.stands.raised; way = λ z. absurd (other z) };

@@ -13,7 +13,7 @@ use Rattle.lq_model.specs.declared.fate.Info.{Info}
 use Rattle.lq_qdisc.specs.Alone.{Does}
 use Rattle.lq_seat.specs.Calls.{SendsPacket}
 use Rattle.lq_seat.specs.State.{SeatState, Setup, TableState, solo_of}
-use Rattle.lq_senders.specs.Lanes.{StandsInRun, StandsAt, LaneStands, AreRunAlone}
+use Rattle.lq_senders.specs.Senders.{StandsInRun, StandsAt, SenderStands, AreRunAlone}
 use Rattle.lq_senders.specs.Way.{IsSplitAt}
 use Rattle.lq_senders.proofs.Seats.{each-set, here-kept, made-of, own-step, owner-kept, runs-set, seat-kept, sends-keep}
 use Rattle.lq_senders.proofs.Ways.{way-packet}
@@ -93,27 +93,27 @@ stands-sent plan infos sender station count n info v w same ranks there owner at
 
 -- ALL SEATS
 
-pub lane-past : (plan : Plan) (infos : List Info) (sender count n : ℕ) (tables : List TableState) (seats : List SeatState) (info : Info) → slice_get infos n ≡ Some info → info.owner ≢ sender
-    → LaneStands plan infos sender count n tables seats → LaneStands plan infos sender count (n + 1) tables seats
-lane-past plan infos sender count n tables seats info there other lane = record {
-  long = lane.long;
-  all = lane.all;
-  each = λ j t c at at'. let was = lane.each j t c at at' in
+pub sender-past : (plan : Plan) (infos : List Info) (sender count n : ℕ) (tables : List TableState) (seats : List SeatState) (info : Info) → slice_get infos n ≡ Some info → info.owner ≢ sender
+    → SenderStands plan infos sender count n tables seats → SenderStands plan infos sender count (n + 1) tables seats
+sender-past plan infos sender count n tables seats info there other standing = record {
+  long = standing.long;
+  all = standing.all;
+  each = λ j t c at at'. let was = standing.each j t c at at' in
       record { table = was.table; seat = was.seat; stands = stands-past plan infos sender j count n info c there (inl other) was.stands };
 }
 
-pub lane-sent : (plan : Plan) (infos : List Info) (sender count n : ℕ) (tables : List TableState) (seats : List SeatState) (info : Info) (t : TableState) (c c' : SeatState) → AreRanks infos → slice_get infos n ≡ Some info
+pub sender-sent : (plan : Plan) (infos : List Info) (sender count n : ℕ) (tables : List TableState) (seats : List SeatState) (info : Info) (t : TableState) (c c' : SeatState) → AreRanks infos → slice_get infos n ≡ Some info
     → info.owner ≡ sender → slice_get tables info.station ≡ Some t → slice_get seats info.station ≡ Some c → (sender ≡ 0 → IsSplitAt plan count n)
     → SendsPacket n c c'
-    → LaneStands plan infos sender count n tables seats → LaneStands plan infos sender count (n + 1) tables (slice_set seats info.station c')
-lane-sent plan infos sender count n tables seats info t c c' ranks there owner at-t at-c split sends lane = record {
-  long = length-set seats info.station c' ∙ lane.long;
-  all = lane.all;
+    → SenderStands plan infos sender count n tables seats → SenderStands plan infos sender count (n + 1) tables (slice_set seats info.station c')
+sender-sent plan infos sender count n tables seats info t c c' ranks there owner at-t at-c split sends standing = record {
+  long = length-set seats info.station c' ∙ standing.long;
+  all = standing.all;
   each = stands;
 }
   where
     was : StandsAt plan infos sender count n info.station t c
-    was = lane.each info.station t c at-t at-c
+    was = standing.each info.station t c at-t at-c
 
     stands : (j : ℕ) (u : TableState) (d : SeatState) → slice_get tables j ≡ Some u → slice_get (slice_set seats info.station c') j ≡ Some d → StandsAt plan infos sender count (n + 1) j u d
     stands j u d at at' = each-set (λ (j : ℕ) (x : SeatState). (u : TableState) → slice_get tables j ≡ Some u → StandsAt plan infos sender count (n + 1) j u x) seats info.station c' (slice_get_within seats info.station c at-c)
@@ -122,15 +122,15 @@ lane-sent plan infos sender count n tables seats info t c c' ranks there owner a
           seat = here-kept t c c' (seat-kept c c' (sends-keep n c c' sends)) was.seat;
           stands = stands-sent plan infos sender info.station count n info c c' (ap (λ (k : Setup). k.infos) (made-of plan infos info.station t was.table c was.seat)) ranks there owner refl split sends was.stands;
         }))
-        (λ j x other at u at'. let was = lane.each j u x at' at in record { table = was.table; seat = was.seat; stands = stands-past plan infos sender j count n info x there (inr (λ same. other (sym same))) was.stands })
+        (λ j x other at u at'. let was = standing.each j u x at' at in record { table = was.table; seat = was.seat; stands = stands-past plan infos sender j count n info x there (inr (λ same. other (sym same))) was.stands })
         j d at' u at
 
 pub runs-sent : (plan : Plan) (infos : List Info) (sender count n : ℕ) (tables : List TableState) (seats : List SeatState) (stations : List RunningStation) (info : Info) (t : TableState) (c c' : SeatState) → slice_get infos n ≡ Some info
     → slice_get tables info.station ≡ Some t → slice_get seats info.station ≡ Some c → SendsPacket n c c'
-    → LaneStands plan infos sender count n tables seats → AreRunAlone plan infos seats stations → AreRunAlone plan infos (slice_set seats info.station c') (with_packet plan infos n stations)
-runs-sent plan infos sender count n tables seats stations info t c c' there at-t at-c sends lane runs =
+    → SenderStands plan infos sender count n tables seats → AreRunAlone plan infos seats stations → AreRunAlone plan infos (slice_set seats info.station c') (with_packet plan infos n stations)
+runs-sent plan infos sender count n tables seats stations info t c c' there at-t at-c sends standing runs =
     let own : Does infos (start_of plan info.station) (λ s. served infos (brought_in infos (bypass_of plan info.station) n s)) (solo_of c) (solo_of c') =
-    let was = lane.each info.station t c at-t at-c in
+    let was = standing.each info.station t c at-t at-c in
     own-step plan infos info.station (λ k s. served k.infos (brought_in k.infos k.bypass n s)) c c' (made-of plan infos info.station t was.table c was.seat) sends.alone in
     subst (λ (k : ℕ). AreRunAlone plan infos (slice_set seats info.station c') (changed_where (λ i. i == k) (λ s. served infos (brought_in infos (bypass_of plan k) n s)) stations)) (sym (station-is infos n info there))
     (runs-set plan infos seats stations info.station c c' (λ s. served infos (brought_in infos (bypass_of plan info.station) n s)) at-c own runs)

@@ -10,8 +10,8 @@ use Rattle.lq_table.proofs.SeatsKept.{times_one, times_without}
 use Rattle.lq_seat.specs.Calls.{keeping_seat, offspring_seat, without}
 use Rattle.lq_seat.specs.State.{SeatState, TableState, below, new_seat, setup_of, times}
 use Rattle.lq_senders.specs.Joins.{AreFirst}
-use Rattle.lq_senders.specs.Lanes.{IsReadyLane, LaneStands, StandsInRun, StandsAt}
-use Rattle.lq_senders.specs.Setup.{AreOpened, AreSplitting, IsEmptyLane, IsSplitting, SplitsAt}
+use Rattle.lq_senders.specs.Senders.{IsReadySender, SenderStands, StandsInRun, StandsAt}
+use Rattle.lq_senders.specs.Setup.{AreOpened, AreSplitting, HasNoSeats, IsSplitting, SplitsAt}
 use Rattle.lq_senders.specs.Units.{SameDevices}
 use Rattle.lq_senders.specs.Way.{IsOnWay}
 use Rattle.lq_senders.specs.declared.sender.Sender.{Sender}
@@ -121,16 +121,16 @@ splitting-opened plan infos devices tables seats some all opened = record {
       record { table = here.table; seat = here.seat; splitting = splitting-start plan infos j c some here.view_is };
 }
 
-pub lane-stands : (plan : Plan) (infos : List Info) (tables : List TableState) (seats : List SeatState) → 0 < plan.senders → AreSplitting plan infos plan.senders tables seats
-    → LaneStands plan infos 0 0 0 tables seats
-lane-stands plan infos tables seats some split = record {
+pub sender-stands : (plan : Plan) (infos : List Info) (tables : List TableState) (seats : List SeatState) → 0 < plan.senders → AreSplitting plan infos plan.senders tables seats
+    → SenderStands plan infos 0 0 0 tables seats
+sender-stands plan infos tables seats some split = record {
   long = split.long;
   all = split.all;
   each = λ j t c at at'. let here = split.each j t c at at' in
       record { table = here.table; seat = here.seat; stands = first-stands plan infos j c some here.splitting };
 }
 
--- ONE LANE
+-- ONE SENDER
 
 -- the seat of the sender at a station
 pub record IsOtherAt (plan : Plan) (infos : List Info) (owner j : ℕ) (t : TableState) (c : SeatState) : Type 0 where
@@ -203,9 +203,9 @@ splits-all plan infos place count tables now others past was = record {
   each = λ j t c at. was.done j t c (let inside = slice_get_within tables j t at in omega arith) at;
 }
 
-pub lane-split : (plan : Plan) (infos : List Info) (place owner count : ℕ) (tables : List TableState) (now others : List SeatState) → owner ≡ place + 1 → count ≡ length tables
-    → SplitsUp plan infos place count tables now others → IsReadyLane plan infos tables place owner others
-lane-split plan infos place owner count tables now others owner_is all was = record {
+pub sender-split : (plan : Plan) (infos : List Info) (place owner count : ℕ) (tables : List TableState) (now others : List SeatState) → owner ≡ place + 1 → count ≡ length tables
+    → SplitsUp plan infos place count tables now others → IsReadySender plan infos tables place owner others
+sender-split plan infos place owner count tables now others owner_is all was = record {
   owner_is = owner_is;
   stands = record {
     long = was.so_many ∙ all;
@@ -229,22 +229,22 @@ devices-split seats i owner c c' at is = record {
   ];
 }
 
--- ALL LANES
+-- ALL SENDERS
 
--- the lanes below this place have their seats, and the others have none yet
-pub record LanesSplit {D : Type 0} (plan : Plan) (infos : List Info) (place : ℕ) (tables : List TableState) (lanes : List (Sender D)) : Type 0 where
-  pub ready : (i : ℕ) (l : Sender D) → i < place → slice_get lanes i ≡ Some l → IsReadyLane plan infos tables i l.owner l.seats.items
-  pub empty : (i : ℕ) (l : Sender D) → place ≤ i → slice_get lanes i ≡ Some l → IsEmptyLane plan i l
+-- the others below this place have their seats, and the others have none yet
+pub record SendersSplit {D : Type 0} (plan : Plan) (infos : List Info) (place : ℕ) (tables : List TableState) (others : List (Sender D)) : Type 0 where
+  pub ready : (i : ℕ) (l : Sender D) → i < place → slice_get others i ≡ Some l → IsReadySender plan infos tables i l.owner l.seats.items
+  pub empty : (i : ℕ) (l : Sender D) → place ≤ i → slice_get others i ≡ Some l → HasNoSeats plan i l
 
-pub lanes-more : {D : Type 0} (plan : Plan) (infos : List Info) (place : ℕ) (tables : List TableState) (lanes : List (Sender D)) (new : Sender D) → place < length lanes
-    → LanesSplit plan infos place tables lanes → IsReadyLane plan infos tables place new.owner new.seats.items → LanesSplit plan infos (place + 1) tables (slice_set lanes place new)
-lanes-more {D} plan infos place tables lanes new inside was ready = record {
+pub others-more : {D : Type 0} (plan : Plan) (infos : List Info) (place : ℕ) (tables : List TableState) (others : List (Sender D)) (new : Sender D) → place < length others
+    → SendersSplit plan infos place tables others → IsReadySender plan infos tables place new.owner new.seats.items → SendersSplit plan infos (place + 1) tables (slice_set others place new)
+others-more {D} plan infos place tables others new inside was ready = record {
   ready = λ i l less at. elim (cases_eq i place) [
-    | inl same ↦ (let is : new ≡ l = same_Some new l (sym (set-here lanes place new inside) ∙ subst (λ k. slice_get (slice_set lanes place new) k ≡ Some l) same at) in
-        subst (λ k. IsReadyLane plan infos tables k l.owner l.seats.items) (sym same) (subst (λ (x : Sender D). IsReadyLane plan infos tables place x.owner x.seats.items) is ready))
-    | inr apart ↦ was.ready i l (omega arith) (sym (set-apart lanes place i new apart) ∙ at)
+    | inl same ↦ (let is : new ≡ l = same_Some new l (sym (set-here others place new inside) ∙ subst (λ k. slice_get (slice_set others place new) k ≡ Some l) same at) in
+        subst (λ k. IsReadySender plan infos tables k l.owner l.seats.items) (sym same) (subst (λ (x : Sender D). IsReadySender plan infos tables place x.owner x.seats.items) is ready))
+    | inr apart ↦ was.ready i l (omega arith) (sym (set-apart others place i new apart) ∙ at)
   ];
-  empty = λ i l from at. was.empty i l (omega arith) (sym (set-apart lanes place i new (λ same. absurd (omega arith))) ∙ at);
+  empty = λ i l from at. was.empty i l (omega arith) (sym (set-apart others place i new (λ same. absurd (omega arith))) ∙ at);
 }
 
 pub are-first : (plan : Plan) (infos : List Info) (others : ℕ) (tables : List TableState) (seats : List SeatState) → others + 1 ≡ plan.senders → AreSplitting plan infos plan.senders tables seats → AreFirst others seats

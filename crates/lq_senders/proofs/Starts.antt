@@ -21,7 +21,7 @@ use Rattle.lq_qdisc.specs.Alone.{IsAlone, running, telling_of}
 use Rattle.lq_seat.specs.State.{SeatState, new_seat, setup_of, solo_of}
 use Rattle.lq_senders.specs.Ends.{AreOver}
 use Rattle.lq_senders.specs.Fates.{AllTell}
-use Rattle.lq_senders.specs.Lanes.{IsSendable, AreRunAlone}
+use Rattle.lq_senders.specs.Senders.{IsSendable, AreRunAlone}
 use Rattle.lq_senders.specs.Units.{DoTell}
 use Rattle.lq_senders.proofs.Seats.{all-at}
 use Rattle.lq_senders.proofs.Turns.{event-there, some-there}

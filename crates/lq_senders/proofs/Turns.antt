@@ -14,7 +14,7 @@ use Rattle.lq_seat.specs.Calls.{DoesAlone, Drains, WakesQueues}
 use Rattle.lq_seat.specs.State.{SeatState, Setup, TableState, setup_of, solo_of}
 use Rattle.lq_table.specs.Sees.{Solo}
 use Rattle.lq_senders.specs.Seats.{Keeps}
-use Rattle.lq_senders.specs.Lanes.{AllDid, AreOthers, IsWoken, AllOpened, AreSeats, KeepAll, KeepSeats, LaneStands, AreRunAlone, StandsInRun}
+use Rattle.lq_senders.specs.Senders.{AllDid, AreOthers, IsWoken, AllOpened, AreSeats, KeepAll, KeepSeats, SenderStands, AreRunAlone, StandsInRun}
 use Rattle.lq_senders.specs.Units.{DevicesStand, DoTell}
 use Rattle.lq_senders.specs.Way.{IsOnWay, numbers_from}
 use Rattle.lq_senders.specs.Woken.{PlanCalls}
@@ -61,8 +61,8 @@ keep-on a b c one two = record {
       keeps-on x y.0 z (one.each j x y.0 at y.1) (two.each j y.0 z y.1 at');
 }
 
-pub lane-seats : (plan : Plan) (infos : List Info) (sender count n : ℕ) (tables : List TableState) (seats : List SeatState) → LaneStands plan infos sender count n tables seats → AreSeats tables seats
-lane-seats plan infos sender count n tables seats lane = record { long = lane.long; each = λ j t c at at'. (lane.each j t c at at').seat }
+pub sender-seats : (plan : Plan) (infos : List Info) (sender count n : ℕ) (tables : List TableState) (seats : List SeatState) → SenderStands plan infos sender count n tables seats → AreSeats tables seats
+sender-seats plan infos sender count n tables seats standing = record { long = standing.long; each = λ j t c at at'. (standing.each j t c at at').seat }
 
 pub seats-still : (tables : List TableState) (old new : List SeatState) → AreSeats tables old → KeepAll old new → AreSeats tables new
 seats-still tables old new seats keeps = record {
@@ -82,15 +82,15 @@ keep-drained old new drained = keep-did Drains drains-keep old new drained
 pub keep-opened : (old mid new : List SeatState) → AllDid IsWoken old mid → AllDid Drains mid new → KeepAll old new
 keep-opened old mid new woken drained = keep-on old mid new (keep-did IsWoken wakes-keep old mid woken) (keep-drained mid new drained)
 
--- the lane stands as before
-pub lane-opened : (plan : Plan) (infos : List Info) (sender count n : ℕ) (tables : List TableState) (old mid new : List SeatState) → LaneStands plan infos sender count n tables old
-    → AllDid IsWoken old mid → AllDid Drains mid new → LaneStands plan infos sender count n tables new
-lane-opened plan infos sender count n tables old mid new lane woken did = record {
-  long = did.long ∙ (woken.long ∙ lane.long);
-  all = lane.all;
+-- the standing stands as before
+pub sender-opened : (plan : Plan) (infos : List Info) (sender count n : ℕ) (tables : List TableState) (old mid new : List SeatState) → SenderStands plan infos sender count n tables old
+    → AllDid IsWoken old mid → AllDid Drains mid new → SenderStands plan infos sender count n tables new
+sender-opened plan infos sender count n tables old mid new standing woken did = record {
+  long = did.long ∙ (woken.long ∙ standing.long);
+  all = standing.all;
   each = λ j t c at at'.
       let half = some-there mid new j c (sym did.long) at' in let was = some-there old mid j half.0 (sym woken.long) half.1 in
-      let one = woken.each j was.0 half.0 was.1 half.1 in let two = did.each j half.0 c half.1 at' in let before = lane.each j t was.0 at was.1 in
+      let one = woken.each j was.0 half.0 was.1 half.1 in let two = did.each j half.0 c half.1 at' in let before = standing.each j t was.0 at was.1 in
       let keeps = keeps-on was.0 half.0 c (wakes-keep was.0 half.0 one) (drains-keep half.0 c two) in
       record {
         table = before.table;
@@ -103,9 +103,9 @@ lane-opened plan infos sender count n tables old mid new lane woken did = record
 -- THE RUN OF ONE SENDER
 
 -- what the plan asks the seats' tables to be made of
-pub lane-made : (plan : Plan) (infos : List Info) (sender count n : ℕ) (tables : List TableState) (seats : List SeatState) → LaneStands plan infos sender count n tables seats
+pub sender-made : (plan : Plan) (infos : List Info) (sender count n : ℕ) (tables : List TableState) (seats : List SeatState) → SenderStands plan infos sender count n tables seats
     → (j : ℕ) (c : SeatState) → slice_get seats j ≡ Some c → c.made ≡ setup_of plan infos j
-lane-made plan infos sender count n tables seats lane j c at = let t = some-there tables seats j c (sym lane.long) at in let own = lane.each j t.0 c t.1 at in made-of plan infos j t.0 own.table c own.seat
+sender-made plan infos sender count n tables seats standing j c at = let t = some-there tables seats j c (sym standing.long) at in let own = standing.each j t.0 c t.1 at in made-of plan infos j t.0 own.table c own.seat
 
 -- where each seat did a step of the run of one sender, the stations did
 pub all-step : (plan : Plan) (infos : List Info) (step : Setup → RunningStation → RunningStation) (own : RunningStation → RunningStation) (R : SeatState → SeatState → Type 0)
@@ -127,12 +127,12 @@ pub runs-drained : (plan : Plan) (infos : List Info) (old new : List SeatState) 
 runs-drained plan infos old new stations made did runs =
     all-step plan infos (λ k. served k.infos) (served infos) Drains (λ j. refl) (λ v w drains. drains.alone) old new stations made did runs
 
--- no seat of a lane is raised, so its stations are as serving would leave them
+-- no seat of a standing is raised, so its stations are as serving would leave them
 pub runs-rested : (plan : Plan) (infos : List Info) (sender count n : ℕ) (tables : List TableState) (seats : List SeatState) (stations : List RunningStation)
-    → LaneStands plan infos sender count n tables seats → AreRunAlone plan infos seats stations → AreRunAlone plan infos seats (map (served infos) stations)
-runs-rested plan infos sender count n tables seats stations lane runs j c at =
-    let t = some-there tables seats j c (sym lane.long) at in
-    let low = (lane.each j t.0 c t.1 at).stands.raised in let was = runs j c at in
+    → SenderStands plan infos sender count n tables seats → AreRunAlone plan infos seats stations → AreRunAlone plan infos seats (map (served infos) stations)
+runs-rested plan infos sender count n tables seats stations standing runs j c at =
+    let t = some-there tables seats j c (sym standing.long) at in
+    let low = (standing.each j t.0 c t.1 at).stands.raised in let was = runs j c at in
     (was.0, mapped-at (served infos) stations j _ was.1 ∙ ap Some (rests_served infos (start_of plan j) (solo_of c) was.0 low))
 
 pub runs-opened : (plan : Plan) (infos : List Info) (old mid new : List SeatState) (stations : List RunningStation)
@@ -160,35 +160,35 @@ runs-unopened plan infos old new stations did runs j c at =
 
 -- it leaves the stations of the run of one sender as they were
 pub runs-idle : (plan : Plan) (infos : List Info) (sender count n : ℕ) (tables : List TableState) (old new : List SeatState) (stations : List RunningStation)
-    → LaneStands plan infos sender count n tables old → AllOpened false old new → AreRunAlone plan infos old stations → AreRunAlone plan infos new stations
-runs-idle plan infos sender count n tables old new stations lane opening runs =
+    → SenderStands plan infos sender count n tables old → AllOpened false old new → AreRunAlone plan infos old stations → AreRunAlone plan infos new stations
+runs-idle plan infos sender count n tables old new stations standing opening runs =
     let woken = runs-unopened plan infos old opening.woken stations opening.was runs in
     runs-other plan infos opening.woken new stations (map (served infos) stations) opening.drains.long woken
     (λ j c at.
     let was = some-there old opening.woken j c (sym opening.was.long) at in
-    let t = some-there tables old j was.0 (sym lane.long) was.1 in
-    let low = ap (λ (s : SeatState). s.raised) ((opening.was.each j was.0 c was.1 at).none refl) ∙ (lane.each j t.0 was.0 t.1 was.1).stands.raised in
+    let t = some-there tables old j was.0 (sym standing.long) was.1 in
+    let low = ap (λ (s : SeatState). s.raised) ((opening.was.each j was.0 c was.1 at).none refl) ∙ (standing.each j t.0 was.0 t.1 was.1).stands.raised in
     let now = woken j c at in (now.0, mapped-at (served infos) stations j _ now.1 ∙ ap Some (rests_served infos (start_of plan j) (solo_of c) now.0 low)))
     (runs-drained plan infos opening.woken new stations
     (λ j c at. let was = some-there old opening.woken j c (sym opening.was.long) at in
-    ap (λ (s : SeatState). s.made) ((opening.was.each j was.0 c was.1 at).none refl) ∙ lane-made plan infos sender count n tables old lane j was.0 was.1)
+    ap (λ (s : SeatState). s.made) ((opening.was.each j was.0 c was.1 at).none refl) ∙ sender-made plan infos sender count n tables old standing j was.0 was.1)
     opening.drains woken)
 
 -- and so would all that follow
 pub runs-idle-on : (plan : Plan) (infos : List Info) (sender count n : ℕ) (tables : List TableState) (old new : List SeatState) (more times : ℕ) (stations : List RunningStation)
-    → LaneStands plan infos sender count n tables old → AllOpened false old new
+    → SenderStands plan infos sender count n tables old → AllOpened false old new
     → AreRunAlone plan infos old (opened_and_served infos times stations) → AreRunAlone plan infos old (opened_and_served infos (more + times) stations)
-runs-idle-on plan infos sender count n tables old new zero times stations lane opening runs =
+runs-idle-on plan infos sender count n tables old new zero times stations standing opening runs =
     let none : times ≡ 0 + times = omega arith in subst (λ (k : ℕ). AreRunAlone plan infos old (opened_and_served infos k stations)) none runs
-runs-idle-on plan infos sender count n tables old new (suc more) times stations lane opening runs =
+runs-idle-on plan infos sender count n tables old new (suc more) times stations standing opening runs =
     let before = opened_and_served infos (more + times) stations in
-    let was = runs-idle-on plan infos sender count n tables old new more times stations lane opening runs in
+    let was = runs-idle-on plan infos sender count n tables old new more times stations standing opening runs in
     let long = keep-opened old opening.woken new opening.wakes opening.drains in
     let one : suc (more + times) ≡ suc more + times = omega arith in
     subst (λ (k : ℕ). AreRunAlone plan infos old (opened_and_served infos k stations)) one
     (runs-other plan infos new old (map (served infos) (map opened before)) before (sym long.long)
-    (runs-opened plan infos old opening.woken new before (lane-made plan infos sender count n tables old lane) opening.wakes opening.drains was)
-    (runs-idle plan infos sender count n tables old new before lane opening was) was)
+    (runs-opened plan infos old opening.woken new before (sender-made plan infos sender count n tables old standing) opening.wakes opening.drains was)
+    (runs-idle plan infos sender count n tables old new before standing opening was) was)
 
 -- EVENTS ONE BY ONE
 
@@ -227,7 +227,7 @@ called-on a b c one two = record {
 -- the events from `next` on to `e` were done, each of which stands before packet n
 pub record FirstEvents (plan : Plan) (infos : List Info) (tables : List TableState) (next n e : ℕ) (start : List SeatState) (brought : List DeviceState) (now : List SeatState) (spares : List DeviceState) : Type 0 where
   pub done : (k : ℕ) (event : EventPlan) → next ≤ k → k < e → slice_get plan.events k ≡ Some event → event.before ≤ n
-  pub stands : (m : ℕ) → LaneStands plan infos 0 next m tables start → LaneStands plan infos 0 e m tables now
+  pub stands : (m : ℕ) → SenderStands plan infos 0 next m tables start → SenderStands plan infos 0 e m tables now
   pub calls : AllDid PlanCalls start now
   pub devices : (units : List DeviceState) → DevicesStand plan infos units next start brought → DevicesStand plan infos units e now spares
   pub runs : (units : List DeviceState) → DevicesStand plan infos units next start brought → DoTell plan units
@@ -236,7 +236,7 @@ pub record FirstEvents (plan : Plan) (infos : List Info) (tables : List TableSta
 pub no-events-yet : (plan : Plan) (infos : List Info) (tables : List TableState) (next n : ℕ) (seats : List SeatState) (spares : List DeviceState) → FirstEvents plan infos tables next n next seats spares seats spares
 no-events-yet plan infos tables next n seats spares = record {
   done = λ k event above below. absurd (omega arith);
-  stands = λ m lane. lane;
+  stands = λ m standing. standing;
   calls = none-called seats;
   devices = λ units stand. stand;
   runs = λ units stand tell stations runs. let none : next - next ≡ 0 = omega arith in subst (λ c. AreRunAlone plan infos seats (with_events plan infos (numbers_from next c) stations)) (sym none) runs;
@@ -244,7 +244,7 @@ no-events-yet plan infos tables next n seats spares = record {
 
 pub one-event-more : (plan : Plan) (infos : List Info) (tables : List TableState) (next n e : ℕ) (event : EventPlan) (start : List SeatState) (brought : List DeviceState) (now : List SeatState) (spares : List DeviceState) (new : List SeatState) (left : List DeviceState)
     → next ≤ e → slice_get plan.events e ≡ Some event → event.before ≤ n
-    → ((m : ℕ) → LaneStands plan infos 0 e m tables now → LaneStands plan infos 0 (e + 1) m tables new) → AllDid PlanCalls now new
+    → ((m : ℕ) → SenderStands plan infos 0 e m tables now → SenderStands plan infos 0 (e + 1) m tables new) → AllDid PlanCalls now new
     → ((units : List DeviceState) → DevicesStand plan infos units e now spares → DevicesStand plan infos units (e + 1) new left)
     → ((units : List DeviceState) → DevicesStand plan infos units e now spares → DoTell plan units → (stations : List RunningStation) → AreRunAlone plan infos now stations → AreRunAlone plan infos new (with_event plan infos e stations))
     → FirstEvents plan infos tables next n e start brought now spares → FirstEvents plan infos tables next n (e + 1) start brought new left
@@ -253,7 +253,7 @@ one-event-more plan infos tables next n e event start brought now spares new lef
     | inl less ↦ first.done k late above less at
     | inr same ↦ subst (λ (x : EventPlan). x.before ≤ n) (same_Some event late (sym there ∙ (ap (slice_get plan.events) (sym same) ∙ at))) before
   ];
-  stands = λ m lane. stands m (first.stands m lane);
+  stands = λ m standing. stands m (first.stands m standing);
   calls = called-on start now new first.calls calls;
   devices = λ units stand. devices units (first.devices units stand);
   runs = λ units stand tell stations was. subst (AreRunAlone plan infos new) (with-events-next plan infos next e stations le)

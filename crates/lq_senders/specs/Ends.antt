@@ -19,7 +19,7 @@ use Rattle.lq_seat.specs.Ends.{HasDecidedAll, PurgesHungOnly, HungOnly, IsSoundA
 use Rattle.lq_seat.specs.State.{new_seat, SeatState, TableState, IsTableOf, setup_of, IsHere, HasAllOf, seat_account, no_station, HangsWhere, IsCallOf, latest_unit, units_of, closed_home}
 use Rattle.lq_senders.specs.Fates.{AllTell}
 use Rattle.lq_table.specs.Ended.{EndedState, ended_state}
-use Rattle.lq_senders.specs.Lanes.{AllOwn, AreRunAlone, after_sending}
+use Rattle.lq_senders.specs.Senders.{AllOwn, AreRunAlone, after_sending}
 use Rattle.lq_senders.specs.Units.{DevicesStand, DoTell, by_unit, unit_at}
 use Rattle.lq_senders.specs.Way.{down_after_events}
 

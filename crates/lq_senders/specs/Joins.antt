@@ -4,10 +4,10 @@ use Rattle.lq_control.specs.Finish.{count_all}
 use Rattle.lq_model.specs.Plan.{Plan}
 use Rattle.lq_model.specs.declared.fate.Info.{Info}
 use Rattle.lq_seat.specs.State.{SeatState, TableState, IsTableOf, IsHere, times}
-use Rattle.lq_senders.specs.Lanes.{StandsInRun}
+use Rattle.lq_senders.specs.Senders.{StandsInRun}
 use Rattle.lq_senders.specs.Way.{IsOnWay}
 
--- The senders whose seats are one: the first, and of the others all but so many. (The last lane is taken in first.)
+-- The senders whose seats are one: the first, and of the others all but so many. (The last sender is taken in first.)
 abbrev pub IsTakenIn : Plan → ℕ → ℕ → Type 0
 IsTakenIn plan out owner = (owner < plan.senders) × ((owner ≡ 0) ⊎ (out < owner))
 
@@ -27,7 +27,7 @@ pub record JoinedAt (plan : Plan) (infos : List Info) (out j : ℕ) (t : TableSt
   pub seat : IsHere t c
   pub joined : Joined plan infos j out c
 
-pub record LaneJoined (plan : Plan) (infos : List Info) (out : ℕ) (tables : List TableState) (seats : List SeatState) : Type 0 where
+pub record SenderJoined (plan : Plan) (infos : List Info) (out : ℕ) (tables : List TableState) (seats : List SeatState) : Type 0 where
   pub long : length seats ≡ length tables
   pub all : length tables ≡ length plan.stations
   pub each : (j : ℕ) (t : TableState) (c : SeatState) → slice_get tables j ≡ Some t → slice_get seats j ≡ Some c → JoinedAt plan infos out j t c
@@ -44,7 +44,7 @@ pub record IsOtherDone (plan : Plan) (infos : List Info) (owner j : ℕ) (t : Ta
   pub owners : c.owners ≡ owner ∷ []
   pub first : c.first ≡ false
 
--- the seats from `count` on were joined with those of the lane at this place, and those below it are still to be
+-- the seats from `count` on were joined with those of the sender at this place, and those below it are still to be
 pub record JoinsDown (plan : Plan) (infos : List Info) (place count : ℕ) (tables : List TableState) (now rest : List SeatState) : Type 0 where
   pub long : length now ≡ length tables
   pub all : length tables ≡ length plan.stations

@@ -7,7 +7,7 @@ pub mod Way
 -- how often a sender opens the stopped queues, and its calls for the plan's events
 pub mod Woken
 -- a sender's seats, one at each station
-pub mod Lanes
+pub mod Senders
 -- the other senders' seats are joined into the first sender's
 pub mod Joins
 -- what the fates of a run are, what its devices did, and what stays of its stations

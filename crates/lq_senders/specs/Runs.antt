@@ -5,8 +5,8 @@ use Rattle.lq_model.specs.Device.{DeviceState}
 use Rattle.lq_plan.specs.Openings.{opens_while_stopped}
 use Rattle.lq_seat.specs.State.{SeatState}
 use Rattle.lq_senders.specs.Ends.{HaveFatesAlone}
-use Rattle.lq_senders.specs.Joins.{LaneJoined}
-use Rattle.lq_senders.specs.Lanes.{AllOwn, AreDoneLanes, AreReadyLanes, AreRunAlone, EachSendsAll, IsDoneLane, IsReadyLane, IsSending, LaneDone, LaneStands, SendsAll, after_sending}
+use Rattle.lq_senders.specs.Joins.{SenderJoined}
+use Rattle.lq_senders.specs.Senders.{AllOwn, AreDoneSenders, AreReadySenders, AreRunAlone, EachSendsAll, IsDoneSender, IsReadySender, IsSending, SenderAtEnd, SenderStands, SendsAll, after_sending}
 use Rattle.lq_senders.specs.Setup.{AreSplitting}
 use Rattle.lq_senders.specs.Units.{DevicesStand, DoTell}
 use Rattle.lq_senders.specs.Way.{numbers_from}
@@ -24,7 +24,7 @@ module _ {D G : Type 0} where
 
   -- a sender's seats, where its packets below n were sent and the first so many events of the plan done
   abbrev pub SeatsStand : Run D G → ℕ → ℕ → ℕ → List SeatState → Type 0
-  SeatsStand run sender count n seats = LaneStands run.plan.now run.infos.now sender count n run.tables.now seats
+  SeatsStand run sender count n seats = SenderStands run.plan.now run.infos.now sender count n run.tables.now seats
 
   -- they stood where so many events are done, and stand where so many are, at whichever packet
   abbrev pub SeatsGoOn : Run D G → ℕ → ℕ → ℕ → List SeatState → List SeatState → Type 0
@@ -32,7 +32,7 @@ module _ {D G : Type 0} where
 
   -- all of the plan's events were done, and all packets sent
   abbrev pub SeatsDone : Run D G → ℕ → List SeatState → Type 0
-  SeatsDone run sender seats = LaneDone run.plan.now run.infos.now sender run.tables.now seats
+  SeatsDone run sender seats = SenderAtEnd run.plan.now run.infos.now sender run.tables.now seats
 
   -- the sender sent each of its packets, and then made the openings that the run has after it, before its next packet
   abbrev pub SeatsSendAll : Run D G → ℕ → List SeatState → List SeatState → Type 0
@@ -42,9 +42,9 @@ module _ {D G : Type 0} where
   abbrev pub SeatsSplit : Run D G → ℕ → List SeatState → Type 0
   SeatsSplit run next seats = AreSplitting run.plan.now run.infos.now next run.tables.now seats
 
-  -- so many lanes are still to be joined into the first sender's
+  -- so many senders are still to be joined into the first one
   abbrev pub SeatsJoined : Run D G → ℕ → List SeatState → Type 0
-  SeatsJoined run out seats = LaneJoined run.plan.now run.infos.now out run.tables.now seats
+  SeatsJoined run out seats = SenderJoined run.plan.now run.infos.now out run.tables.now seats
 
   -- as the stations of the run of one sender they went from any to these
   abbrev pub SeatsRunAs : Run D G → (List RunningStation → List RunningStation) → List SeatState → List SeatState → Type 0
@@ -87,18 +87,18 @@ module _ {D G : Type 0} where
 
   -- THE OTHER SENDERS
 
-  -- the lane at this place among theirs, before the run and after it
-  abbrev pub LaneIsReady : Run D G → ℕ → Sender D → Type 0
-  LaneIsReady run place sender = IsReadyLane run.plan.now run.infos.now run.tables.now place sender.owner sender.seats.items
+  -- the sender at this place among theirs, before the run and after it
+  abbrev pub SenderIsReady : Run D G → ℕ → Sender D → Type 0
+  SenderIsReady run place sender = IsReadySender run.plan.now run.infos.now run.tables.now place sender.owner sender.seats.items
 
-  abbrev pub LaneIsDone : Run D G → ℕ → Sender D → Type 0
-  LaneIsDone run place sender = IsDoneLane run.plan.now run.infos.now run.tables.now place sender.owner sender.seats.items
+  abbrev pub SenderIsDone : Run D G → ℕ → Sender D → Type 0
+  SenderIsDone run place sender = IsDoneSender run.plan.now run.infos.now run.tables.now place sender.owner sender.seats.items
 
-  abbrev pub LanesAreReady : Run D G → List (Sender D) → Type 0
-  LanesAreReady run lanes = AreReadyLanes run.plan.now run.infos.now run.tables.now lanes
+  abbrev pub SendersAreReady : Run D G → List (Sender D) → Type 0
+  SendersAreReady run others = AreReadySenders run.plan.now run.infos.now run.tables.now others
 
-  abbrev pub LanesAreDone : Run D G → List (Sender D) → Type 0
-  LanesAreDone run lanes = AreDoneLanes run.plan.now run.infos.now run.tables.now lanes
+  abbrev pub SendersAreDone : Run D G → List (Sender D) → Type 0
+  SendersAreDone run others = AreDoneSenders run.plan.now run.infos.now run.tables.now others
 
-  abbrev pub LanesSendAll : Run D G → List (Sender D) → List (Sender D) → Type 0
-  LanesSendAll run old new = EachSendsAll run.infos.now (opens_while_stopped run.plan.now) (opens_in run) old new
+  abbrev pub SendersSendAll : Run D G → List (Sender D) → List (Sender D) → Type 0
+  SendersSendAll run old new = EachSendsAll run.infos.now (opens_while_stopped run.plan.now) (opens_in run) old new

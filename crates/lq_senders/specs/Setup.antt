@@ -106,22 +106,22 @@ pub record AreSplitting (plan : Plan) (infos : List Info) (next : ℕ) (tables :
   pub all : length tables ≡ length plan.stations
   pub each : (j : ℕ) (t : TableState) (c : SeatState) → slice_get tables j ≡ Some t → slice_get seats j ≡ Some c → SplitsAt plan infos next j t c
 
--- the lane at this place among those of the other senders has no seat yet, and room for one at each station
-pub record IsEmptyLane {D : Type 0} (plan : Plan) (place : ℕ) (l : Sender D) : Type 0 where
+-- the sender at this place among the others has no seat yet, and room for one at each station
+pub record HasNoSeats {D : Type 0} (plan : Plan) (place : ℕ) (l : Sender D) : Type 0 where
   pub owner_is : l.owner ≡ place + 1
   pub none_yet : l.seats.items ≡ []
   pub room : length plan.stations ≤ vec_capacity l.seats
 
 -- one for each sender but the first
-pub record AreEmptyLanes {D : Type 0} (plan : Plan) (lanes : List (Sender D)) : Type 0 where
-  pub one_each : length lanes + 1 ≡ plan.senders
-  pub each : (i : ℕ) (l : Sender D) → slice_get lanes i ≡ Some l → IsEmptyLane plan i l
+pub record HaveNoSeats {D : Type 0} (plan : Plan) (others : List (Sender D)) : Type 0 where
+  pub one_each : length others + 1 ≡ plan.senders
+  pub each : (i : ℕ) (l : Sender D) → slice_get others i ≡ Some l → HasNoSeats plan i l
 
 -- ROOM
 
 -- empty lists, with room for the seats of the other senders and the stations
 pub record HasRoomForRun {D : Type 0} {g : Ghosts D} (plan : Plan) (room : Room D g) : Type 0 where
-  pub others : AreEmptyLanes plan room.others.items
+  pub others : HaveNoSeats plan room.others.items
   pub none_closed : room.closed.items ≡ []
   pub no_home : room.homes.items ≡ []
   pub none_ended : room.ended.items ≡ []

@@ -3,8 +3,8 @@ ghost use Rattle.std.specs.Prelude.{◌≡◌, ◌+◌, ◌-◌, ◌≤◌, [], 
 ghost use Rattle.lq_seat.specs.Ends.{Finishes};
 ghost use Rattle.lq_senders.specs.Ends.{AllMayClose, FirstClosed, closed_state};
 ghost use Rattle.lq_senders.specs.Joins.{AreFirst};
-ghost use Rattle.lq_senders.specs.Lanes.{AllDid};
-ghost use Rattle.lq_senders.specs.Runs.{LaneIsDone, LanesAreDone, SeatsDone, SeatsEndAlone, SeatsJoined};
+ghost use Rattle.lq_senders.specs.Senders.{AllDid};
+ghost use Rattle.lq_senders.specs.Runs.{SenderIsDone, SendersAreDone, SeatsDone, SeatsEndAlone, SeatsJoined};
 ghost use Rattle.lq_senders.specs.Units.{SameDevices};
 
 use crate::sender::{Job, Run, Sender};
@@ -15,18 +15,18 @@ use lq_table::Closed;
 use std::sync::Wait;
 
 /// Joins another sender's seats into the first sender's. Those of the senders after it were taken in before.
-fn join_lane<'r, 'a, D: TxDevice, G: Gate>(
+fn join_sender<'r, 'a, D: TxDevice, G: Gate>(
     run: &Run<'r, 'a, D, G>,
     seats: &mut Vec<Seat<D>>,
-    lane: Sender<D>,
+    sender: Sender<D>,
 )
-    requires first { SeatsJoined run.now lane.owner seats.old.items }
-    requires other { LaneIsDone run.now (lane.owner - 1) lane }
-    ensures joined { SeatsJoined run.now (lane.owner - 1) seats.new.items }
+    requires first { SeatsJoined run.now sender.owner seats.old.items }
+    requires other { SenderIsDone run.now (sender.owner - 1) sender }
+    ensures joined { SeatsJoined run.now (sender.owner - 1) seats.new.items }
     ensures devices { SameDevices seats.old.items seats.new.items }
 {
     run.plan.stays_within_limits();
-    let mut others = lane.seats;
+    let mut others = sender.seats;
     while let Some(other) = others.pop() {
         let j = others.len();
         seats[j].join(&run.tables[j], other);
@@ -40,13 +40,13 @@ fn join_all<'r, 'a, D: TxDevice, G: Gate>(
     mut others: Vec<Sender<D>>,
 )
     requires first { SeatsJoined run.now (length others.items) seats.old.items }
-    requires others { LanesAreDone run.now others.items }
+    requires others { SendersAreDone run.now others.items }
     ensures joined { SeatsJoined run.now 0 seats.new.items }
     ensures devices { SameDevices seats.old.items seats.new.items }
     ensures alone { length others.items ≡ 0 → seats.new.items ≡ seats.old.items }
 {
-    while let Some(lane) = others.pop() {
-        join_lane(run, seats, lane);
+    while let Some(sender) = others.pop() {
+        join_sender(run, seats, sender);
     }
 }
 
@@ -73,7 +73,7 @@ pub fn end_run<'r, 'a, R: Wait, D: TxDevice, G: Gate>(
     others: Vec<Sender<D>>,
 )
     requires first { SeatsDone run.now 0 seats.old.items × AreFirst (length others.items) seats.old.items }
-    requires others { LanesAreDone run.now others.items }
+    requires others { SendersAreDone run.now others.items }
     requires senders { length others.items + 1 ≡ run.now.plan.now.senders }
     ensures may { AllMayClose run.now.plan.now run.now.infos.now run.now.tables.now seats.new.items }
     ensures devices { SameDevices seats.old.items seats.new.items }

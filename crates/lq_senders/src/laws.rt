@@ -3,7 +3,7 @@ ghost use Rattle.std.specs.Prelude.{◌≡◌, ◌≢◌, ◌<◌, ◌≤◌, �
 ghost use Rattle.lq_seat.specs.State.{SeatState};
 ghost use Rattle.lq_senders.specs.Ends.{AreBack, AreOver, ClosedState, FatesRead, HasSentAll, IsReadable, RunEnds, SameBoxes};
 ghost use Rattle.lq_senders.specs.Fates.{AreFatesOf, IsEndedAs};
-ghost use Rattle.lq_senders.specs.Lanes.{IsSendable};
+ghost use Rattle.lq_senders.specs.Senders.{IsSendable};
 ghost use Rattle.lq_senders.specs.Setup.{IsRunBy};
 ghost use Rattle.lq_senders.specs.Woken.{count_sent, openings_of, opens_by};
 ghost use Rattle.lq_plan.specs.declared.openings.Openings.TheVariants.{Every};

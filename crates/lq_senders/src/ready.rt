@@ -1,7 +1,7 @@
 //! All devices that a run takes leave the bench.
 ghost use Rattle.std.specs.Prelude.{◌≡◌, ◌≤◌, ◌+◌, IfOk, OnOk, OnErr, drop, map, vec_len, vec_capacity};
 ghost use Rattle.lq_senders.specs.Fates.{identities_of};
-ghost use Rattle.lq_senders.specs.Lanes.{IsSendable};
+ghost use Rattle.lq_senders.specs.Senders.{IsSendable};
 ghost use Rattle.lq_senders.specs.Setup.{AreUnitsReady, HasRoomForUnits};
 ghost use Rattle.lq_model.specs.Plan.{unit_count};
 

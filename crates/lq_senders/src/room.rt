@@ -3,7 +3,7 @@ ghost use Rattle.std.specs.Prelude.{IfOk};
 ghost use Rattle.lq_senders.specs.Setup.{HasRoomForRun};
 
 use crate::sender::Sender;
-use crate::setup::{lanes_for, list_with_room};
+use crate::setup::{list_with_room, other_senders};
 use lq_device::TxDevice;
 use lq_model::NoMemory;
 use lq_plan::Plan;
@@ -28,7 +28,7 @@ pub fn room_for_run<D: TxDevice>(alloc: Global, plan: &Plan) -> Result<Room<D>, 
     ensures { IfOk result (λ room. HasRoomForRun plan.now room) }
 {
     let count = plan.stations() as usize;
-    let others = lanes_for(alloc, plan)?;
+    let others = other_senders(alloc, plan)?;
     let closed = list_with_room(alloc, count)?;
     let ended = list_with_room(alloc, count)?;
     let homes = list_with_room(alloc, count)?;

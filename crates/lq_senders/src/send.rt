@@ -8,6 +8,7 @@ ghost use Rattle.lq_senders.specs.Woken.{KnowOpenings, OpensAre, opens_by};
 ghost use Rattle.lq_model.specs.Device.{DeviceState};
 ghost use Rattle.lq_model.specs.Plan.{unit_count};
 
+use crate::all_senders::run;
 use crate::laws::{
     runs_are_readable, runs_keep_boxes, runs_leave_devices, runs_leave_stations, runs_make_fates,
     runs_may_be_sent, same_openings_make_same_fates,
@@ -15,9 +16,8 @@ use crate::laws::{
 use crate::ready::{Units, make_ready, room_for_units};
 use crate::room::{Room, room_for_run};
 use crate::sender::{Job, Run, Sender, Senders};
-use crate::setup::{Stations, split_lanes};
+use crate::setup::{Stations, split_senders};
 use crate::undo::{hand_back, take_apart};
-use crate::whole::run;
 use lq_device::TxDevice;
 use lq_gate::{Gate, Resources};
 use lq_model::{Info, NoMemory};
@@ -60,7 +60,7 @@ fn send_ready<'r, 'a, R: Threads + Wait + Sync, D: TxDevice, G: Gate>(
         tables: tables.as_slice(),
         gate: job.gate,
     };
-    split_lanes(&all, &mut seats, &mut room.others);
+    split_senders(&all, &mut seats, &mut room.others);
     let first = Sender {
         owner: 0,
         seats,

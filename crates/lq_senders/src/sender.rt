@@ -1,5 +1,5 @@
 //! What a run is asked to do, what its senders share, and a sender.
-ghost use Rattle.lq_senders.specs.Lanes.{IsSendable};
+ghost use Rattle.lq_senders.specs.Senders.{IsSendable};
 ghost use Rattle.lq_senders.specs.Woken.{KnowOpenings, known-prop};
 
 use lq_device::TxDevice;

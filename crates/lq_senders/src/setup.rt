@@ -5,9 +5,9 @@
 ghost use Rattle.std.specs.Prelude.{◌≡◌, ◌≤◌, ◌<◌, ◌+◌, ◌-◌, ◌++◌, [], List, IfOk, OnOk, OnErr, drop, length, map, vec_len, vec_capacity};
 ghost use Rattle.lq_seat.specs.State.{station_count};
 ghost use Rattle.lq_senders.specs.Fates.{identities_of};
-ghost use Rattle.lq_senders.specs.Lanes.{IsSendable};
-ghost use Rattle.lq_senders.specs.Runs.{LaneIsReady, LanesAreReady, SeatsSplit};
-ghost use Rattle.lq_senders.specs.Setup.{AreConfigured, AreEmptyLanes, AreOpened, AreWhole, IsEmptyLane, origins_of};
+ghost use Rattle.lq_senders.specs.Senders.{IsSendable};
+ghost use Rattle.lq_senders.specs.Runs.{SenderIsReady, SendersAreReady, SeatsSplit};
+ghost use Rattle.lq_senders.specs.Setup.{AreConfigured, HaveNoSeats, AreOpened, AreWhole, HasNoSeats, origins_of};
 ghost use Rattle.lq_senders.specs.Units.{SameDevices};
 ghost use Rattle.lq_model.specs.Device.{DeviceState};
 
@@ -30,7 +30,7 @@ pub fn list_with_room<T>(alloc: Global, count: usize) -> Result<Vec<T>, NoMemory
     }
 }
 
-/// How many items more a list has room for that stands apart: at least three lines of the processor's cache, with the items of a lane,
+/// How many items more a list has room for that stands apart: at least three lines of the processor's cache, with the items of senders,
 /// of seats (40 bytes) and of tables. So no processor takes a line, or the one beside it, from a sender whose seats it doesn't use; nor
 /// does the box of a station, which lies behind the first sender's seats.
 const APART: usize = 6;
@@ -75,21 +75,21 @@ pub fn configure_units<D: TxDevice>(
     Ok(())
 }
 
-/// The lanes of all senders but the first, without seats but with the room for them.
-pub fn lanes_for<D: TxDevice>(alloc: Global, plan: &Plan) -> Result<Vec<Sender<D>>, NoMemory>
-    ensures { IfOk result (λ lanes. AreEmptyLanes plan.now lanes.items) }
+/// All senders but the first, without seats but with the room for them.
+pub fn other_senders<D: TxDevice>(alloc: Global, plan: &Plan) -> Result<Vec<Sender<D>>, NoMemory>
+    ensures { IfOk result (λ others. HaveNoSeats plan.now others.items) }
 {
     let senders = plan.senders();
-    let mut lanes = list_apart(alloc, senders as usize - 1)?;
+    let mut others = list_apart(alloc, senders as usize - 1)?;
     for owner in 1..senders {
         let seats = list_apart(alloc, plan.stations() as usize)?;
-        lanes.push_reserved(Sender {
+        others.push_reserved(Sender {
             owner,
             seats,
             spares: Vec::new(alloc),
         });
     }
-    Ok(lanes)
+    Ok(others)
 }
 
 /// The tables of a plan's stations, and a seat at each.
@@ -200,41 +200,41 @@ pub fn open_all<'a, D: TxDevice>(
     }
 }
 
-/// Splits a seat at each station off for the sender of this lane. Takes no memory.
-fn split_lane<'r, 'a, D: TxDevice, G: Gate>(
+/// Splits a seat at each station off for this sender. Takes no memory.
+fn split_sender<'r, 'a, D: TxDevice, G: Gate>(
     run: &Run<'r, 'a, D, G>,
     seats: &mut Vec<Seat<D>>,
-    lane: &mut Sender<D>,
+    sender: &mut Sender<D>,
 )
-    requires empty { IsEmptyLane run.now.plan.now (lane.old.owner - 1) lane.old }
-    requires sender { lane.old.owner < run.now.plan.now.senders }
-    requires splitting { SeatsSplit run.now lane.old.owner seats.old.items }
-    ensures splitting { SeatsSplit run.now (lane.old.owner + 1) seats.new.items }
-    ensures ready { LaneIsReady run.now (lane.old.owner - 1) lane.new }
+    requires empty { HasNoSeats run.now.plan.now (sender.old.owner - 1) sender.old }
+    requires sender { sender.old.owner < run.now.plan.now.senders }
+    requires splitting { SeatsSplit run.now sender.old.owner seats.old.items }
+    ensures splitting { SeatsSplit run.now (sender.old.owner + 1) seats.new.items }
+    ensures ready { SenderIsReady run.now (sender.old.owner - 1) sender.new }
     ensures devices { SameDevices seats.old.items seats.new.items }
 {
     run.plan.stays_within_limits();
     for j in 0..run.tables.len() {
-        let other = seats[j].split(&run.tables[j], lane.owner);
-        lane.seats.push_reserved(other);
+        let other = seats[j].split(&run.tables[j], sender.owner);
+        sender.seats.push_reserved(other);
     }
 }
 
 /// Splits the seats of all senders but the first off. Takes no memory.
-pub fn split_lanes<'r, 'a, D: TxDevice, G: Gate>(
+pub fn split_senders<'r, 'a, D: TxDevice, G: Gate>(
     run: &Run<'r, 'a, D, G>,
     seats: &mut Vec<Seat<D>>,
-    lanes: &mut Vec<Sender<D>>,
+    others: &mut Vec<Sender<D>>,
 )
-    requires empty { AreEmptyLanes run.now.plan.now lanes.old.items }
+    requires empty { HaveNoSeats run.now.plan.now others.old.items }
     requires splitting { SeatsSplit run.now 1 seats.old.items }
     ensures splitting { SeatsSplit run.now run.now.plan.now.senders seats.new.items }
-    ensures ready { LanesAreReady run.now lanes.new.items }
-    ensures one_each { length lanes.new.items + 1 ≡ run.now.plan.now.senders }
+    ensures ready { SendersAreReady run.now others.new.items }
+    ensures one_each { length others.new.items + 1 ≡ run.now.plan.now.senders }
     ensures devices { SameDevices seats.old.items seats.new.items }
     ensures alone { run.now.plan.now.senders ≡ 1 → seats.new.items ≡ seats.old.items }
 {
-    for place in 0..lanes.len() {
-        split_lane(run, seats, &mut lanes[place]);
+    for place in 0..others.len() {
+        split_sender(run, seats, &mut others[place]);
     }
 }

@@ -2,7 +2,7 @@
 ghost use Rattle.std.specs.Prelude.{◌≡◌, ℕ, ◌+◌, ◌<◌, ◌≤◌, List, true, false, length, slice_get};
 ghost use Rattle.lq_seat.specs.Calls.{MayChange};
 ghost use Rattle.lq_seat.specs.State.{IsHere};
-ghost use Rattle.lq_senders.specs.Lanes.{AllDid, DoesEventAt, KeepAll};
+ghost use Rattle.lq_senders.specs.Senders.{AllDid, DoesEventAt, KeepAll};
 ghost use Rattle.lq_senders.specs.Runs.{DevicesGoOn, HasDevices, RunsAs, SeatsGoOn, SeatsRunAs, SeatsStand};
 ghost use Rattle.lq_senders.specs.Woken.{PlanCalls};
 ghost use Rattle.lq_model.specs.Alone.{with_event};

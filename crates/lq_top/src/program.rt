@@ -9,7 +9,7 @@ ghost use Rattle.lq_top.specs.Names.{MayDo};
 ghost use Rattle.lq_top.specs.Program.{IsCodeOfCall, IsCodeOfLine, IsCodeOfWords, TellsTexts, host_at, new_bench};
 
 use crate::top::lqtx;
-use lq_device::{BenchDevice, TxDevice};
+use lq_device::BenchDevice;
 use lq_host::Host;
 use lq_model::NoMemory;
 use lq_senders::Free;
@@ -77,24 +77,6 @@ fn bench_devices(alloc: Global) -> Result<Vec<BenchDevice>, NoMemory>
     Ok(devices)
 }
 
-/// The exit status of the top call on a bench of 16 devices that were never configured: the code of its status.
-fn code_on<R: Threads + Wait + Sync, H: Host, D: TxDevice>(
-    rt: &R,
-    alloc: Global,
-    words: &[&str],
-    host: &mut H,
-    bench: &mut Vec<D>,
-) -> u8
-    requires may { MayDo H.may_open H.may_create (command_of_words (bytes_of_words words.now)) }
-    requires new { map D.state bench.old.items ≡ new_bench }
-    ensures { IsCodeOfCall (bytes_of_words words.now) (host_at (H.state host.old) (H.fault_count host.old))
-        (host_at (H.state host.new) (H.fault_count host.new)) result }
-{
-    let mut ended = Vec::new(alloc);
-    let status = lqtx(rt, alloc, words, host, bench, &mut ended, &Free);
-    status.code()
-}
-
 /// The exit status of the program with these words over a host: the code of the status that [`lqtx`] answers on a bench of 16
 /// built-in devices that were never configured; or 6 where there was no memory for the devices, and then nothing is done.
 pub fn run_words<R: Threads + Wait + Sync, H: Host>(
@@ -107,38 +89,19 @@ pub fn run_words<R: Threads + Wait + Sync, H: Host>(
     ensures { IsCodeOfWords (bytes_of_words words.now) (host_at (H.state host.old) (H.fault_count host.old))
         (host_at (H.state host.new) (H.fault_count host.new)) result }
 {
-    match bench_devices(alloc) {
-        Ok(mut bench) => code_on(rt, alloc, words, host, &mut bench),
-        Err(NoMemory) => NO_MEMORY,
-    }
-}
-
-/// The exit status of the program, as `run_program` says.
-#[tactic(auto, using(crate::proofs::ProgramLemmas::code_without, crate::proofs::ProgramLemmas::code_for_memory, crate::proofs::ProgramLemmas::code_of_words))]
-fn code<R: Runtime + AllocGlobal + Threads + Wait + Sync, H: Host>(
-    rt: &R,
-    args: io::Result<Args>,
-    host: &mut H,
-) -> u8
-    requires may_open { (name : List ℕ) → H.may_open name }
-    requires may_create { (name : List ℕ) → H.may_create name }
-    ensures { IsCodeOfLine args (host_at (H.state host.old) (H.fault_count host.old))
-        (host_at (H.state host.new) (H.fault_count host.new)) result }
-{
-    let texts = match texts_of(rt.alloc(), args) {
-        Ok(texts) => texts,
-        Err(code) => return code,
+    let Ok(mut bench) = bench_devices(alloc) else {
+        return NO_MEMORY;
     };
-    match words_of(rt.alloc(), &texts) {
-        Ok(words) => run_words(rt, rt.alloc(), &words, host),
-        Err(_) => NO_MEMORY,
-    }
+    let mut ended = Vec::new(alloc);
+    let status = lqtx(rt, alloc, words, host, &mut bench, &mut ended, &Free);
+    status.code()
 }
 
 /// All that `main` does with the arguments that the program was given and with a new host, over real files and standard output:
 /// `lqtx` with the words behind the program's own name, on a bench of 16 built-in devices that were never configured. The exit
 /// status is the code of the status that it answers; 6 where there was no memory for the words or the devices; 9 where the
 /// arguments can't be had for another cause, as one that isn't UTF-8.
+#[tactic(auto, using(crate::proofs::ProgramLemmas::code_without, crate::proofs::ProgramLemmas::code_for_memory, crate::proofs::ProgramLemmas::code_of_words))]
 pub fn run_program<R: Runtime + AllocGlobal + Threads + Wait + Sync, H: Host>(
     rt: &R,
     args: io::Result<Args>,
@@ -151,5 +114,13 @@ pub fn run_program<R: Runtime + AllocGlobal + Threads + Wait + Sync, H: Host>(
     ensures { IsCodeOfLine args (host_at (H.state host.old) (H.fault_count host.old))
         (host_at (H.state host.new) (H.fault_count host.new)) (exit_status result) }
 {
-    ExitCode::from(code(rt, args, host))
+    let texts = match texts_of(rt.alloc(), args) {
+        Ok(texts) => texts,
+        Err(code) => return ExitCode::from(code),
+    };
+    let code = match words_of(rt.alloc(), &texts) {
+        Ok(words) => run_words(rt, rt.alloc(), &words, host),
+        Err(_) => NO_MEMORY,
+    };
+    ExitCode::from(code)
 }

@@ -1,6 +1,6 @@
 use Rattle.std.proofs.Common.{List, length, sym, subst}
 use Rattle.lq_seat.specs.State.{SeatState}
-use Rattle.lq_senders.specs.Lanes.{AreRunAlone}
+use Rattle.lq_senders.specs.Senders.{AreRunAlone}
 use Rattle.lq_senders.proofs.Closes.{devices-did, fates-finished, finished-may-close}
 use Rattle.lq_senders.proofs.Joins.{devices-on, joined-first}
 use Rattle.lq_senders.proofs.ends.end_run.Goals as goal

@@ -6,55 +6,55 @@ use Rattle.lq_senders.specs.Ends.{AreOver, ClosedState, FatesRead, IsReadable, c
 use Rattle.lq_senders.specs.Told.{TellEach, fates_told}
 use Rattle.lq_table.specs.Ended.{EndedState, ended_state}
 use Rattle.lq_table.specs.declared.ended.Closed.{Closed}
-use Rattle.lq_senders.specs.Lanes.{AreReadyLanes}
+use Rattle.lq_senders.specs.Senders.{AreReadySenders}
 use Rattle.lq_senders.specs.Setup.{AreSplitting, AreUnitsReady}
 use Rattle.lq_senders.specs.Units.{by_unit}
 use Rattle.lq_senders.specs.Woken.{opens_by}
 use Rattle.lq_senders.proofs.HandsBack.{HasRun, IsGivenBack, at-home, boxes-given, closed-many, fates-given, stays-given}
 use Rattle.lq_senders.proofs.Prepared.{are-over}
 use Rattle.lq_senders.proofs.WordsTold.{tell-each, told-read}
-use Rattle.lq_senders.proofs.Splits.{are-first, lane-stands, splitting-opened}
+use Rattle.lq_senders.proofs.Splits.{are-first, sender-stands, splitting-opened}
 use Rattle.lq_senders.proofs.send.send_ready.Given as given
 use Rattle.lq_senders.proofs.send.send_ready.Goals as goal
-use Rattle.lq_senders.proofs.send.send_ready.Goals.{After-split_lanes, After-runs_keep_boxes, After-hand_back}
+use Rattle.lq_senders.proofs.send.send_ready.Goals.{After-split_senders, After-runs_keep_boxes, After-hand_back}
 
 -- THE RUN BEGINS
 
-pub split_lanes-requires-clause-splitting : goal.split_lanes-requires-clause-splitting
-split_lanes-requires-clause-splitting g c κs within =
+pub split_senders-requires-clause-splitting : goal.split_senders-requires-clause-splitting
+split_senders-requires-clause-splitting g c κs within =
     let ready = c.requires.ready.1 in let plan = c.args.job.now.plan.now in let infos = c.args.job.now.infos.now in
     let stations = c.args.units.stations in let has_sender = c.stays_within_limits.ensures.has_sender in
     subst (λ (ts : List TableState). AreSplitting plan infos 1 ts stations.seats.items) (sym c.as_slice.ensures.value)
     (splitting-opened plan infos ready.devices stations.tables.items stations.seats.items has_sender ready.all ready.opened)
 
 -- the seats and devices that the run begins with, over a bench that made them ready
-over : (g : given.Over) (c : After-split_lanes g) (before : List DeviceState)
+over : (g : given.Over) (c : After-split_senders g) (before : List DeviceState)
     → AreUnitsReady g.D.TxDevice.state c.args.job.now.plan.now c.args.job.now.infos.now before c.args.units
-    → AreOver c.args.job.now.plan.now c.args.job.now.infos.now before (length c.split_lanes.new.lanes.items) c.split_lanes.new.seats.items
+    → AreOver c.args.job.now.plan.now c.args.job.now.infos.now before (length c.split_senders.new.others.items) c.split_senders.new.seats.items
     (map g.D.TxDevice.state c.args.units.spares.items)
 over g c before ready =
-    let stations = c.args.units.stations in let split = c.split_lanes.ensures in
+    let stations = c.args.units.stations in let split = c.split_senders.ensures in
     are-over c.args.job.now.plan.now c.args.job.now.infos.now before stations.tables.items stations.seats.items
-    (map g.D.TxDevice.state c.args.units.spares.items) ready c.split_lanes.new.seats.items split.devices
-    (length c.split_lanes.new.lanes.items) split.one_each split.alone
+    (map g.D.TxDevice.state c.args.units.spares.items) ready c.split_senders.new.seats.items split.devices
+    (length c.split_senders.new.others.items) split.one_each split.alone
 
 pub run-spares-requires-clause-first : goal.run-spares-requires-clause-first
 run-spares-requires-clause-first g c κs within =
     let plan = c.args.job.now.plan.now in let infos = c.args.job.now.infos.now in
-    let tables = c.args.units.stations.tables.items in let seats = c.split_lanes.new.seats.items in let split = c.split_lanes.ensures in
+    let tables = c.args.units.stations.tables.items in let seats = c.split_senders.new.seats.items in let split = c.split_senders.ensures in
     let now = subst (λ (ts : List TableState). AreSplitting plan infos plan.senders ts seats) c.as_slice.ensures.value split.splitting in
-    let stands = lane-stands plan infos tables seats c.stays_within_limits.ensures.has_sender now in
-    (stands, are-first plan infos (length c.split_lanes.new.lanes.items) tables seats split.one_each now)
+    let stands = sender-stands plan infos tables seats c.stays_within_limits.ensures.has_sender now in
+    (stands, are-first plan infos (length c.split_senders.new.others.items) tables seats split.one_each now)
 
 pub run-spares-requires-clause-devices : goal.run-spares-requires-clause-devices
 run-spares-requires-clause-devices g c κs within =
-    let over = over g (goal.at.run-spares-requires-clause-devices g c).After-split_lanes c.requires.ready.0 c.requires.ready.1 in
+    let over = over g (goal.at.run-spares-requires-clause-devices g c).After-split_senders c.requires.ready.0 c.requires.ready.1 in
     (over.units, over.stand)
 
 pub run-spares-requires-clause-others : goal.run-spares-requires-clause-others
 run-spares-requires-clause-others g c κs within =
-    let plan = c.args.job.now.plan.now in let infos = c.args.job.now.infos.now in let lanes = c.split_lanes.new.lanes.items in
-    subst (λ (ts : List TableState). AreReadyLanes plan infos ts lanes) c.as_slice.ensures.value c.split_lanes.ensures.ready
+    let plan = c.args.job.now.plan.now in let infos = c.args.job.now.infos.now in let others = c.split_senders.new.others.items in
+    subst (λ (ts : List TableState). AreReadySenders plan infos ts others) c.as_slice.ensures.value c.split_senders.ensures.ready
 
 -- THE RUN IS OVER
 
@@ -70,11 +70,11 @@ has_run : (g : given.Over) (c : After-runs_keep_boxes g)
 has_run g c =
     let plan = c.args.job.now.plan.now in let infos = c.args.job.now.infos.now in
     let opens = opens_by c.args.job.now.openings.now infos in
-    let others = length c.split_lanes.new.lanes.items in let start = c.split_lanes.new.seats.items in
+    let others = length c.split_senders.new.others.items in let start = c.split_senders.new.seats.items in
     let brought = map g.D.TxDevice.state c.args.units.spares.items in let closed = closed_states g c.run-spares.new.closed.items in
     let spares = map g.D.TxDevice.state c.run-spares.result.items in
     let sent = c.run-spares.ensures in let sendable = c.args.job.now.sendable in
-    let split : After-split_lanes g = c.before.before.before.before.before.before.before in let ready = c.requires.ready in
+    let split : After-split_senders g = c.before.before.before.before.before.before.before in let ready = c.requires.ready in
     record {
       one_a_station = closed-many plan infos opens others start brought closed spares sent;
       one_a_swap = let over = over g split ready.0 ready.1 in

@@ -1,7 +1,7 @@
 use Rattle.std.proofs.Common.{sym, ap, ◌∙◌, subst, arith}
 use Rattle.lq_model.specs.Plan.{is_at}
 use Rattle.lq_seat.specs.State.{IsHere, Setup, TableState}
-use Rattle.lq_senders.specs.Lanes.{AllDid, DoesEventAt, StandsAt}
+use Rattle.lq_senders.specs.Senders.{AllDid, DoesEventAt, StandsAt}
 use Rattle.lq_senders.proofs.Events.{all-called, all-keep, all-run, all-stand, may-do-at}
 use Rattle.lq_senders.proofs.Rounds.{all-did, none-did, one-more-did}
 use Rattle.lq_senders.proofs.Seats.{made-of, read-at}
@@ -14,8 +14,8 @@ loop-j-init g c = none-did (DoesEventAt c.args.e c.event-event.result) c.args.se
 there : (g : _) (c : goal.After-index_mut g)
     → StandsAt c.args.run.now.plan.now c.args.run.now.infos.now 0 c.args.e c.requires.stands.0 c.loop-j.j c.index-run-j.result c.index_mut.result.now
 there g c =
-    let lane = c.requires.stands.1 in let first = c.loop-j.invariant in let long = first.long in let same = lane.long in let test = c.loop-j-test.true in
-    lane.each c.loop-j.j c.index-run-j.result c.index_mut.result.now
+    let standing = c.requires.stands.1 in let first = c.loop-j.invariant in let long = first.long in let same = standing.long in let test = c.loop-j-test.true in
+    standing.each c.loop-j.j c.index-run-j.result c.index_mut.result.now
     (read-at c.args.run.now.tables.now c.loop-j.j c.index-run-j.result test c.index-run-j.is)
     (sym (first.rest c.loop-j.j (omega arith)) ∙ read-at c.loop-j.seats.items c.loop-j.j c.index_mut.result.now (omega arith) c.index_mut.ensures.value)
 
@@ -44,9 +44,9 @@ did g c =
     all-did (DoesEventAt c.args.e c.event-event.result) c.loop-j.j c.args.seats.now.items c.loop-j.seats.items (omega arith) c.loop-j.invariant
 
 pub returns-clause-stands : goal.returns-clause-stands
-returns-clause-stands g c n lane =
+returns-clause-stands g c n standing =
     all-stand c.args.run.now.plan.now c.args.run.now.infos.now c.args.e c.event-event.result c.event-event.ensures.event c.stays_within_limits.ensures.order c.stays_within_limits.ensures.stations
-    c.args.run.now.tables.now c.args.seats.now.items c.loop-j.seats.items (did g c) n lane
+    c.args.run.now.tables.now c.args.seats.now.items c.loop-j.seats.items (did g c) n standing
 
 pub returns-clause-keeps : goal.returns-clause-keeps
 returns-clause-keeps g c =

@@ -1,4 +1,4 @@
-use Rattle.lq_senders.specs.Lanes.{DoesEventAt, FirstDid}
+use Rattle.lq_senders.specs.Senders.{DoesEventAt, FirstDid}
 use Rattle.lq_senders.proofs.swaps.do_next_event.Given as goal
 
 abbrev pub invariant-loop-j : goal.invariant-loop-j

@@ -6,11 +6,11 @@ use Rattle.lq_model.specs.declared.device.Params.{Params}
 use Rattle.lq_model.specs.declared.plan.EventKind.{EventKind}
 use Rattle.lq_seat.specs.Calls.{DoesAlone, DoesSwap, MayDoEvent}
 use Rattle.lq_seat.specs.State.{HasServed, IsHere, SeatState, Setup, TableState, latest_unit, setup_of, station_count, units_of}
-use Rattle.lq_senders.specs.Lanes.{StandsAt}
+use Rattle.lq_senders.specs.Senders.{StandsAt}
 use Rattle.lq_senders.specs.Units.{DevicesStand, MayBeBrought}
 use Rattle.lq_senders.proofs.Calls.{called-set, swap-call}
 use Rattle.lq_senders.proofs.Orders.{may-do-next}
-use Rattle.lq_senders.proofs.Seats.{swap-changes, lane-event, made-of, runs-event, seat-at, stands-at, table-at}
+use Rattle.lq_senders.proofs.Seats.{swap-changes, sender-event, made-of, runs-event, seat-at, stands-at, table-at}
 use Rattle.lq_senders.proofs.Devices.{devices-swapped, first-comes, some-spare, spares-turned}
 use Rattle.lq_senders.proofs.Units.{swap-params, unit-on-trail, unit-within, units-few}
 use Rattle.lq_senders.proofs.swaps.swap_next.Goals as goal
@@ -60,15 +60,15 @@ did : (g : _) (c : goal.After-push_reserved g) (params : Params)
 did g c params = c.swap-old.ensures c.args.run.now.plan.now params (sym c.brought_unit-unit.ensures)
 
 pub returns-clause-stands : goal.returns-clause-stands
-returns-clause-stands g c n lane =
+returns-clause-stands g c n standing =
     let event = c.event-station.result in let station = event.station in let within = c.event-station.ensures.within.station in let at = c.event-station.ensures.event in
     let swap = swap-params event.kind (c.requires.swap event at) in
-    lane-event c.args.run.now.plan.now c.args.run.now.infos.now c.args.e n c.args.run.now.tables.now c.args.sender.now.seats.items event c.index-run-station.result c.index_mut.result.now c.swap-old.new.self
+    sender-event c.args.run.now.plan.now c.args.run.now.infos.now c.args.e n c.args.run.now.tables.now c.args.sender.now.seats.items event c.index-run-station.result c.index_mut.result.now c.swap-old.new.self
     at (c.requires.swap event at) (let few = c.stays_within_limits.ensures.stations in omega arith) c.stays_within_limits.ensures.order
-    (table-at c.args.run.now.plan.now c.args.run.now.infos.now 0 c.args.e n c.args.run.now.tables.now c.args.sender.now.seats.items lane station c.index-run-station.result within c.index-run-station.is)
-    (seat-at c.args.run.now.plan.now c.args.run.now.infos.now 0 c.args.e n c.args.run.now.tables.now c.args.sender.now.seats.items lane station c.index_mut.result.now within c.index_mut.ensures.value)
+    (table-at c.args.run.now.plan.now c.args.run.now.infos.now 0 c.args.e n c.args.run.now.tables.now c.args.sender.now.seats.items standing station c.index-run-station.result within c.index-run-station.is)
+    (seat-at c.args.run.now.plan.now c.args.run.now.infos.now 0 c.args.e n c.args.run.now.tables.now c.args.sender.now.seats.items standing station c.index_mut.result.now within c.index_mut.ensures.value)
     (swap-changes c.args.run.now.plan.now c.args.e event.kind swap.0 (g.D.TxDevice.state c.remove-device.result) (g.D.TxDevice.state c.swap-old.result) c.index_mut.result.now c.swap-old.new.self swap.1 (did g c swap.0))
-    lane
+    standing
 
 pub returns-clause-calls : goal.returns-clause-calls
 returns-clause-calls g c =
@@ -101,12 +101,12 @@ returns-clause-devices g c units stand =
 
 pub returns-clause-runs : goal.returns-clause-runs
 returns-clause-runs g c units stand tell stations runs =
-    let event = c.event-station.result in let station = event.station in let within = c.event-station.ensures.within.station in let at = c.event-station.ensures.event in let lane = c.requires.stands.1 in
+    let event = c.event-station.result in let station = event.station in let within = c.event-station.ensures.within.station in let at = c.event-station.ensures.event in let standing = c.requires.stands.1 in
     let swap = swap-params event.kind (c.requires.swap event at) in let t = c.index-run-station.result in
     runs-event c.args.run.now.plan.now c.args.run.now.infos.now c.args.e c.requires.stands.0 c.args.run.now.tables.now c.args.sender.now.seats.items stations event t c.index_mut.result.now c.swap-old.new.self
     at (c.requires.swap event at)
-    (table-at c.args.run.now.plan.now c.args.run.now.infos.now 0 c.args.e c.requires.stands.0 c.args.run.now.tables.now c.args.sender.now.seats.items lane station t within c.index-run-station.is)
-    (seat-at c.args.run.now.plan.now c.args.run.now.infos.now 0 c.args.e c.requires.stands.0 c.args.run.now.tables.now c.args.sender.now.seats.items lane station c.index_mut.result.now within c.index_mut.ensures.value)
+    (table-at c.args.run.now.plan.now c.args.run.now.infos.now 0 c.args.e c.requires.stands.0 c.args.run.now.tables.now c.args.sender.now.seats.items standing station t within c.index-run-station.is)
+    (seat-at c.args.run.now.plan.now c.args.run.now.infos.now 0 c.args.e c.requires.stands.0 c.args.run.now.tables.now c.args.sender.now.seats.items standing station c.index_mut.result.now within c.index_mut.ensures.value)
     (subst (λ (k : EventKind). DoesAlone (λ s. served c.index_mut.result.now.made.infos (changed c.args.run.now.plan.now c.args.e k s)) c.index_mut.result.now c.swap-old.new.self) (sym swap.1)
     ((did g c swap.0).alone (tell c.args.e event swap.0 (g.D.TxDevice.state c.remove-device.result) at swap.1 (first-comes c.args.run.now.plan.now c.args.run.now.infos.now units g.D.TxDevice.state c.args.e event c.args.sender.now.seats.items c.args.sender.now.spares.items c.remove-device.result at (c.requires.swap event at) c.remove-device.ensures.value stand))))
-    lane runs
+    standing runs

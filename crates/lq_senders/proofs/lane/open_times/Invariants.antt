@@ -1,5 +1,0 @@
-use Rattle.lq_senders.proofs.OpenedTimes.{AreOpenedTimes}
-use Rattle.lq_senders.proofs.lane.open_times.Given as goal
-
-abbrev pub invariant-loop-time : goal.invariant-loop-time
-invariant-loop-time g l = AreOpenedTimes l.run.plan.now l.run.infos.now l.run.tables.now l._time l.fn.seats.items l.seats.items
