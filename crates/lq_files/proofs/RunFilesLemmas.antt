@@ -1,5 +1,5 @@
 -- What is written of a run and of a tap, from what its parts are.
-use Rattle.std.proofs.Common.{◌≡◌, ◌⊎◌, ◌++◌, ◌∷◌, [], ℕ, List, length, refl, sym, ap, ◌∙◌, subst, inl, inr}
+use Rattle.std.proofs.Common.{◌≡◌, ◌⊎◌, ◌++◌, ◌∷◌, ℕ, List, length, refl, sym, ap, ◌∙◌, subst, inl, inr}
 use Rattle.lq_fates.specs.Counts.{AreCounts}
 use Rattle.lq_fates.specs.declared.counts.Counts.{Counts}
 use Rattle.lq_model.specs.Plan.{Plan, infos_of, unit_count}

@@ -1,11 +1,13 @@
 //! Texts that are written in pieces of 65,536 bytes, the last one shorter.
 ghost use Rattle.std.specs.Prelude.{◌≡◌, ◌*◌, ◌++◌, ◌≤◌, ◌<◌, [], ℕ, drop, length, take, vec_len, OnOk, OnErr};
 ghost use Rattle.lq_host.specs.Host.{IsWriter, wrote};
+ghost use Rattle.lq_wire.specs.Page.{page_text};
 ghost use Rattle.lq_files.specs.Parts.{IsFront, IsStreamed};
 ghost use Rattle.lq_files.specs.Stop.{StopsFor};
 
 use crate::answer::Stop;
 use lq_host::Host;
+use lq_wire::Page;
 
 /// Bytes that are written at once.
 pub const PIECE: usize = 65_536;
@@ -57,6 +59,27 @@ pub fn write_whole_pieces<H: Host>(host: &mut H, h: u32, buffer: &mut Vec<u8>) -
     let whole = buffer.len() / PIECE * PIECE;
     write_text(host, h, &buffer[..whole])?;
     drop_front(buffer, whole);
+    Ok(())
+}
+
+/// Writes the whole pieces of a page to a handle, and keeps the bytes behind them. Where it stops, a prefix of the page was written.
+pub fn write_whole_page<H: Host>(host: &mut H, h: u32, page: &mut Page) -> Result<(), Stop>
+    requires { IsWriter ((H.state host.old).handles h) }
+    ensures handles { (H.state host.new).handles ≡ (H.state host.old).handles }
+    ensures ok { OnOk result ((k : ℕ)
+        × (H.state host.new ≡ wrote (H.state host.old) h (take (k * PIECE) (page_text page.old)))
+        × (page_text page.new ≡ drop (k * PIECE) (page_text page.old))) }
+    ensures err { OnErr result ((n : ℕ) × (n ≤ length (page_text page.old))
+        × (H.state host.new ≡ wrote (H.state host.old) h (take n (page_text page.old)))) }
+    ensures cause { StopsFor (H.fault_count host.old) (H.fault_count host.new) result }
+{
+    let text = page.text();
+    if text.len() < PIECE {
+        return Ok(());
+    }
+    let whole = text.len() / PIECE * PIECE;
+    write_text(host, h, &text[..whole])?;
+    page.drop_front(whole);
     Ok(())
 }
 

@@ -8,6 +8,7 @@ ghost use Rattle.lq_model.specs.Wire.{flights_of_card};
 ghost use Rattle.lq_model.specs.declared.plan.StationPlan.{StationPlan as Station};
 ghost use Rattle.lq_pcapng.specs.File.{packets_of_file};
 ghost use Rattle.lq_plan.specs.Packets.{IsInfoWithin};
+ghost use Rattle.lq_wire.specs.Page.{page_text};
 ghost use Rattle.lq_wire.specs.Times.{IsBeforePacket};
 ghost use Rattle.lq_files.specs.Parts.{IsFront};
 ghost use Rattle.lq_files.specs.RunFiles.{card_told, times_files, times_name};
@@ -15,13 +16,13 @@ ghost use Rattle.lq_files.specs.Stop.{StopsFor};
 ghost use Rattle.lq_files.specs.Written.{FileIsCut, FilesAreCut, files_written};
 
 use crate::answer::{Stop, and_finished};
-use crate::pieces::{PIECE, write_text, write_whole_pieces};
+use crate::pieces::{PIECE, write_text, write_whole_page};
 use crate::report::RunInputs;
 use lq_host::Host;
 use lq_model::{Card, Info};
 use lq_pcap::Frames;
 use lq_plan::Plan;
-use lq_wire::Times;
+use lq_wire::{Page, Times};
 use std::alloc::{AllocError, Global};
 
 /// The name of the file that tells the times.
@@ -51,12 +52,12 @@ fn write_turns<H: Host>(
     card: Card,
     infos: &[Info],
     mut times: Times,
-    mut rest: Vec<u8>,
+    mut rest: Page,
 ) -> Result<(), Stop>
     requires writer { IsWriter ((H.state host.old).handles h) }
     requires at { (station : Station) × FitsCard run.now.plan.now infos.now station × IsBeforePacket times card run.now.plan.now (packets_of_file run.now.capture.now) infos.now station 0 }
     requires count { length infos.now ≡ (packets_of_file run.now.capture.now).count }
-    requires empty { rest.items ≡ [] }
+    requires empty { page_text rest ≡ [] }
     ensures handles { (H.state host.new).handles ≡ (H.state host.old).handles }
     ensures ok { OnOk result (H.state host.new
         ≡ wrote (H.state host.old) h (times_text card (flights_of_card card run.now.plan.now (packets_of_file run.now.capture.now) infos.now))) }
@@ -66,9 +67,9 @@ fn write_turns<H: Host>(
 {
     for n in 0..run.capture.len() {
         times.push_turn(&mut rest, run.plan, card, infos, run.capture, n)?;
-        write_whole_pieces(host, h, &mut rest)?;
+        write_whole_page(host, h, &mut rest)?;
     }
-    write_text(host, h, &rest)
+    write_text(host, h, rest.text())
 }
 
 /// Makes a file of those lines. Where it stops, the file is as before, or has a prefix of them.
@@ -79,12 +80,12 @@ fn write_times_file<H: Host>(
     card: Card,
     infos: &[Info],
     times: Times,
-    rest: Vec<u8>,
+    rest: Page,
 ) -> Result<(), Stop>
     requires may { H.may_create name.now }
     requires at { (station : Station) × FitsCard run.now.plan.now infos.now station × IsBeforePacket times card run.now.plan.now (packets_of_file run.now.capture.now) infos.now station 0 }
     requires count { length infos.now ≡ (packets_of_file run.now.capture.now).count }
-    requires empty { rest.items ≡ [] }
+    requires empty { page_text rest ≡ [] }
     ensures handles { (H.state host.new).handles ≡ (H.state host.old).handles }
     ensures ok { OnOk result (H.state host.new
         ≡ filed (H.state host.old) name.now (times_text card (flights_of_card card run.now.plan.now (packets_of_file run.now.capture.now) infos.now))) }
@@ -117,7 +118,7 @@ fn write_times_of<H: Host>(
         (H.state host.old) (H.state host.new)) }
     ensures cause { StopsFor (H.fault_count host.old) (H.fault_count host.new) result }
 {
-    let rest = Vec::with_capacity(alloc, PIECE)?;
+    let rest = Page::new(alloc, 2 * PIECE)?;
     let name = name_of_times(alloc, run.out)?;
     let times = Times::new(alloc, run.plan, card, infos, run.capture);
     write_times_file(host, name.as_str(), run, card, infos, times, rest)

@@ -6,3 +6,5 @@ pub mod Wired
 pub mod Times
 -- the line of three numbers
 pub mod Lines
+-- a text with room behind it
+pub mod Page

@@ -7,11 +7,13 @@
 
 mod line;
 mod opens;
+mod page;
 mod pass;
 mod times;
 mod wire;
 mod wired;
 
 pub use opens::openings_of_plan;
+pub use page::Page;
 pub use pass::times_of_wire;
 pub use times::Times;

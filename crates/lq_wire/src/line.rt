@@ -2,7 +2,9 @@
 ghost use Rattle.std.specs.Prelude.{◌≡◌, ◌++◌, ◌+◌, ◌<◌, ◌≤◌, ◌^◌, ◌∷◌, [], OnOk, codes, drop, length};
 ghost use Rattle.std.specs.Fmt.{decimal};
 ghost use Rattle.lq_wire.specs.Lines.{numbers_line};
+ghost use Rattle.lq_wire.specs.Page.{page_text};
 
+use crate::page::Page;
 use itoa::{Buffer, write_digits};
 use std::alloc::AllocError;
 
@@ -14,12 +16,12 @@ const WORD: u128 = 0xffff_ffff_ffff_ffff;
 
 /// The line of three numbers.
 pub(crate) fn push_numbers(
-    text: &mut Vec<u8>,
+    text: &mut Page,
     first: u32,
     second: u128,
     third: u128,
 ) -> Result<(), AllocError>
-    ensures { OnOk result (text.new.items ≡ text.old.items ++ numbers_line first second third) }
+    ensures { OnOk result (page_text text.new ≡ page_text text.old ++ numbers_line first second third) }
 {
     if second > WORD || third > WORD {
         return push_long(text, first, second, third);
@@ -27,25 +29,25 @@ pub(crate) fn push_numbers(
     let mut line = [0; LINE];
     let line: &mut [u8] = &mut line;
     let start = lay_line(line, first, second as u64, third as u64);
-    text.extend_from_slice(&line[start..])
+    text.push(&line[start..])
 }
 
 // The same, number by number.
-fn push_long(text: &mut Vec<u8>, first: u32, second: u128, third: u128) -> Result<(), AllocError>
-    ensures { OnOk result (text.new.items ≡ text.old.items ++ numbers_line first second third) }
+fn push_long(text: &mut Page, first: u32, second: u128, third: u128) -> Result<(), AllocError>
+    ensures { OnOk result (page_text text.new ≡ page_text text.old ++ numbers_line first second third) }
 {
     push_number(text, u128::from(first))?;
-    text.extend_from_slice(b" ")?;
+    text.push(b" ")?;
     push_number(text, second)?;
-    text.extend_from_slice(b" ")?;
+    text.push(b" ")?;
     push_number(text, third)?;
-    text.extend_from_slice(b"\n")
+    text.push(b"\n")
 }
 
-fn push_number(text: &mut Vec<u8>, number: u128) -> Result<(), AllocError>
-    ensures { OnOk result (text.new.items ≡ text.old.items ++ decimal number) }
+fn push_number(text: &mut Page, number: u128) -> Result<(), AllocError>
+    ensures { OnOk result (page_text text.new ≡ page_text text.old ++ decimal number) }
 {
-    text.extend_from_slice(Buffer::new().format(number).as_bytes())
+    text.push(Buffer::new().format(number).as_bytes())
 }
 
 // Writes the line so that it ends at the end of `line`, and gives where it starts.

@@ -4,9 +4,11 @@ ghost use Rattle.std.specs.Fmt.{decimal};
 ghost use Rattle.lq_model.specs.Texts.{time_line, times_text};
 ghost use Rattle.lq_model.specs.declared.plan.StationPlan.{StationPlan as Station};
 ghost use Rattle.lq_card_laws.specs.Laws.{FitsCard};
+ghost use Rattle.lq_wire.specs.Page.{page_text};
 ghost use Rattle.lq_wire.specs.Times.{HasGone, IsBeforePacket, lines_left};
 
 use crate::line::push_numbers;
+use crate::page::Page;
 use crate::pass::{finish, first_time, turn};
 use crate::wired::Wired;
 use lq_model::{Card, Flight, Info};
@@ -17,12 +19,17 @@ use std::alloc::{AllocError, Global};
 /// The greatest number of 64 bits.
 const WORD: u128 = 0xffff_ffff_ffff_ffff;
 
+/// The greatest number of 32 bits.
+const HALF: u64 = 0xffff_ffff;
+
 /// A pass over the packets of a plan with a card that tells the packets which the card accepted, in that order.
 #[derive(Drop)]
 pub struct Times {
     pub wired: Wired,
     /// The time of the next packet.
     pub time: u128,
+    /// When the last frame ended that was told, in nanoseconds.
+    pub ended: u64,
 }
 
 impl Times {
@@ -40,6 +47,7 @@ impl Times {
         Times {
             wired: Wired::new(alloc, card, plan.station(0)),
             time: first_time(frames),
+            ended: 0,
         }
     }
 
@@ -72,7 +80,7 @@ impl Times {
     /// There was no room for the lines, or for the packets that wait or are in the driver's ring.
     pub fn push_turn<F: Frames>(
         &mut self,
-        text: &mut Vec<u8>,
+        text: &mut Page,
         plan: &Plan,
         card: Card,
         infos: &[Info],
@@ -86,48 +94,70 @@ impl Times {
         ensures at { OnOk result ((station : Station) → FitsCard plan.now infos.now station → IsBeforePacket self.old card plan.now (F.packets frames.now) infos.now station n
             → IsBeforePacket self.new card plan.now (F.packets frames.now) infos.now station (n + 1)) }
         ensures tells { OnOk result ((station : Station) → FitsCard plan.now infos.now station → IsBeforePacket self.old card plan.now (F.packets frames.now) infos.now station n
-            → text.new.items ++ lines_left card plan.now (F.packets frames.now) infos.now station (n + 1) ≡ text.old.items ++ lines_left card plan.now (F.packets frames.now) infos.now station n) }
+            → page_text text.new ++ lines_left card plan.now (F.packets frames.now) infos.now station (n + 1) ≡ page_text text.old ++ lines_left card plan.now (F.packets frames.now) infos.now station n) }
     {
         let from = self.time.min(WORD) as u64;
         self.go_on(plan, infos, frames, n)?;
-        push_lines(text, card, from, &self.wired.wire.untold)?;
+        let mut ended = self.ended;
+        push_lines(text, card, from, &mut ended, &self.wired.wire.untold)?;
         self.wired.tell_all();
+        self.ended = ended;
         Ok(())
     }
 }
 
-// A line for each of these packets, none of which was accepted long after a time.
+// A line for each of these packets, none of which was accepted long after a time, nor ended long after another one.
 fn push_lines(
-    text: &mut Vec<u8>,
+    text: &mut Page,
     card: Card,
     from: u64,
+    ended: &mut u64,
     flights: &[Flight],
 ) -> Result<(), AllocError>
-    ensures { OnOk result (text.new.items ≡ text.old.items ++ times_text card flights.now) }
+    ensures { OnOk result (page_text text.new ≡ page_text text.old ++ times_text card flights.now) }
 {
     for flight in flights {
-        push_line(text, card, from, flight)?;
+        push_line(text, card, from, ended, flight)?;
     }
     Ok(())
 }
 
 // The line of a packet.
-fn push_line(text: &mut Vec<u8>, card: Card, from: u64, flight: &Flight) -> Result<(), AllocError>
-    ensures { OnOk result (text.new.items ≡ text.old.items ++ time_line card flight.now) }
+fn push_line(
+    text: &mut Page,
+    card: Card,
+    from: u64,
+    ended: &mut u64,
+    flight: &Flight,
+) -> Result<(), AllocError>
+    ensures { OnOk result (page_text text.new ≡ page_text text.old ++ time_line card flight.now) }
 {
     let accepted = nanoseconds(card, from, flight.accepted);
-    let ends = nanoseconds(card, from, flight.ends);
+    let ends = nanoseconds(card, *ended, flight.ends);
+    *ended = ends.min(WORD) as u64;
     push_numbers(text, flight.number, accepted, ends)
 }
 
-// A moment in nanoseconds, rounded down. What lies behind a time that isn't long before it is divided in 64 bits.
+// A moment in nanoseconds, rounded down. What lies behind a time that isn't long before it is divided in 32 or 64 bits.
 fn nanoseconds(card: Card, from: u64, moment: u128) -> u128
     ensures { result ≡ moment / card.rate_kbit }
 {
     let rate = card.rate_kbit as u64;
     let start = from as u128 * rate as u128;
     if rate > 0 && start <= moment && moment - start <= WORD {
-        return from as u128 + ((moment - start) as u64 / rate) as u128;
+        return from as u128 + divided((moment - start) as u64, card.rate_kbit) as u128;
     }
     moment.checked_div(rate as u128).unwrap_or(0)
+}
+
+// A number divided, rounded down: in 32 bits where it has no more, which takes a processor less time.
+fn divided(number: u64, rate: u32) -> u64
+    requires { 0 < rate }
+    ensures { result ≡ number / rate }
+{
+    if number <= HALF {
+        (number as u32 / rate) as u64
+    } else {
+        number / rate as u64
+    }
 }

@@ -1,9 +1,8 @@
-use Rattle.std.proofs.Common.{◌≡◌, ◌++◌, ◌∙◌, ℕ, List, ap, inr, length, subst}
+use Rattle.std.proofs.Common.{◌++◌, ◌∙◌, ℕ, List, ap, inr, length, subst}
 use Rattle.std.proofs.lemmas.Result.{on_err_weaker, on_ok_weaker}
 use Rattle.lq_host.specs.Host.{wrote}
 use Rattle.lq_model.specs.Plan.{unit_count}
 use Rattle.lq_files.specs.Groups.{mq_lines}
-use Rattle.lq_files.specs.RunFiles.{counts_output}
 use Rattle.lq_files.specs.Written.{OutputHasPrefix}
 use Rattle.lq_files.proofs.outputs.write_counted.Goals as goal
 

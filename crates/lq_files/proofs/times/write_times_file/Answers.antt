@@ -1,8 +1,10 @@
-use Rattle.lq_host.specs.Host.{Writes}
+use Rattle.std.proofs.Common.{◌≡◌, ◌⊎◌, inl, inr, ℕ, List, [], arith}
+use Rattle.lq_host.specs.Host.{HostState, Writes, filed}
 use Rattle.lq_host.proofs.HostLemmas.{opened-writer, opened-is_some}
 use Rattle.lq_model.specs.Texts.{times_text}
 use Rattle.lq_model.specs.Wire.{flights_of_card}
 use Rattle.lq_pcapng.specs.File.{packets_of_file}
+use Rattle.lq_files.specs.Written.{FileIsCut}
 use Rattle.lq_files.proofs.MoveLemmas.{on_err_any}
 use Rattle.lq_files.proofs.PieceLemmas.{IsFinished, finished}
 use Rattle.lq_files.proofs.times.write_times_file.Given as given
@@ -17,6 +19,14 @@ pub finish-end-requires-clause-open : goal.finish-end-requires-clause-open
 finish-end-requires-clause-open g c =
     rw c.write_turns-lines.ensures.handles
     (opened-is_some _ (g.H.Host.state c.create.new.self) c.in_ok-h.h (Writes c.args.name.now) c.in_ok-h.ensures.ok)
+
+-- the file wasn't made, or has nothing of the text
+not-made : (name text : List ℕ) (old new : HostState) → (new ≡ old) ⊎ (new ≡ filed old name []) → FileIsCut name text old new
+not-made name text old new (inl same) = inl same
+not-made name text old new (inr made) = inr (0, omega arith, made)
+
+pub returns-in_err-h-clause-err : goal.returns-in_err-h-clause-err
+returns-in_err-h-clause-err g c = on_err_any c.from_residual.result (not-made c.args.name.now _ (g.H.Host.state c.args.host.now) (g.H.Host.state c.create.new.self) c.in_err-h.ensures.err)
 
 -- what is known of the file once it was finished
 file : (g : given.Over) (c : After-finish-end g)

@@ -1,4 +1,4 @@
-use Rattle.std.proofs.Common.{◌<◌, ◌∙◌, ℕ, List, Vec, Global, ap, arith, length, sym, add-one}
+use Rattle.std.proofs.Common.{◌∙◌, ℕ, List, Vec, Global, ap, arith, sym, add-one}
 use Rattle.lq_files.specs.RunFiles.{unit_files}
 use Rattle.lq_files.specs.Written.{files_written}
 use Rattle.lq_files.proofs.FileLemmas.{cut_at, whole_more}
