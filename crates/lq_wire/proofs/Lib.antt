@@ -4,6 +4,8 @@ pub mod OnOk
 pub mod Left
 -- steps of a station with its card
 pub mod Stepped
+-- how many packets wait
+pub mod Waits
 -- openings and interrupts, one after the other
 pub mod Openings
 -- events before a packet
@@ -18,5 +20,7 @@ pub mod Turns
 pub mod Fits
 -- lines of packets, one after the other
 pub mod Lines
+-- a number whose last digits are written behind others
+pub mod Digits
 -- the packets that a card accepted, turn by turn
 pub mod Flights

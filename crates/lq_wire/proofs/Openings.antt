@@ -1,9 +1,10 @@
 -- Openings and interrupts, one after the other.
-use Rattle.std.proofs.Common.{◌≡◌, ℕ, zero, suc, ◌+◌, ◌-◌, ◌<◌, ◌&&◌, Bool, true, false, List, [], ◌∷◌, Some, None, refl, sym, ap, subst, ◌∙◌, arith}
+use Rattle.std.proofs.Common.{◌≡◌, ℕ, zero, suc, ◌+◌, ◌-◌, ◌<◌, ◌&&◌, Bool, true, false, List, [], ◌∷◌, Some, None, length, refl, sym, ap, subst, ◌∙◌, arith}
 use Rattle.std.proofs.lemmas.Bool.{cond-false, cond-true}
+use Rattle.lq_model.specs.Account.{held}
 use Rattle.lq_model.specs.Alone.{opened, served}
 use Rattle.lq_model.specs.Capture.{Packets}
-use Rattle.lq_model.specs.Wire.{OpenedSoFar, delay, ring_has_room, interrupted, interrupted_while, is_shut, next_interrupt, opened_while, made_at}
+use Rattle.lq_model.specs.Wire.{OpenedSoFar, delay, ring_has_room, interrupted, interrupted_while, is_shut, next_interrupt, opened_at, opened_while, made_at}
 use Rattle.lq_model.specs.declared.fate.Info.{Info}
 use Rattle.lq_model.specs.declared.flight.Flight.{Flight}
 use Rattle.lq_model.specs.declared.plan.Card.{Card}
@@ -50,6 +51,30 @@ module _ (card : Card) (packets : Packets) (infos : List Info) where
 
   pub opens-done : (now left count : ℕ) (last first : OpenedSoFar) (m : Linked) → OpensOn card packets infos now last first left count m → left ≡ 0 → HasOpened last first count m
   opens-done now left count last first m on none = opens-end now count last first m (subst (λ (k : ℕ). OpensOn card packets infos now last first k count m) none on)
+
+  -- none
+  pub opens-none : (now : ℕ) (o : OpenedSoFar) (m : Linked) → IsWired m o.wired → may-open o ≡ false → HasOpened (opened_at card packets infos now o) o 0 m
+  unfolding opens-first
+  opens-none now o m wired shut =
+      let left = length (held o.wired.station.account) + 1 in opens-stop now left 0 (opened_at card packets infos now o) o m (opens-first now left o m wired) shut
+
+  -- the first one
+  pub opens-once : (now : ℕ) (o : OpenedSoFar) (m mid : Linked) → IsWired m o.wired → may-open o ≡ true → StepsTo card packets now (λ s. served infos (opened s)) o.wired mid
+      → OpensOn card packets infos now (opened_at card packets infos now o) o (length (held o.wired.station.account)) 1 mid
+  unfolding opens-first
+  opens-once now o m mid wired may steps =
+      let left = length (held o.wired.station.account) in let same : left + 1 - 1 ≡ left = omega arith in let some : 0 < left + 1 = omega arith in
+      subst (λ (k : ℕ). OpensOn card packets infos now (opened_at card packets infos now o) o k 1 mid) same
+      (opens-next now (left + 1) 0 (opened_at card packets infos now o) o m mid (opens-first now (left + 1) o m wired) some may steps)
+
+  -- those that are left, from there on
+  pub opens-rest : (now left rest count more : ℕ) (last first : OpenedSoFar) (m new : Linked) (on : OpensOn card packets infos now last first left count m) → left ≡ rest
+      → HasOpened (opened_while card packets infos now rest on.here) on.here more new → HasOpened last first (more + count) new
+  opens-rest now left rest count more last first m new on same has =
+      let is = on.same ∙ ap (λ (k : ℕ). opened_while card packets infos now k on.here) same in record {
+        wired = subst (λ (o : OpenedSoFar). IsWired new o.wired) (sym is) has.wired;
+        times = let all = ap (λ (o : OpenedSoFar). o.times) is in let before = on.opened.times in let after = has.times in omega arith;
+      }
 
   -- INTERRUPTS
 

@@ -9,6 +9,7 @@ mod line;
 mod opens;
 mod page;
 mod pass;
+mod stamp;
 mod times;
 mod wire;
 mod wired;

@@ -5,6 +5,7 @@ ghost use Rattle.lq_wire.specs.Lines.{numbers_line};
 ghost use Rattle.lq_wire.specs.Page.{page_text};
 
 use crate::page::Page;
+use crate::stamp::Stamps;
 use itoa::{Buffer, write_digits};
 use std::alloc::AllocError;
 
@@ -17,6 +18,7 @@ const WORD: u128 = 0xffff_ffff_ffff_ffff;
 /// The line of three numbers.
 pub(crate) fn push_numbers(
     text: &mut Page,
+    stamps: &mut Stamps,
     first: u32,
     second: u128,
     third: u128,
@@ -28,7 +30,7 @@ pub(crate) fn push_numbers(
     }
     let mut line = [0; LINE];
     let line: &mut [u8] = &mut line;
-    let start = lay_line(line, first, second as u64, third as u64);
+    let start = lay_line(line, stamps, first, second as u64, third as u64);
     text.push(&line[start..])
 }
 
@@ -51,16 +53,16 @@ fn push_number(text: &mut Page, number: u128) -> Result<(), AllocError>
 }
 
 // Writes the line so that it ends at the end of `line`, and gives where it starts.
-fn lay_line(line: &mut [u8], first: u32, second: u64, third: u64) -> usize
+fn lay_line(line: &mut [u8], stamps: &mut Stamps, first: u32, second: u64, third: u64) -> usize
     requires { length line.old ≡ 64 }
     ensures start { result ≤ 64 }
     ensures written { drop result line.new ≡ numbers_line first second third }
     ensures len { length line.new ≡ 64 }
 {
     let end = lay_byte(line, b'\n', LINE);
-    let at = lay_number(line, third, end);
+    let at = stamps.ended.lay(line, third, end);
     let end = lay_byte(line, b' ', at);
-    let at = lay_number(line, second, end);
+    let at = stamps.accepted.lay(line, second, end);
     let end = lay_byte(line, b' ', at);
     lay_number(line, first as u64, end)
 }

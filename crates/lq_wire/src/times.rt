@@ -10,6 +10,7 @@ ghost use Rattle.lq_wire.specs.Times.{HasGone, IsBeforePacket, lines_left};
 use crate::line::push_numbers;
 use crate::page::Page;
 use crate::pass::{finish, first_time, turn};
+use crate::stamp::Stamps;
 use crate::wired::Wired;
 use lq_model::{Card, Flight, Info};
 use lq_pcap::Frames;
@@ -28,8 +29,7 @@ pub struct Times {
     pub wired: Wired,
     /// The time of the next packet.
     pub time: u128,
-    /// When the last frame ended that was told, in nanoseconds.
-    pub ended: u64,
+    pub stamps: Stamps,
 }
 
 impl Times {
@@ -47,7 +47,7 @@ impl Times {
         Times {
             wired: Wired::new(alloc, card, plan.station(0)),
             time: first_time(frames),
-            ended: 0,
+            stamps: Stamps::new(),
         }
     }
 
@@ -98,10 +98,8 @@ impl Times {
     {
         let from = self.time.min(WORD) as u64;
         self.go_on(plan, infos, frames, n)?;
-        let mut ended = self.ended;
-        push_lines(text, card, from, &mut ended, &self.wired.wire.untold)?;
+        push_lines(text, &mut self.stamps, card, from, &self.wired.wire.untold)?;
         self.wired.tell_all();
-        self.ended = ended;
         Ok(())
     }
 }
@@ -109,15 +107,15 @@ impl Times {
 // A line for each of these packets, none of which was accepted long after a time, nor ended long after another one.
 fn push_lines(
     text: &mut Page,
+    stamps: &mut Stamps,
     card: Card,
     from: u64,
-    ended: &mut u64,
     flights: &[Flight],
 ) -> Result<(), AllocError>
     ensures { OnOk result (page_text text.new ≡ page_text text.old ++ times_text card flights.now) }
 {
     for flight in flights {
-        push_line(text, card, from, ended, flight)?;
+        push_line(text, stamps, card, from, flight)?;
     }
     Ok(())
 }
@@ -125,17 +123,17 @@ fn push_lines(
 // The line of a packet.
 fn push_line(
     text: &mut Page,
+    stamps: &mut Stamps,
     card: Card,
     from: u64,
-    ended: &mut u64,
     flight: &Flight,
 ) -> Result<(), AllocError>
     ensures { OnOk result (page_text text.new ≡ page_text text.old ++ time_line card flight.now) }
 {
     let accepted = nanoseconds(card, from, flight.accepted);
-    let ends = nanoseconds(card, *ended, flight.ends);
-    *ended = ends.min(WORD) as u64;
-    push_numbers(text, flight.number, accepted, ends)
+    let ends = nanoseconds(card, stamps.last, flight.ends);
+    stamps.last = ends.min(WORD) as u64;
+    push_numbers(text, stamps, flight.number, accepted, ends)
 }
 
 // A moment in nanoseconds, rounded down. What lies behind a time that isn't long before it is divided in 32 or 64 bits.

@@ -167,14 +167,18 @@ impl Wired {
         ensures bypass { IfOk result (λ times. self.new.station.bypass ≡ self.old.station.bypass) }
         ensures card { IfOk result (λ times. self.new.wire.card ≡ self.old.wire.card) }
     {
-        if self.may_open() {
-            self.open_more(frames, now)
-        } else {
-            Ok(0)
+        if !self.may_open() {
+            return Ok(0);
         }
+        self.open(frames, now)?;
+        if !self.may_open() {
+            return Ok(1);
+        }
+        let more = self.open_more(frames, now)?;
+        Ok(more + 1)
     }
 
-    // The same where it may be opened.
+    // The same. How many packets wait is counted.
     fn open_more<F: Frames>(&mut self, frames: &F, now: u128) -> Result<u32, AllocError>
         requires near { now ≤ latest self.old.wire.accepted }
         requires few { load self.old ≤ 1000000 }

@@ -9,7 +9,7 @@ use Rattle.lq_wire.proofs.times.Times.push_turn.Goals as goal
 use Rattle.lq_wire.proofs.times.Times.push_turn.Given as given
 
 -- the next packet's turn, before its packets are told
-gone : (g : given.Over) (c : goal.After-self-1 g) (station : StationPlan) → FitsCard c.args.plan.now c.args.infos.now station
+gone : (g : given.Over) (c : goal.After-tell_all g) (station : StationPlan) → FitsCard c.args.plan.now c.args.infos.now station
     → IsBeforePacket c.args.self.now c.args.card c.args.plan.now (g.F.Frames.packets c.args.frames.now) c.args.infos.now station c.args.n
     → HasGone c.go_on.new.self c.args.card c.args.plan.now (g.F.Frames.packets c.args.frames.now) c.args.infos.now station c.args.n
 gone g c station fits at =
@@ -21,7 +21,7 @@ pub returns-clause-at : goal.returns-clause-at
 returns-clause-at g c station fits at =
     let told = c.tell_all.ensures in
     gone-on c.args.card c.args.plan.now (g.F.Frames.packets c.args.frames.now) c.args.infos.now station c.args.n c.go_on.new.self
-    (record { wired = c.tell_all.new.self; time = c.go_on.new.self.time; ended = c.push_lines.new.ended }) (gone g c station fits at) told.told refl told.load told.bypass told.card
+    (record { wired = c.tell_all.new.self; time = c.go_on.new.self.time; stamps = c.push_lines.new.stamps }) (gone g c station fits at) (λ w h. told.told w (record { station = h.station; wire = record { ring = h.wire.ring; free = h.wire.free; flights = h.wire.flights } })) refl told.load told.bypass told.card
 
 pub returns-clause-tells : goal.returns-clause-tells
 returns-clause-tells g c station fits at =
