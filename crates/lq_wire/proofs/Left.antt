@@ -1,6 +1,6 @@
 -- What is taken back from a driver's ring.
-use Rattle.std.proofs.Common.{◌≡◌, ◌≤◌, All, Option, None, Some, ◌++◌, subst, sym, drop, ℕ, true, false, List, [], ◌∷◌, refl}
-use Rattle.std.proofs.lemmas.Bool.{cond-false, cond-true}
+use Rattle.std.proofs.Common.{◌≡◌, ◌≤◌, All, Option, None, Some, ◌++◌, subst, ℕ, false, List, [], ◌∷◌, refl}
+use Rattle.std.proofs.lemmas.Bool.{cond-false}
 use Rattle.std.proofs.lemmas.List.Elements.{All-drop}
 use Rattle.std.specs.Prelude.{nat_le, option_to_list}
 use Rattle.lq_model.specs.Wire.{left_at}
@@ -10,11 +10,6 @@ use Rattle.lq_wire.specs.Wire.{first_has_left}
 pub left-stops : (now : ℕ) (ring : List Flight) → first_has_left now ring ≡ false → left_at now ring ≡ ring
 left-stops now [] e = refl
 left-stops now (f ∷ ring) e = cond-false (nat_le f.ends now) _ _ e
-
--- where the first has left, what is left of all is left of the others
-pub left-first : (now : ℕ) (ring : List Flight) → first_has_left now ring ≡ true → left_at now (drop 1 ring) ≡ left_at now ring
-left-first now [] e = refl
-left-first now (f ∷ ring) e = sym (cond-true (nat_le f.ends now) _ _ e)
 
 -- all frames but the first end as early
 pub ended-drop : (free : ℕ) (first : Option Flight) (ring left : List Flight) → ring ≡ option_to_list first ++ left → All (λ flight. flight.ends ≤ free) ring → All (λ flight. flight.ends ≤ free) left

@@ -1,5 +1,5 @@
 //! The driver's ring and the wire.
-ghost use Rattle.std.specs.Prelude.{◌≡◌, ◌+◌, ◌*◌, ◌^◌, ◌<◌, ◌≤◌, ◌∷◌, ◌++◌, [], All, drop, option_to_list, true, IfSome, OnOk};
+ghost use Rattle.std.specs.Prelude.{◌≡◌, ◌+◌, ◌*◌, ◌^◌, ◌<◌, ◌≤◌, ◌∷◌, ◌++◌, [], All, drop, option_to_list, IfSome, OnOk};
 ghost use Rattle.std.specs.VecDeque.{deque_len};
 ghost use Rattle.lq_model.specs.Wire.{delay, flight_of, frame_length, ring_has_room, left_at, wire_time};
 ghost use Rattle.lq_wire.specs.Wire.{due_at, due_by, first_has_left, flight_lengths, latest};
@@ -117,21 +117,8 @@ impl Wire {
         }
     }
 
-    /// What has left the wire by a moment is taken back, where the oldest frame has.
+    /// What has left the wire by a moment is taken back.
     pub fn reclaim(&mut self, now: u128)
-        requires { first_has_left now self.old.ring.items ≡ true }
-        ensures ring { self.new.ring.items ≡ left_at now self.old.ring.items }
-        ensures free { self.new.free ≡ self.old.free }
-        ensures accepted { self.new.accepted ≡ self.old.accepted }
-        ensures untold { self.new.untold ≡ self.old.untold }
-        ensures card { self.new.card ≡ self.old.card }
-    {
-        self.take_back();
-        self.reclaim_more(now);
-    }
-
-    // What has left the wire by a moment is taken back.
-    fn reclaim_more(&mut self, now: u128)
         ensures ring { self.new.ring.items ≡ left_at now self.old.ring.items }
         ensures free { self.new.free ≡ self.old.free }
         ensures accepted { self.new.accepted ≡ self.old.accepted }
@@ -174,7 +161,6 @@ impl Wire {
     pub fn due(&self, until: Option<u128>) -> Option<u128>
         ensures due { result ≡ due_at self.now.card (due_by until) self.now.ring.items }
         ensures near { IfSome result (λ now. now ≤ latest self.now.accepted) }
-        ensures left { IfSome result (λ now. first_has_left now self.now.ring.items ≡ true) }
     {
         let first = self.ring.front()?;
         let now = first.ends + delay(self.card);

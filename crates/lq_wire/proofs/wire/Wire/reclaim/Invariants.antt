@@ -1,6 +1,6 @@
 use Rattle.std.proofs.Common.{◌≡◌, ◌+◌, length}
 use Rattle.lq_model.specs.Wire.{left_at}
-use Rattle.lq_wire.proofs.wire.Wire.reclaim_more.Given as goal
+use Rattle.lq_wire.proofs.wire.Wire.reclaim.Given as goal
 
 -- so many were taken back, and what is left of the others is left of all
 abbrev pub invariant-loop-turn : goal.invariant-loop-turn
