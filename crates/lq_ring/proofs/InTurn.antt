@@ -1,5 +1,5 @@
 -- The three bands of a resize, one after another.
-use Rattle.std.proofs.Common.{◌≡◌, ◌≢◌, ◌<◌, ℕ, true, List, [], ◌++◌, take, drop, length, refl, sym, ap, ◌∙◌, subst, arith, Option, Some, option_map, Contains}
+use Rattle.std.proofs.Common.{◌≡◌, ◌≢◌, ◌<◌, ℕ, true, List, [], ◌∷◌, ◌++◌, take, drop, length, refl, sym, ap, ◌∙◌, subst, arith, Option, Some, option_map, Contains}
 use Rattle.std.specs.Prelude.{slice_index}
 use Rattle.std.specs.Option.{unwrap_or}
 use Rattle.lq_model.specs.Positions.{holds_lock}
@@ -12,13 +12,17 @@ use Rattle.lq_band_laws.specs.Three.{Three, at}
 use Rattle.lq_band_laws.specs.Ring.{Ends, Lock, locked_at}
 use Rattle.lq_band_laws.specs.HalfResized.{IsBeforeResize, IsRefilled}
 use Rattle.lq_band_laws.proofs.Three.{at_put_other, three_cases}
-use Rattle.lq_table.specs.Views.{View, HalfResize, Work, no_resizing}
-use Rattle.lq_table.specs.Resizes.{resizing_of, begin_resize_view, with_work, store_size_view}
+use Rattle.lq_table.specs.Views.{Setup, View, HalfResize, Work, no_resizing}
+use Rattle.lq_table.specs.Sees.{view, IsSeatOf}
+use Rattle.lq_table.specs.Step.{BeginResize, MakesSteps}
+use Rattle.lq_table.specs.declared.shared.Cpu.{Cpu}
+use Rattle.lq_table.specs.declared.shared.Shared.{Shared}
+use Rattle.lq_table.specs.Resizes.{BeginsResize, resizing_of, begin_resize_view, with_work, store_size_view}
 use Rattle.lq_table.specs.Producers.{with_lock_at}
 use Rattle.lq_table.specs.Rule.{shown}
 use Rattle.lq_ring.specs.Fates.{fates_onto}
 use Rattle.lq_ring.specs.Work.{work_at, working, having_settled, event_of_work, IsTurner, IsWorkBegun, IsWorkDone}
-use Rattle.lq_ring.specs.Resized.{IsReadyToResize, all_lost, having_resized, having_locks}
+use Rattle.lq_ring.specs.Resized.{IsReadyToResize, all_lost, having_resized, locked_three}
 use Rattle.lq_ring.proofs.FatesOnto.{fates_append}
 use Rattle.lq_ring.proofs.Works.{turner_after, event_after, event_of, work_of}
 
@@ -43,6 +47,21 @@ work_else b c w v t below below' other =
     ap (λ (o : Option HalfResize). at c (unwrap_or (option_map (with_work b w) o) no_resizing).works) t.1.1 ∙ (at_put_other b c w t.1.0.works below below' other ∙ sym (work_of c v t.1.0 t.1.1))
 
 -- THE BEGINNING
+
+module _ {D : Type 0} where
+  -- what a resize finds as it begins
+  abbrev pub begun_from : (t : Shared D) (b a : Cpu D) (len event : ℕ) (held : ℕ → List ℕ) (slots : Three (List ℕ)) (found : ℕ) → IsSeatOf t b → MakesSteps (BeginResize len event held slots found ∷ []) b a
+      → BeginsResize t.infos.now t.max_len len event (view b) (view a)
+  begun_from t b a len event held slots found seat m =
+      let v = view b in let told = m.told.0 in (
+        held,
+        slots,
+        m.knows,
+        subst (λ (k : Setup). (x : ℕ) → x < 3 → IsBeforeResize v.holder.size k.max_len (at x slots) (held x) (at x v.holder.ends)) seat.2 told.0,
+        subst (λ (k : Setup). (x n : ℕ) → x < 3 → Contains (held x) n → (band_in k.infos n ≡ x) × (n < length k.infos)) seat.2 told.1,
+        told.2,
+        told.3,
+      )
 
 module _ (limit size len event : ℕ) (infos : List Info) (held : ℕ → List ℕ) (slots : Three (List ℕ)) (v v1 : View) (begun : v1 ≡ begin_resize_view (resizing_of len event held slots) v) where
   abbrev t0 : HalfResize
@@ -126,10 +145,10 @@ module _ (len event : ℕ) (held : ℕ → List ℕ) (slots : Three (List ℕ)) 
       ∙ (fates_append (fate.Shrunk event) (drop len (held 1)) (drop len (held 2)) (fates_onto (fate.Shrunk event) (drop len (held 0)) v.settled) ∙ fates_append (fate.Shrunk event) (drop len (held 0)) (drop len (held 1) ++ drop len (held 2)) v.settled)
 
   -- all steps from the begin_resize_view to the store of the new length
-  pub resize_is : (t : HalfResize) (v5 : View) → t.len ≡ len → v5 ≡ store_size_view t v4 → v5 ≡ having_locks i0 i1 i2 (having_resized len event (all_lost len held) v)
+  pub resize_is : (t : HalfResize) (v5 : View) → t.len ≡ len → v5 ≡ store_size_view t v4 → v5 ≡ record (having_resized len event (all_lost len held) v) { locks = locked_three i0 i1 i2 }
   resize_is t v5 len_is e5 =
       let at3 = λ (x : View). store_size_view t (with_lock_at 2 (locked_at i2) (having_settled fates3 (working 2 w2 x))) in
       let at2 = λ (x : View). at3 (with_lock_at 1 (locked_at i1) (having_settled fates2 (working 1 w1 x))) in
       let at1 = λ (x : View). at2 (with_lock_at 0 (locked_at i0) (having_settled fates1 (working 0 w0 x))) in
       e5 ∙ (ap (store_size_view t) e4 ∙ (ap at3 e3 ∙ (ap at2 e2 ∙ (ap at1 begun
-      ∙ (λ j. record (having_locks i0 i1 i2 (having_resized len event (all_lost len held) v)) { settled = fates_are j; holder = record (having_resized len event (all_lost len held) v).holder { size = len_is j } })))))
+      ∙ (λ j. record (record (having_resized len event (all_lost len held) v) { locks = locked_three i0 i1 i2 }) { settled = fates_are j; holder = record (having_resized len event (all_lost len held) v).holder { size = len_is j } })))))

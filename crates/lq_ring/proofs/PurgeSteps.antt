@@ -1,5 +1,5 @@
 -- The takes of a purge, one after another.
-use Rattle.std.proofs.Common.{◌≡◌, ℕ, zero, suc, ◌+◌, ◌<◌, List, [], ◌∷◌, ◌++◌, take, drop, length, refl, sym, ap, ◌∙◌, subst, arith, Option, Some, None, slice_get, length-drop, Contains}
+use Rattle.std.proofs.Common.{◌≡◌, ℕ, zero, suc, ◌+◌, ◌<◌, ◌≤◌, List, [], ◌∷◌, ◌++◌, take, drop, length, refl, sym, ap, ◌∙◌, subst, arith, Option, Some, None, slice_get, length-drop, Contains}
 use Rattle.std.proofs.lemmas.List.{drop-drop, take_all}
 use Rattle.std.proofs.lemmas.Option.{same_Some}
 use Rattle.lq_account_laws.proofs.Lists.{drop-in}
@@ -14,11 +14,22 @@ use Rattle.lq_band_laws.proofs.Three.{at_put_same, put_at}
 use Rattle.lq_band_laws.proofs.Kept.{rest_after}
 use Rattle.lq_table.specs.Views.{View, Left}
 use Rattle.lq_table.specs.Rule.{shown}
-use Rattle.lq_table.specs.Purges.{purge_slot_view_empty, purged_one}
+use Rattle.lq_table.specs.Fates.{settle_view_owed}
+use Rattle.lq_table.specs.Purges.{purge_slot_view, purge_slot_view_empty, purged_one}
+use Rattle.lq_ring.specs.Take.{emptied_count, emptied_times, having_ends}
 use Rattle.lq_ring.specs.Fates.{fates_onto}
-use Rattle.lq_ring.specs.Purged.{purging_one, purged_by, purged_to, IsPurgedTo, IsBandPurged, going_on}
+use Rattle.lq_ring.specs.Purged.{purged_by, purged_to, IsPurgedTo, IsBandPurged, going_on}
 use Rattle.lq_ring.proofs.PutSteps.{put_put}
 use Rattle.lq_ring.proofs.TakeSteps.{shown_put}
+
+-- one packet was taken from the band and its fate was stored, and all slots were emptied that this asks
+abbrev pub purging_one : ℕ → ℕ → Left → View → View
+purging_one b n l v = let size = v.holder.size in let own = at b v.holder.ends in
+    having_ends b (after_take size own) (emptied_times size (emptied_count size (taken_on own)) (taken_on (at b v.whole.state.ends))) (settle_view_owed (purge_slot_view b n l v))
+
+-- this is done to the first packet that the band holds
+abbrev pub PurgesOne : ℕ → Left → View → View → Type 0
+PurgesOne b l v w = (n : ℕ) × (slice_get (held_of (at b l.bands)) 0 ≡ Some n) × (w ≡ purging_one b n l v)
 
 -- the fates of the first packets, and that of the next
 pub fates_next : (f : Fate) (ns : List ℕ) (k n : ℕ) (fates : List (ℕ × Fate)) → slice_get ns k ≡ Some n → (n, f) ∷ fates_onto f (take k ns) fates ≡ fates_onto f (take (k + 1) ns) fates
@@ -60,6 +71,10 @@ taken_next_of b k n l first = let held : List ℕ = held_of (at b l.bands) in
     take-next [] k n e = cc
     take-next (m ∷ ns) zero n e = ap (λ (z : ℕ). z ∷ []) (same_Some m n e)
     take-next (m ∷ ns) (suc k) n e = (let q : suc k + 1 ≡ suc (k + 1) = omega arith in ap (λ (z : ℕ). take z (m ∷ ns)) q) ∙ ap (λ (zs : List ℕ). m ∷ zs) (take-next ns k n e)
+
+-- they are no more than the ring has slots
+pub few_left : (b k : ℕ) (l : Left) (size size' : ℕ) → size' ≡ size → length (held_of (at b l.bands)) ≤ size → length (held_of (at b (purged_by b k l).bands)) ≤ size'
+few_left b k l size size' same few = let held : List ℕ = held_of (at b l.bands) in let left = ap length (held_left b k l) ∙ length-drop k held in omega arith
 
 -- all of them, where none is left
 pub taken_all : (b k : ℕ) (l : Left) → held_of (at b (purged_by b k l).bands) ≡ [] → take k (held_of (at b l.bands)) ≡ held_of (at b l.bands)
@@ -124,13 +139,11 @@ ends_after b n l v w is = let own : Ends = at b v.holder.ends in ap (λ (x : Vie
 
 -- the station as the holder knows it
 pub purged_station : (b n : ℕ) (l : Left) (v w : View) (st : Option StationState) → b < 3 → w ≡ purging_one b n l v
-    → st ≡ Some (with_ends (shown v.holder) b (at b w.holder.ends).head (at b w.holder.ends).tail) → st ≡ Some (shown w.holder)
+    → (let c = after_take v.holder.size (at b v.holder.ends) in st ≡ Some (with_ends (shown v.holder) b c.head c.tail)) → st ≡ Some (shown w.holder)
 purged_station b n l v w st below is e =
     let own : Ends = at b v.holder.ends in let c : Ends = after_take v.holder.size own in
-    let ends : w.holder.ends ≡ put b c v.holder.ends = ap (λ (x : View). x.holder.ends) is ∙ put_put b c (taken_on own) v.holder.ends in
-    let here : at b w.holder.ends ≡ c = ap (at b) ends ∙ at_put_same b c v.holder.ends in
-    e ∙ ((λ j. Some (with_ends (shown v.holder) b (here j).head (here j).tail)) ∙ ap (λ (x : StationState). Some x) (sym (shown_put b c v.holder below)
-    ∙ ((λ j. shown (record v.holder { ends = sym (put_put b c (taken_on own) v.holder.ends) j })) ∙ (λ j. shown (sym is j).holder))))
+    e ∙ ap (λ (x : StationState). Some x) (sym (shown_put b c v.holder below)
+    ∙ ((λ j. shown (record v.holder { ends = sym (put_put b c (taken_on own) v.holder.ends) j })) ∙ (λ j. shown (sym is j).holder)))
 
 -- what a band still holds is what it held
 pub still_held : (b k : ℕ) (l : Left) (n : ℕ) → Contains (held_of (at b (purged_by b k l).bands)) n → Contains (held_of (at b l.bands)) n

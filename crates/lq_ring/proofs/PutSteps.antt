@@ -5,7 +5,11 @@ use Rattle.lq_band_laws.specs.Ring.{Lock, unlocked, locked_at, sized_at, with_ro
 use Rattle.lq_band_laws.proofs.Three.{at_put_same}
 use Rattle.lq_table.specs.Views.{View}
 use Rattle.lq_table.specs.Producers.{with_lock_at, load_size_view, producer_slot_view_full, store_slot_view}
-use Rattle.lq_ring.specs.Put.{no_locks, just_locked, putting, dropping_full}
+use Rattle.lq_ring.specs.Put.{no_locks, putting, dropping_full}
+
+-- the seat has just got the producer lock of the band, with the index i
+abbrev just_locked : ℕ → ℕ → Three Lock
+just_locked b i = put b (locked_at i) no_locks
 
 pub put_put : {A : Type 0} (b : ℕ) (x y : A) (t : Three A) → put b x (put b y t) ≡ put b x t
 put_put zero x y t = refl

@@ -67,28 +67,21 @@ pub sized_none : (z : ℕ) (v : View) → v.locks ≡ no_locks → load_size_vie
 sized_none z v e =
     ap (λ (ls : Three Lock). record v { locks = record { low = sized_if z ls.low; mid = sized_if z ls.mid; high = sized_if z ls.high } }) e ∙ (λ j. record v { locks = sym e j })
 
--- the zero_slot_view that a take asks, where the packet was taken as t says
-pub takes_end : (b z size : ℕ) (c d : Ends) (t v2 v3 : View) → z ≡ size → v2 ≡ t → at b t.holder.ends ≡ taken_on c → at b t.whole.state.ends ≡ taken_on d
-    → (is_emptying z (at b v2.holder.ends) ≡ true → v3 ≡ having_ends b (all_empty z (at b v2.holder.ends)) (emptied_times z ((at b v2.holder.ends).head - (at b v2.holder.ends).tail) (at b v2.whole.state.ends)) v2)
-    → (is_emptying z (at b v2.holder.ends) ≡ false → v3 ≡ v2) → v3 ≡ having_ends b (after_take size c) (emptied_times size (emptied_count size (taken_on c)) (taken_on d)) t
-takes_end b z size c d t v2 v3 is_size took own known emptied rested =
-    let c_is : at b v2.holder.ends ≡ taken_on c = ap (λ (x : View). at b x.holder.ends) took ∙ own in
-    let d_is : at b v2.whole.state.ends ≡ taken_on d = ap (λ (x : View). at b x.whole.state.ends) took ∙ known in
-    ⊎_elim
-    (λ (busy : is_emptying size (taken_on c) ≡ true).
-    emptied ((λ j. is_emptying (is_size j) (c_is j)) ∙ busy) ∙ ((λ j. having_ends b (all_empty (is_size j) (c_is j)) (emptied_times (is_size j) ((c_is j).head - (c_is j).tail) (d_is j)) (took j))
-    ∙ sym (λ j. having_ends b (if busy j then all_empty size (taken_on c) else taken_on c) (emptied_times size (if busy j then (taken_on c).head - (taken_on c).tail else 0) (taken_on d)) t)))
-    (λ (idle : is_emptying size (taken_on c) ≡ false).
-    rested ((λ j. is_emptying (is_size j) (c_is j)) ∙ idle) ∙ (took ∙ (sym (having_same b t) ∙ ((λ j. having_ends b (own j) (known j) t)
-    ∙ sym (λ j. having_ends b (if idle j then all_empty size (taken_on c) else taken_on c) (emptied_times size (if idle j then (taken_on c).head - (taken_on c).tail else 0) (taken_on d)) t)))))
-    (cases_Bool (is_emptying size (taken_on c)))
+-- the ends after a take with all the emptying that it asks
+abbrev pub ends_left : ℕ → Ends → Ends
+ends_left size c = if is_emptying size c then all_empty size c else c
 
--- a take, and the zero_slot_view that it asks
-pub consumes : (b n z : ℕ) (v v2 v3 : View) → z ≡ v.holder.size → v2 ≡ head_slot_view b n v
-    → (is_emptying z (at b v2.holder.ends) ≡ true → v3 ≡ having_ends b (all_empty z (at b v2.holder.ends)) (emptied_times z ((at b v2.holder.ends).head - (at b v2.holder.ends).tail) (at b v2.whole.state.ends)) v2)
-    → (is_emptying z (at b v2.holder.ends) ≡ false → v3 ≡ v2) → v3 ≡ consuming b n v
-consumes b n z v v2 v3 is_size took emptied rested =
-    takes_end b z v.holder.size (at b v.holder.ends) (at b v.whole.state.ends) (head_slot_view b n v) v2 v3 is_size took (at_put_same b _ v.holder.ends) (at_put_same b _ v.whole.state.ends) emptied rested
+-- the emptying that a take asks, where the packet was taken as t says
+pub takes_end : (b z size : ℕ) (c d : Ends) (t v2 v3 : View) → z ≡ size → v2 ≡ t → at b t.holder.ends ≡ taken_on c → at b t.whole.state.ends ≡ taken_on d
+    → v3 ≡ having_ends b (ends_left z (taken_on c)) (emptied_times z (emptied_count z (taken_on c)) (at b v2.whole.state.ends)) v2
+    → v3 ≡ having_ends b (after_take size c) (emptied_times size (emptied_count size (taken_on c)) (taken_on d)) t
+takes_end b z size c d t v2 v3 same took own known is =
+    let d_is : at b v2.whole.state.ends ≡ taken_on d = ap (λ (x : View). at b x.whole.state.ends) took ∙ known in
+    is ∙ (λ j. having_ends b (ends_left (same j) (taken_on c)) (emptied_times (same j) (emptied_count (same j) (taken_on c)) (d_is j)) (took j))
+
+-- the ends just after the packet at the head was taken, where the band rested before
+pub taken_batch : (size z : ℕ) (own c : Ends) → c ≡ taken_on own → IsAtRest size own → z ≡ size → (c.edge ≡ c.head) × (c.tail < c.head) × (c.head ≤ z)
+taken_batch size z own c e rest same = let first = rest.0 in let within = rest.1 in subst (λ (x : Ends). (x.edge ≡ x.head) × (x.tail < x.head) × (x.head ≤ z)) (sym e) (refl, omega arith, omega arith)
 
 -- it leaves all three at rest, and the station as the holder knows it
 pub ends_after : (b n : ℕ) (v w : View) → w ≡ consuming b n v → w.holder.ends ≡ put b (after_take v.holder.size (at b v.holder.ends)) v.holder.ends
@@ -100,12 +93,11 @@ rests_after b n v w rest is =
     (rest_put v.holder.size b _ v.holder.ends rest (rest_after v.holder.size (at b v.holder.ends) (rest_at v.holder.size b v.holder.ends rest)))
 
 pub station_after : (b n : ℕ) (v w : View) (st : Option StationState) → b < 3 → w ≡ consuming b n v
-    → st ≡ Some (with_ends (shown v.holder) b (at b w.holder.ends).head (at b w.holder.ends).tail) → st ≡ Some (shown w.holder)
+    → (let c = after_take v.holder.size (at b v.holder.ends) in st ≡ Some (with_ends (shown v.holder) b c.head c.tail)) → st ≡ Some (shown w.holder)
 station_after b n v w st below is e =
     let c : Ends = after_take v.holder.size (at b v.holder.ends) in
-    let here : at b w.holder.ends ≡ c = ap (at b) (ends_after b n v w is) ∙ at_put_same b c v.holder.ends in
-    e ∙ ((λ j. Some (with_ends (shown v.holder) b (here j).head (here j).tail)) ∙ ap (λ (x : StationState). Some x) (sym (shown_put b c v.holder below)
-    ∙ ((λ j. shown (record v.holder { ends = sym (put_put b c (taken_on (at b v.holder.ends)) v.holder.ends) j })) ∙ (λ j. shown (sym is j).holder))))
+    e ∙ ap (λ (x : StationState). Some x) (sym (shown_put b c v.holder below)
+    ∙ ((λ j. shown (record v.holder { ends = sym (put_put b c (taken_on (at b v.holder.ends)) v.holder.ends) j })) ∙ (λ j. shown (sym is j).holder)))
 
 -- where the step leads, and what it leaves of the words and of the raised mark
 one_band : (b : ℕ) (ps : List Packet) → b < 3 → band_at (seen_band b ps) b ≡ ps
@@ -153,7 +145,7 @@ times_down size c zero e h h' = let x : c.edge ≡ c.head - 0 = omega arith in
 times_down size c (suc n) e h h' = let x : n + 1 ≡ suc n = omega arith in
     ap (emptied_on size) (times_down size c n e h (omega arith)) ∙ (down_more size c n (omega arith) ∙ ap (emptied_down size c) x)
 
-times_all : (size : ℕ) (c : Ends) → c.edge ≡ c.head → c.tail < c.head → emptied_times size (emptied_count size c) c ≡ (if is_emptying size c then all_empty size c else c)
+pub times_all : (size : ℕ) (c : Ends) → c.edge ≡ c.head → c.tail < c.head → emptied_times size (emptied_count size c) c ≡ (if is_emptying size c then all_empty size c else c)
 times_all size c e h = ⊎_elim
     (λ (busy : is_emptying size c ≡ true). (λ j. emptied_times size (if busy j then c.head - c.tail else 0) c)
     ∙ (times_down size c (c.head - c.tail) e h (omega arith) ∙ (down_all size c (c.head - c.tail) (omega arith) ∙ sym (λ j. if busy j then all_empty size c else c))))

@@ -11,8 +11,8 @@ use Rattle.lq_band_laws.specs.HalfResized.{IsBeforeResize, IsRefilled}
 use Rattle.lq_band_laws.proofs.Lines.{word_at-past, word_at-within}
 use Rattle.lq_table.specs.Resizes.{is_word}
 use Rattle.lq_table.proofs.ResizeSlotsKept.{word_member}
-use Rattle.lq_ring.specs.Work.{AreMembers, rotated, zeroed_to}
-use Rattle.lq_ring.proofs.Works.{rotated_low, rotated_high, rotated_out, rotated_long, zeroed_at, zeroed_out, zeroed_long, contains_word}
+use Rattle.lq_ring.specs.Work.{rotated, zeroed_to}
+use Rattle.lq_ring.proofs.Works.{AreMembers, rotated_low, rotated_high, rotated_out, rotated_long, zeroed_at, zeroed_out, zeroed_long, contains_word}
 
 pub not_word : (x : ℕ) (ns : List ℕ) → ((n : ℕ) → Contains ns n → x ≢ n + 1) → is_word x ns ≡ false
 not_word x ns other = go (is_word x ns) refl

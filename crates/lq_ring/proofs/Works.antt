@@ -1,5 +1,5 @@
 -- The work on one band, step by step.
-use Rattle.std.proofs.Common.{◌≡◌, ◌≢◌, ◌⊎◌, inl, inr, ℕ, zero, suc, ◌+◌, ◌-◌, ◌/◌, ◌<◌, ◌≤◌, Bool, true, false, List, [], ◌∷◌, length, set, drop, get_or, refl, sym, ap, ◌∙◌, subst, arith, ⊎_elim, Option, Some, option_map, Contains, length-set, length-drop, get_or-set_same, get_or-set_other, eq-eqb, ne_eqb}
+use Rattle.std.proofs.Common.{take, ◌≡◌, ◌≢◌, ◌⊎◌, inl, inr, ℕ, zero, suc, ◌+◌, ◌-◌, ◌/◌, ◌<◌, ◌≤◌, Bool, true, false, List, [], ◌∷◌, length, set, drop, get_or, refl, sym, ap, ◌∙◌, subst, arith, ⊎_elim, Option, Some, option_map, Contains, length-set, length-drop, get_or-set_same, get_or-set_other, eq-eqb, ne_eqb}
 use Rattle.std.specs.Prelude.{◌||◌, ◌==◌, if◌then◌else◌}
 use Rattle.std.proofs.lemmas.Bool.{cases_eq, cases_lt}
 use Rattle.std.specs.Option.{unwrap_or}
@@ -16,7 +16,24 @@ use Rattle.lq_table.specs.Views.{View, HalfResize, Work, no_resizing}
 use Rattle.lq_table.specs.Resizes.{is_word, is_member, hand_with, out_of, into, with_work, with_resizing, settled_work}
 use Rattle.lq_ring.proofs.PutSteps.{put_put}
 use Rattle.lq_table.specs.Fates.{settle_view_shrunk}
-use Rattle.lq_ring.specs.Work.{having_settled, work_at, working, IsTurner, AreMembers, members_of, back_in, with_slots, exchanged, reversed_to, rotated, zeroed_to, settled_if, dropped_to, event_of_work, shrunk_if, shrunk_to}
+use Rattle.lq_ring.specs.Fates.{fates_onto}
+use Rattle.lq_ring.specs.Work.{having_settled, work_at, working, IsTurner, members_of, back_in, with_slots, exchanged, reversed_to, rotated, zeroed_to, dropped_to, event_of_work}
+
+-- each slot is empty or has one of these packets
+abbrev pub AreMembers : List ℕ → List ℕ → Type 0
+AreMembers members slots = (x : ℕ) → (get_or slots x 0 ≡ 0) ⊎ (is_word (get_or slots x 0) members ≡ true)
+
+-- a word is settled, unless it is 0
+abbrev pub settled_if : ℕ → Work → Work
+settled_if x w = if x == 0 then w else settled_work w
+
+-- the fate of the packet of a word, unless it is 0
+abbrev pub shrunk_if : ℕ → ℕ → List (ℕ × Fate) → List (ℕ × Fate)
+shrunk_if x event fates = if x == 0 then fates else (x - 1, fate.Shrunk event) ∷ fates
+
+-- the fates of the first n packets that a resize of the event dropped
+abbrev pub shrunk_to : ℕ → ℕ → List ℕ → List (ℕ × Fate) → List (ℕ × Fate)
+shrunk_to event n ns fates = fates_onto (fate.Shrunk event) (take n ns) fates
 
 -- THE VIEW
 

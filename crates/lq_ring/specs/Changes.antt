@@ -1,5 +1,6 @@
--- What a purge and a resize of the rings do: the steps in the order in which they are made, and what the seat knows after them.
-use Rattle.std.specs.Prelude.{◌≡◌, ◌+◌, ℕ, Bool, true, false, List, [], ◌∷◌, ◌++◌, Some, length, slice_get}
+-- A purge and a resize of the rings, as the crates above cite them: what they leave in the log, the latest first, and what the seat knows
+-- after them.
+use Rattle.std.specs.Prelude.{◌≡◌, ◌+◌, ℕ, List, [], ◌∷◌, ◌++◌, Some, length}
 use Rattle.lq_model.specs.Band.{held_of}
 use Rattle.lq_model.specs.Machine.{Purge}
 use Rattle.lq_band_laws.specs.Ring.{Ends, after_take, taken_on}
@@ -22,12 +23,6 @@ use Rattle.lq_ring.specs.Steps.{LocksProducer, zeroed}
 -- the slots taken are emptied as after a take.
 abbrev pub purging_steps : Setup → ℕ → Fate → ℕ → Ends → ℕ → List Made → List Made
 purging_steps k band fate size c n steps = zeroed k band (c.head + 1) (emptied_count size (taken_on c)) (steps ⊳ load_slot_log k band c.head (n + 1) ⊳ settle_log k n (word_of fate))
-
--- the first packet that the band held was, or else the slot at the head was loaded as 0
-pub record PurgesOneOrNone (k : Setup) (band : ℕ) (fate : Fate) (one : Bool) (old new : Known) : Type 0 where
-  pub first : one ≡ true → (l : Left) (n : ℕ) → old.view.holder.left ≡ Some l → slice_get (held_of (at band l.bands)) 0 ≡ Some n
-      → new.steps ≡ purging_steps k band fate old.view.holder.size (at band old.view.holder.ends) n old.steps
-  pub none : one ≡ false → new.steps ≡ old.steps ⊳ load_slot_log k band (at band old.view.holder.ends).head 0
 
 -- these packets were purged, in this order, from these ends to those
 pub data PurgesEach (k : Setup) (band : ℕ) (fate : Fate) (size : ℕ) (start : Ends) (old : List Made) : List ℕ → Ends → List Made → Type 0 where
@@ -61,15 +56,6 @@ TurnsBand k band index old new = (turned : List Made) × TurnsRing k band old tu
 -- the producer locks of bands 0, 1 and 2, in this order
 abbrev pub LocksAll : List Made → List Made → Type 0
 LocksAll old new = (low mid high : ℕ) × (one two : List Made) × LocksProducer 0 low old one × LocksProducer 1 mid one two × LocksProducer 2 high two new
-
--- Under them the size is loaded, with which the resize begins, the bands are turned, and the new size is stored;
-abbrev pub TurnsAll : Setup → ℕ → ℕ → ℕ → ℕ → List Made → List Made → Type 0
-TurnsAll k len low mid high old new = (begun : ℕ) × (one two three : List Made) × TurnsBand k 0 low (old ⊳ load_size_log begun) one × TurnsBand k 1 mid one two × TurnsBand k 2 high two three
-    × (new ≡ three ⊳ store_size_log len)
-
--- and they are given back in the same order, after a load of the size.
-abbrev pub UnlocksAll : ℕ → ℕ → ℕ → List Made → List Made → Type 0
-UnlocksAll low mid high old new = (stored : ℕ) × (new ≡ old ⊳ load_size_log stored ⊳ give_producer_log 0 low ⊳ give_producer_log 1 mid ⊳ give_producer_log 2 high)
 
 -- The three producer locks are taken, the bands are turned, the size is stored, and the locks are given back with the new indices.
 pub record Resizes (k : Setup) (len : ℕ) (old new : List Made) : Type 0 where

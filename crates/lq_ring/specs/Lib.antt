@@ -10,9 +10,11 @@ pub mod Resized
 pub mod Fates
 -- what a purge makes of a band
 pub mod Purged
--- the steps of its calls
+-- its calls, each with the lists of steps that it may make
+pub mod StepLists
+-- what a put and a take leave in the log
 pub mod Steps
--- what a purge and a resize do, step by step
+-- what a purge and a resize leave in it
 pub mod Changes
 -- what its calls ask of a seat, and what they leave of it
 pub mod Seats

@@ -1,26 +1,16 @@
 -- What a put makes of what a seat knows.
-use Rattle.std.specs.Prelude.{◌≡◌, ℕ, Bool, if◌then◌else◌, Result, MatchResult}
+use Rattle.std.specs.Prelude.{◌≡◌, ℕ, Result, MatchResult}
 use Rattle.lq_model.specs.Account.{Join, Full as FullEvent}
-use Rattle.lq_model.specs.Steps.{dequeue_begins}
-use Rattle.lq_model.specs.declared.machine.Attempt.TheVariants.{Queued}
-use Rattle.lq_model.specs.declared.machine.Packet.{Packet}
-use Rattle.lq_model.specs.declared.machine.Position.{Position}
-use Rattle.lq_model.specs.declared.machine.Position.TheVariants.{Try1}
 use Rattle.lq_ring_core.specs.declared.ring.Full.{Full}
-use Rattle.lq_band_laws.specs.Three.{Three, put, all_three}
-use Rattle.lq_band_laws.specs.Ring.{Lock, unlocked, locked_at}
+use Rattle.lq_band_laws.specs.Three.{Three, all_three}
+use Rattle.lq_band_laws.specs.Ring.{Lock, unlocked}
 use Rattle.lq_table.specs.Views.{View}
-use Rattle.lq_table.specs.Moves.{seen_by}
 use Rattle.lq_table.specs.Producers.{store_slot_view, producer_slot_view_full}
 use Rattle.lq_table.specs.Sees.{solo, heard}
 
 -- it has no producer lock
 abbrev pub no_locks : Three Lock
 no_locks = all_three unlocked
-
--- it has just got that of the band, with the index i
-abbrev pub just_locked : ℕ → ℕ → Three Lock
-just_locked b i = put b (locked_at i) no_locks
 
 -- the packet joined the band, and the producer lock was given back
 abbrev pub putting : ℕ → ℕ → View → View
@@ -33,7 +23,3 @@ dropping_full n seen v = record (producer_slot_view_full n seen v) { locks = no_
 -- a seat that has the table alone hears which of the two came
 abbrev pub HearsPut : ℕ → ℕ → Result (Unit {0}) Full → View → View → Type 0
 HearsPut b n answer v w = MatchResult answer (λ _. solo w ≡ heard (Join n b) (solo v)) (λ full. solo w ≡ heard (FullEvent n full.seen) (solo v))
-
--- where a put leads: one that has the run lock begins to dequeue, another tries that lock
-abbrev pub put_leads_to : Bool → Packet → View → Position
-put_leads_to holds p v = if holds then dequeue_begins (seen_by v) else Try1 (Queued p)

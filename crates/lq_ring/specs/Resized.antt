@@ -13,7 +13,7 @@ use Rattle.lq_model.specs.declared.fate.Fate.TheVariants as fate
 use Rattle.lq_ring.specs.Fates.{fates_onto}
 use Rattle.lq_ring.specs.Work.{work_at, ArePacketsOf, IsTurner, IsWorkBegun, event_of_work}
 
--- the band b in a resize half done, whose work has not begun, where the station has its ends
+-- The band b in a resize half done, whose work has not begun, where the station has its ends.
 pub record IsReadyToResize (limit : ℕ) (infos : List Info) (st : StationState) (size len event b : ℕ) (v : View) : Type 0 where
   pub turner : IsTurner v
   pub event_is : event_of_work v ≡ event
@@ -50,6 +50,3 @@ having_resized len event lost v = record v {
 -- the producer locks, with these indices
 abbrev pub locked_three : ℕ → ℕ → ℕ → Three Lock
 locked_three low mid high = record { low = locked_at low; mid = locked_at mid; high = locked_at high }
-
-abbrev pub having_locks : ℕ → ℕ → ℕ → View → View
-having_locks low mid high v = record v { locks = locked_three low mid high }

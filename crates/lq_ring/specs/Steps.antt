@@ -1,13 +1,12 @@
--- What a put and a take do: the steps in the order in which they are made, and what the seat knows after them.
-use Rattle.std.specs.Prelude.{◌≡◌, ◌≢◌, ℕ, zero, suc, ◌+◌, ◌-◌, ◌/◌, ◌%◌, true, false, List, Result, MatchResult}
-use Rattle.lq_ring_core.specs.declared.ring.Full.{Full}
+-- A put and a take, as the crates above cite them: what they leave in the log, the latest first, and what the seat knows after them.
+use Rattle.std.specs.Prelude.{◌≡◌, ◌≢◌, ℕ, zero, suc, ◌+◌, ◌-◌, ◌/◌, ◌%◌, true, false, List}
 use Rattle.lq_ring_core.specs.Ring.{next_place}
 use Rattle.lq_band_laws.specs.Three.{at}
-use Rattle.lq_band_laws.specs.Ring.{Ends, is_emptying, taken_on}
+use Rattle.lq_band_laws.specs.Ring.{taken_on}
 use Rattle.lq_table.specs.Views.{Setup, Known}
 use Rattle.lq_table.specs.Consumers.{head_slot_view_empty}
 use Rattle.lq_ring.specs.Put.{putting, dropping_full}
-use Rattle.lq_ring.specs.Take.{batch_length, consuming, emptied_count}
+use Rattle.lq_ring.specs.Take.{consuming, emptied_count}
 use Rattle.lq_table.specs.Made.{Made, ◌⊳◌}
 use Rattle.lq_table.specs.Producers.{load_producer_log, take_producer_log, give_producer_log, load_size_log, load_slot_log, store_slot_log}
 
@@ -32,10 +31,6 @@ PutsAt k band index n old new = (size : ℕ) × (new ≡ old ⊳ load_size_log s
 abbrev pub FindsFullAt : Setup → ℕ → ℕ → ℕ → List Made → List Made → Type 0
 FindsFullAt k band index seen old new = (size : ℕ) × (new ≡ old ⊳ load_size_log size ⊳ load_slot_log k band index (seen + 1) ⊳ give_producer_log band index)
 
--- one of these two, as the answer says
-abbrev pub PutsAtBy : Setup → ℕ → ℕ → ℕ → Result (Unit {0}) Full → List Made → List Made → Type 0
-PutsAtBy k band index n answer old new = MatchResult answer (λ _. PutsAt k band index n old new) (λ full. FindsFullAt k band index full.seen old new)
-
 -- `ptr_ring_produce` of include/linux/ptr_ring.h: the packet n joined the band
 abbrev pub Puts : Setup → ℕ → ℕ → Known → Known → Type 0
 Puts k band n old new = (new.view ≡ putting band n old.view) × (index : ℕ) × (locked : List Made) × LocksProducer band index old.steps locked × PutsAt k band index n locked new.steps
@@ -50,10 +45,6 @@ FindsFull k band n seen old new = (new.view ≡ dropping_full n seen old.view) �
 abbrev pub zeroed : Setup → ℕ → ℕ → ℕ → List Made → List Made
 zeroed k band head zero steps = steps
 zeroed k band head (suc n) steps = zeroed k band head n steps ⊳ store_slot_log k band (head - 1 - n) 0
-
--- where that is due, the slots that were taken are emptied, up to the head
-abbrev pub EmptiesBatch : Setup → ℕ → ℕ → Ends → List Made → List Made → Type 0
-EmptiesBatch k band size c old new = (is_emptying size c ≡ true → new ≡ zeroed k band c.head (batch_length c) old) × (is_emptying size c ≡ false → new ≡ old)
 
 -- `__ptr_ring_consume` of include/linux/ptr_ring.h: the slot at the head is loaded as 0
 abbrev pub FindsSlotEmpty : Setup → ℕ → Known → Known → Type 0

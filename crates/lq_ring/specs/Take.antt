@@ -1,7 +1,7 @@
 -- What a take makes of what the holder of the run lock knows.
 use Rattle.std.specs.Prelude.{◌≡◌, ℕ, zero, suc, ◌-◌, if◌then◌else◌, Some}
 use Rattle.lq_band_laws.specs.Three.{at, put}
-use Rattle.lq_band_laws.specs.Ring.{Ends, after_take, all_empty, taken_on, emptied_on, is_emptying}
+use Rattle.lq_band_laws.specs.Ring.{Ends, after_take, taken_on, emptied_on, is_emptying}
 use Rattle.lq_table.specs.Views.{View}
 use Rattle.lq_table.specs.Consumers.{head_slot_view}
 use Rattle.lq_table.specs.Rule.{shown}
@@ -20,26 +20,14 @@ abbrev pub emptied_times : ℕ → ℕ → Ends → Ends
 emptied_times size zero c = c
 emptied_times size (suc n) c = emptied_on size (emptied_times size n c)
 
--- how many slots were taken and aren't emptied
-abbrev pub batch_length : Ends → ℕ
-batch_length c = c.head - c.tail
-
 -- how many slots a take empties, where its packet was taken
 abbrev pub emptied_count : ℕ → Ends → ℕ
-emptied_count size c = if is_emptying size c then batch_length c else 0
-
--- the band's slots that were taken, so many, are emptied in rings of this length
-abbrev pub having_emptied : ℕ → ℕ → ℕ → View → View
-having_emptied b size count v = having_ends b (all_empty size (at b v.holder.ends)) (emptied_times size count (at b v.whole.state.ends)) v
+emptied_count size c = if is_emptying size c then c.head - c.tail else 0
 
 -- the packet was taken from the band, and all slots were emptied that this asks
 abbrev pub consuming : ℕ → ℕ → View → View
 consuming b n v = let size = v.holder.size in let own = at b v.holder.ends in
     having_ends b (after_take size own) (emptied_times size (emptied_count size (taken_on own)) (taken_on (at b v.whole.state.ends))) (head_slot_view b n v)
-
--- the state beside the machine has the ends that the holder has
-abbrev pub KnowsEnds : View → Type 0
-KnowsEnds v = v.whole.state.ends ≡ v.holder.ends
 
 -- the seat carries the station as it is due at its next step
 abbrev pub CarriesStation : {D : Type 0} → Cpu D → Type 0

@@ -3,7 +3,6 @@ use Rattle.std.specs.Prelude.{◌≡◌, ◌⊎◌, ℕ, zero, suc, ◌+◌, ◌
 use Rattle.std.specs.Option.{unwrap_or}
 use Rattle.lq_band_laws.specs.Three.{at}
 use Rattle.lq_band_laws.specs.HalfResized.{IsBeforeResize, IsRefilled}
-use Rattle.lq_band_laws.specs.Ring.{word_at}
 use Rattle.lq_model.specs.Plan.{band_in}
 use Rattle.lq_model.specs.Positions.{holds_lock}
 use Rattle.lq_model.specs.declared.fate.Fate.{Fate}
@@ -23,24 +22,16 @@ working b w v = with_resizing (option_map (with_work b w) v.holder.resizing) v
 abbrev pub IsTurner : View → Type 0
 IsTurner v = (holds_lock v.place.position ≡ true) × ((t : HalfResize) × (v.holder.resizing ≡ Some t) × (v.whole.state.resizing ≡ Some t))
 
--- each slot is empty or has one of these packets
-abbrev pub AreMembers : List ℕ → List ℕ → Type 0
-AreMembers members slots = (x : ℕ) → (slice_index slots x ≡ 0) ⊎ (is_word (slice_index slots x) members ≡ true)
-
 abbrev pub members_of : Work → List ℕ
 members_of w = w.kept ++ w.waiting
 
 -- it has this many slots, each empty or with one of its packets
 abbrev pub HasSlots : ℕ → Work → Type 0
-HasSlots limit w = (length w.slots ≡ limit) × AreMembers (members_of w) w.slots
+HasSlots limit w = (length w.slots ≡ limit) × ((x : ℕ) → (slice_index w.slots x ≡ 0) ⊎ (is_word (slice_index w.slots x) (members_of w) ≡ true))
 
 -- each of these is a packet of the capture and of this band
 abbrev pub ArePacketsOf : List Info → ℕ → List ℕ → Type 0
 ArePacketsOf infos b ns = (n : ℕ) → Contains ns n → (band_in infos n ≡ b) × (n < length infos)
-
--- the packet of this word came into the hand last, and the slot is empty
-abbrev pub MayPutBack : ℕ → ℕ → Work → Type 0
-MayPutBack i x w = (hand : List ℕ) × (w.hand ≡ (x - 1) ∷ hand) × (slice_index w.slots i ≡ 0) × (x ≤ 1000000)
 
 -- no slot from the tail up to the head has a packet that the band keeps or drops
 abbrev pub AreStale : ℕ → ℕ → Work → Type 0
@@ -49,10 +40,6 @@ AreStale tail head w = (j : ℕ) → tail ≤ j → j < head → is_member (slic
 -- so many of the first slots, up to the limit, have a word, and the slot after them, below the limit, has none
 abbrev pub AreFilledUpTo : ℕ → ℕ → List ℕ → Type 0
 AreFilledUpTo limit count slots = (count ≤ limit) × ((j : ℕ) → j < count → slice_index slots j ≢ 0) × (count < limit → slice_index slots count ≡ 0)
-
--- nothing is in the hand, and so many slots from a place on have the dropped packets in order, and 0 behind the last
-abbrev pub HasDroppedFrom : ℕ → ℕ → Work → Type 0
-HasDroppedFrom from count w = (w.hand ≡ []) × ((n : ℕ) → n < count → slice_index w.slots (from + n) ≡ word_at w.waiting n)
 
 -- a word is put back from the hand into a slot, unless it is 0
 abbrev pub back_in : ℕ → ℕ → Work → Work
@@ -82,10 +69,6 @@ abbrev pub zeroed_to : ℕ → ℕ → List ℕ → List ℕ
 zeroed_to from zero s = s
 zeroed_to from (suc k) s = slice_set (zeroed_to from k s) (from + k) 0
 
--- a word is settled, unless it is 0
-abbrev pub settled_if : ℕ → Work → Work
-settled_if x w = if x == 0 then w else settled_work w
-
 -- so many of the dropped packets, which stand from a place on, were settled
 abbrev pub dropped_to : ℕ → ℕ → Work → Work
 dropped_to from n w = record w { slots = zeroed_to from n w.slots; waiting = drop n w.waiting }
@@ -94,21 +77,13 @@ dropped_to from n w = record w { slots = zeroed_to from n w.slots; waiting = dro
 abbrev pub having_settled : List (ℕ × Fate) → View → View
 having_settled fates v = record v { settled = fates }
 
--- the fates of the first n packets that a resize of the event dropped
-abbrev pub shrunk_to : ℕ → ℕ → List ℕ → List (ℕ × Fate) → List (ℕ × Fate)
-shrunk_to event n ns fates = fates_onto (fate.Shrunk event) (take n ns) fates
-
--- the fate of the packet of a word, unless it is 0
-abbrev pub shrunk_if : ℕ → ℕ → List (ℕ × Fate) → List (ℕ × Fate)
-shrunk_if x event fates = if x == 0 then fates else (x - 1, fate.Shrunk event) ∷ fates
-
 -- a word is settled, unless it is 0, and its packet's fate stored
 abbrev pub settling_word : ℕ → ℕ → ℕ → View → View
-settling_word b x event v = having_settled (shrunk_if x event v.settled) (working b (settled_if x (work_at b v)) v)
+settling_word b x event v = let w = work_at b v in having_settled (if x == 0 then v.settled else (x - 1, fate.Shrunk event) ∷ v.settled) (working b (if x == 0 then w else settled_work w) v)
 
 -- so many of the dropped packets, which stand from a place on, are settled, and their fates stored
 abbrev pub settling_dropped : ℕ → ℕ → ℕ → ℕ → View → View
-settling_dropped b event from n v = having_settled (shrunk_to event n (work_at b v).waiting v.settled) (working b (dropped_to from n (work_at b v)) v)
+settling_dropped b event from n v = having_settled (fates_onto (fate.Shrunk event) (take n (work_at b v).waiting) v.settled) (working b (dropped_to from n (work_at b v)) v)
 
 -- the band's work is this now, and the fates of all packets that it dropped are stored
 abbrev pub having_turned : ℕ → ℕ → Work → View → View

@@ -1,9 +1,14 @@
 //! The exchanges of a resize on one band, which keep what stands in its slots and change only the order.
-ghost use Rattle.std.specs.Prelude.{◌≡◌, ◌≢◌, ◌+◌, ◌-◌, ◌/◌, ◌<◌, ◌≤◌, drop, length, ◌==◌, if◌then◌else◌};
+ghost use Rattle.std.specs.Prelude.{◌≡◌, ◌≢◌, ◌+◌, ◌-◌, ◌/◌, ◌<◌, ◌≤◌, ℕ, List, [], ◌∷◌, drop, length, ◌==◌, if◌then◌else◌, slice_index};
+ghost use Rattle.lq_model.specs.Plan.{band_in};
+ghost use Rattle.lq_table.specs.Fates.{MayShrink};
+ghost use Rattle.lq_table.specs.Resizes.{out_of};
 ghost use Rattle.lq_table.specs.Sees.{view, IsSeatOf};
-ghost use Rattle.lq_ring.specs.Seats.{IsDroppedWord};
-ghost use Rattle.lq_ring.specs.Work.{work_at, AreFilledUpTo, AreStale, HasSlots, IsTurner, MayPutBack, changing_slots, exchanged, reversed_to, rotated, settling_dropped, settling_word, zeroed_to};
-ghost use Rattle.lq_ring.specs.Calls.{MayDropRest, TakesOut, TurnsFurther, back_from_hand};
+ghost use Rattle.lq_table.specs.Step.{ClearSlot, MakesSteps};
+ghost use Rattle.lq_ring.specs.Seats.{ChangesView};
+ghost use Rattle.lq_ring.specs.StepLists.{MakesStepsFrom, TurnRing};
+ghost use Rattle.lq_ring.specs.Work.{back_in, work_at, working, AreFilledUpTo, AreStale, HasSlots, IsTurner, changing_slots, exchanged, reversed_to, rotated, settling_dropped, settling_word, zeroed_to};
+ghost use Rattle.lq_ring.specs.Calls.{MayDropRest};
 
 use crate::turns::Resize;
 use lq_device::TxDevice;
@@ -15,7 +20,8 @@ fn take_out<'a, D: TxDevice>(shared: &Shared<'a, D>, cpu: &mut Cpu<D>, band: u32
     requires seat { IsSeatOf shared.now cpu.old }
     requires place { (band < 3) × (i < shared.now.max_len) }
     requires turner { IsTurner (view cpu.old) }
-    ensures { TakesOut shared.now band i result cpu.old cpu.new }
+    ensures makes { MakesSteps (ClearSlot band i result ∷ []) cpu.old cpu.new }
+    ensures stands { ChangesView (λ v. working band (out_of i (work_at band v)) v) cpu.old cpu.new }
 {
     shared.clear_slot(cpu, band, i)
 }
@@ -25,8 +31,10 @@ fn put_back<'a, D: TxDevice>(shared: &Shared<'a, D>, cpu: &mut Cpu<D>, band: u32
     requires seat { IsSeatOf shared.now cpu.old }
     requires place { (band < 3) × (i < shared.now.max_len) }
     requires turner { IsTurner (view cpu.old) }
-    requires hand { x ≢ 0 → MayPutBack i x (work_at band (view cpu.old)) }
-    ensures { TurnsFurther shared.now band (back_from_hand band i x) cpu.old cpu.new }
+    requires hand { x ≢ 0 → (hand : List ℕ) × ((work_at band (view cpu.old)).hand ≡ (x - 1) ∷ hand)
+        × (slice_index (work_at band (view cpu.old)).slots i ≡ 0) × (x ≤ 1000000) }
+    ensures makes { MakesStepsFrom (λ s. TurnRing band) cpu.old cpu.new }
+    ensures stands { ChangesView (λ v. working band (back_in i x (work_at band v)) v) cpu.old cpu.new }
 {
     if x != 0 {
         shared.fill_slot(cpu, band, i, (x - 1) as u32);
@@ -39,7 +47,8 @@ fn exchange<'a, D: TxDevice>(shared: &Shared<'a, D>, cpu: &mut Cpu<D>, band: u32
     requires place { (band < 3) × (i < j) × (j < shared.now.max_len) }
     requires turner { IsTurner (view cpu.old) }
     requires slots { HasSlots shared.now.max_len (work_at band (view cpu.old)) }
-    ensures { TurnsFurther shared.now band (changing_slots band (exchanged i j)) cpu.old cpu.new }
+    ensures makes { MakesStepsFrom (λ s. TurnRing band) cpu.old cpu.new }
+    ensures stands { ChangesView (changing_slots band (exchanged i j)) cpu.old cpu.new }
 {
     let x = take_out(shared, cpu, band, i);
     let y = take_out(shared, cpu, band, j);
@@ -53,7 +62,8 @@ fn reverse<'a, D: TxDevice>(shared: &Shared<'a, D>, cpu: &mut Cpu<D>, band: u32,
     requires place { (band < 3) × (a ≤ b) × (b ≤ shared.now.max_len) }
     requires turner { IsTurner (view cpu.old) }
     requires slots { HasSlots shared.now.max_len (work_at band (view cpu.old)) }
-    ensures { TurnsFurther shared.now band (changing_slots band (reversed_to a b ((b - a) / 2))) cpu.old cpu.new }
+    ensures makes { MakesStepsFrom (λ s. TurnRing band) cpu.old cpu.new }
+    ensures stands { ChangesView (changing_slots band (reversed_to a b ((b - a) / 2))) cpu.old cpu.new }
 {
     for k in 0..(b - a) / 2 {
         exchange(shared, cpu, band, a + k, b - 1 - k);
@@ -72,7 +82,8 @@ pub(crate) fn rotate<'a, D: TxDevice>(
     requires place { (band < 3) × (head ≤ size) × (size ≤ shared.now.max_len) }
     requires turner { IsTurner (view cpu.old) }
     requires slots { HasSlots shared.now.max_len (work_at band (view cpu.old)) }
-    ensures { TurnsFurther shared.now band (changing_slots band (rotated head size)) cpu.old cpu.new }
+    ensures makes { MakesStepsFrom (λ s. TurnRing band) cpu.old cpu.new }
+    ensures stands { ChangesView (changing_slots band (rotated head size)) cpu.old cpu.new }
 {
     reverse(shared, cpu, band, 0, head);
     reverse(shared, cpu, band, head, size);
@@ -91,7 +102,8 @@ pub(crate) fn clear_stale<'a, D: TxDevice>(
     requires place { (band < 3) × (tail ≤ head) × (head ≤ shared.now.max_len) }
     requires turner { IsTurner (view cpu.old) }
     requires stale { AreStale tail head (work_at band (view cpu.old)) }
-    ensures { TurnsFurther shared.now band (changing_slots band (zeroed_to tail (head - tail))) cpu.old cpu.new }
+    ensures makes { MakesStepsFrom (λ s. TurnRing band) cpu.old cpu.new }
+    ensures stands { ChangesView (changing_slots band (zeroed_to tail (head - tail))) cpu.old cpu.new }
 {
     for n in 0..head - tail {
         take_out(shared, cpu, band, tail + n);
@@ -108,8 +120,10 @@ fn settle_word<'a, D: TxDevice>(
 ) -> u32
     requires seat { IsSeatOf shared.now cpu.old }
     requires turner { IsTurner (view cpu.old) }
-    requires word { x ≢ 0 → IsDroppedWord shared.now band event x cpu.old }
-    ensures settles { TurnsFurther shared.now band (settling_word band x event) cpu.old cpu.new }
+    requires word { x ≢ 0 → MayShrink band (x - 1) event (view cpu.old) × (band < 3)
+        × (band_in shared.now.infos.now (x - 1) ≡ band) × (x - 1 < length shared.now.infos.now) × (x ≤ 1000000) }
+    ensures makes { MakesStepsFrom (λ s. TurnRing band) cpu.old cpu.new }
+    ensures stands { ChangesView (settling_word band x event) cpu.old cpu.new }
     ensures count { result ≡ (if x == 0 then 0 else 1) }
 {
     if x == 0 {
@@ -130,7 +144,8 @@ pub(crate) fn count_filled<'a, D: TxDevice>(
     requires place { (band < 3) × (limit ≤ shared.now.max_len) }
     requires turner { IsTurner (view cpu.old) }
     requires slots { HasSlots shared.now.max_len (work_at band (view cpu.old)) }
-    ensures keeps { TurnsFurther shared.now band (λ v. v) cpu.old cpu.new }
+    ensures makes { MakesStepsFrom (λ s. TurnRing band) cpu.old cpu.new }
+    ensures stands { ChangesView (λ v. v) cpu.old cpu.new }
     ensures filled { AreFilledUpTo limit result (work_at band (view cpu.old)).slots }
 {
     for i in 0..limit {
@@ -153,7 +168,8 @@ pub(crate) fn drop_rest<'a, D: TxDevice>(
 ) -> u32
     requires seat { IsSeatOf shared.now cpu.old }
     requires may { MayDropRest shared.now band from resize cpu.old }
-    ensures drops { TurnsFurther shared.now band (settling_dropped band resize.event from (resize.size - from)) cpu.old cpu.new }
+    ensures makes { MakesStepsFrom (λ s. TurnRing band) cpu.old cpu.new }
+    ensures stands { ChangesView (settling_dropped band resize.event from (resize.size - from)) cpu.old cpu.new }
     ensures few { result ≤ resize.size - from }
     ensures count { let waiting = (work_at band (view cpu.old)).waiting in
         result + length (drop (resize.size - from) waiting) ≡ length waiting }

@@ -1,7 +1,17 @@
 //! The takes of a purge: `pfifo_fast_reset` of net/sched/sch_generic.c empties each ring by `__skb_array_consume`, with
 //! the zeroing that this does.
-ghost use Rattle.lq_table.specs.Sees.{IsSeatOf};
-ghost use Rattle.lq_ring.specs.Calls.{MayPurgeBand, MayPurgeOne, PurgesOneBy, PurgesWholeBand};
+ghost use Rattle.std.specs.Prelude.{◌≡◌, ◌≤◌, Some, length};
+ghost use Rattle.lq_band_laws.specs.Three.{at};
+ghost use Rattle.lq_model.specs.Band.{held_of};
+ghost use Rattle.lq_model.specs.Machine.{Purge};
+ghost use Rattle.lq_model.specs.declared.fate.Fate.TheVariants as fate;
+ghost use Rattle.lq_table.specs.Sees.{known, setup, slot, view, IsSameSeat, IsSeatOf};
+ghost use Rattle.lq_table.specs.Views.{Left};
+ghost use Rattle.lq_ring.specs.Purged.{IsBandPurged};
+ghost use Rattle.lq_ring.specs.Calls.{MayPurgeBand, MayPurgeOne};
+ghost use Rattle.lq_ring.specs.Changes.{PurgesBand};
+ghost use Rattle.lq_ring.specs.StepLists.{MakesStepsFrom, PurgeBand, PurgeOne};
+ghost use Rattle.lq_ring.specs.Take.{CarriesStation};
 
 use crate::takes::discard_one;
 use lq_device::TxDevice;
@@ -19,7 +29,8 @@ fn purge_one<'a, D: TxDevice>(
 ) -> bool
     requires seat { IsSeatOf shared.now cpu.old }
     requires may { MayPurgeOne shared.now band size cause cpu.old }
-    ensures { PurgesOneBy shared.now band cause result cpu.old cpu.new }
+    ensures makes { MakesStepsFrom (λ s. PurgeOne band size cause s result) cpu.old cpu.new }
+    ensures stands { (slot cpu.new ≡ slot cpu.old) × CarriesStation cpu.new }
 {
     let found = shared.purge_slot(cpu, band);
     if found == 0 {
@@ -40,7 +51,13 @@ pub fn purge_band<'a, D: TxDevice>(
 ) -> u32
     requires seat { IsSeatOf shared.now cpu.old }
     requires may { MayPurgeBand shared.now band cause cpu.old }
-    ensures { PurgesWholeBand shared.now band cause result cpu.old cpu.new }
+    ensures makes { MakesStepsFrom (λ s. PurgeBand band cause s result) cpu.old cpu.new }
+    ensures same { IsSameSeat cpu.old cpu.new × (slot cpu.new ≡ slot cpu.old) }
+    ensures few { result ≤ shared.now.max_len }
+    ensures station { CarriesStation cpu.new }
+    ensures knows { (u : Purge) (l : Left) → (view cpu.old).control.purge ≡ Some u → (view cpu.old).holder.left ≡ Some l
+        → IsBandPurged band u l (view cpu.old) (view cpu.new) × (result ≡ length (held_of (at band l.bands))) }
+    ensures purges { PurgesBand (setup shared.now) band (fate.Purged cause) result (known cpu.old) (known cpu.new) }
 {
     let size = shared.load_size(cpu) as u32;
     for n in 0..size + 1 {

@@ -1,8 +1,14 @@
 //! Puts by many senders, under a band's producer lock.
-ghost use Rattle.std.specs.Prelude.{◌≡◌, ◌<◌};
-ghost use Rattle.lq_band_laws.specs.Ring.{unlocked};
-ghost use Rattle.lq_table.specs.Sees.{lock_at, IsSeatOf};
-ghost use Rattle.lq_ring.specs.Calls.{LocksBand, MayPut, MayPutLocked, PutsLocked, PutsPacket};
+ghost use Rattle.std.specs.Prelude.{◌≡◌, ◌<◌, ◌+◌, MatchResult};
+ghost use Rattle.lq_band_laws.specs.Ring.{locked_at, unlocked};
+ghost use Rattle.lq_band_laws.specs.Three.{at};
+ghost use Rattle.lq_table.specs.Producers.{with_lock_at, SeesEnd};
+ghost use Rattle.lq_table.specs.Sees.{known, lock_at, setup, slot, view, IsSameSeat, IsSeatOf};
+ghost use Rattle.lq_ring.specs.Calls.{MayPut, MayPutLocked};
+ghost use Rattle.lq_ring.specs.Put.{dropping_full, putting, HearsPut};
+ghost use Rattle.lq_ring.specs.Seats.{GoesOnFromPut};
+ghost use Rattle.lq_ring.specs.StepLists.{LockProducer, MakesStepsFrom, Produce, ProduceLocked};
+ghost use Rattle.lq_ring.specs.Steps.{FindsFull, Puts};
 
 use crossbeam_utils::Backoff;
 use lq_device::TxDevice;
@@ -20,7 +26,10 @@ pub(crate) fn lock_producer<'a, D: TxDevice, R: Wait>(
     requires seat { IsSeatOf shared.now cpu.old }
     requires band { band < 3 }
     requires idle { lock_at band cpu.old ≡ unlocked }
-    ensures { LocksBand shared.now band result cpu.old cpu.new }
+    ensures makes { MakesStepsFrom (λ s. LockProducer band result) cpu.old cpu.new }
+    ensures stands { IsSameSeat cpu.old cpu.new × (cpu.new.station ≡ cpu.old.station) × (slot cpu.new ≡ slot cpu.old)
+        × (view cpu.new ≡ with_lock_at band (locked_at result) (view cpu.old)) × (at band cpu.new.indices ≡ result)
+        × (result < shared.now.max_len) }
 {
     let backoff = Backoff::new();
     for _ in rt.forever() {
@@ -46,7 +55,9 @@ fn produce_locked<'a, D: TxDevice>(
 ) -> Result<(), Full>
     requires seat { IsSeatOf shared.now cpu.old }
     requires may { MayPutLocked shared.now band n index cpu.old }
-    ensures { PutsLocked shared.now band index n result cpu.old cpu.new }
+    ensures makes { MakesStepsFrom (λ s. ProduceLocked band index n result) cpu.old cpu.new }
+    ensures stands { MatchResult result (λ _. view cpu.new ≡ putting band n (view cpu.old))
+        (λ full. view cpu.new ≡ dropping_full n full.seen (view cpu.old)) }
 {
     let size = shared.load_size(cpu);
     let found = shared.producer_slot(cpu, band);
@@ -77,7 +88,15 @@ pub fn produce<'a, D: TxDevice, R: Wait>(
 ) -> Result<(), Full>
     requires seat { IsSeatOf shared.now cpu.old }
     requires may { MayPut shared.now band n cpu.old }
-    ensures { PutsPacket shared.now band n result cpu.old cpu.new }
+    ensures makes { MakesStepsFrom (λ s. Produce band n result) cpu.old cpu.new }
+    ensures same { IsSameSeat cpu.old cpu.new × (cpu.new.station ≡ cpu.old.station) × (slot cpu.new ≡ slot cpu.old) }
+    ensures knows { MatchResult result (λ _. view cpu.new ≡ putting band n (view cpu.old))
+        (λ full. view cpu.new ≡ dropping_full n full.seen (view cpu.old)) }
+    ensures at { GoesOnFromPut shared.now n cpu.old cpu.new }
+    ensures puts { MatchResult result (λ _. Puts (setup shared.now) band n (known cpu.old) (known cpu.new))
+        (λ full. FindsFull (setup shared.now) band n full.seen (known cpu.old) (known cpu.new)) }
+    ensures step { HearsPut band n result (view cpu.old) (view cpu.new) }
+    ensures sole { MatchResult result (λ _. SeesEnd band (view cpu.old) 0) (λ full. SeesEnd band (view cpu.old) (full.seen + 1)) }
 {
     let index = lock_producer(rt, shared, cpu, band);
     produce_locked(shared, cpu, band, n, index)

@@ -1,12 +1,19 @@
 //! A live resize of the three rings, which control does under the run lock and the three producer locks.
-ghost use Rattle.std.specs.Prelude.{◌≡◌, ◌<◌, ◌≤◌, Some};
+ghost use Rattle.std.specs.Prelude.{◌≡◌, ◌<◌, ◌≤◌, ◌+◌, ℕ, List, [], ◌∷◌, None, Some, length};
 ghost use Rattle.lq_ring_core.specs.Slots.{round};
-ghost use Rattle.lq_table.specs.Views.{HolderPart};
+ghost use Rattle.lq_table.specs.Views.{HolderPart, Work};
+ghost use Rattle.lq_table.specs.Producers.{with_lock_at};
+ghost use Rattle.lq_band_laws.specs.Ring.{locked_at};
+ghost use Rattle.lq_device.specs.Station.{StationState};
 ghost use Rattle.lq_table.specs.Rule.{shown};
-ghost use Rattle.lq_table.specs.Sees.{view, IsSeatOf};
+ghost use Rattle.lq_table.specs.Sees.{slot, view, IsSameSeat, IsSeatOf};
+ghost use Rattle.lq_table.specs.Step.{MakesSteps, SetEnds};
 ghost use Rattle.lq_ring.specs.Put.{no_locks};
-ghost use Rattle.lq_ring.specs.Seats.{HasLocksOfTurned, IsReadyToTurn};
-ghost use Rattle.lq_ring.specs.Calls.{LocksBands, MayResizeAll, MayTurnAll, ResizesRings, RestartsRings, TurnsAt, TurnsEach, UnlocksBands};
+ghost use Rattle.lq_ring.specs.Resized.{all_lost, having_resized, locked_three, IsReadyToResize};
+ghost use Rattle.lq_ring.specs.Seats.{ChangesView};
+ghost use Rattle.lq_ring.specs.StepLists.{LockAll, MakesStepsFrom, TurnAll, TurnAt, unlock_steps};
+ghost use Rattle.lq_ring.specs.Work.{having_turned, work_at, IsWorkDone};
+ghost use Rattle.lq_ring.specs.Calls.{MayResizeAll, MayTurnAll, ResizesRings};
 
 use crate::puts::lock_producer;
 use crate::takes::{ends_of, set_ends};
@@ -52,8 +59,13 @@ fn turn_at<'a, D: TxDevice>(
 ) -> Turned
     requires seat { IsSeatOf shared.now cpu.old }
     requires place { (band < 3) × (resize.len ≤ shared.now.max_len) }
-    requires ready { IsReadyToTurn shared.now band resize.size resize.len resize.event cpu.old }
-    ensures { TurnsAt shared.now band resize result cpu.old cpu.new }
+    requires ready { (st : StationState) × (cpu.old.station ≡ Some st)
+        × IsReadyToResize shared.now.max_len shared.now.infos.now st resize.size resize.len resize.event band (view cpu.old) }
+    ensures makes { MakesStepsFrom (λ s. TurnAt band result.index) cpu.old cpu.new }
+    ensures stands { (w : Work) × ChangesView (λ v. with_lock_at band (locked_at result.index) (having_turned band resize.event w v)) cpu.old cpu.new
+        × IsWorkDone shared.now.max_len resize.len (work_at band (view cpu.old)) w
+        × (result.index ≡ round resize.len (length w.kept)) }
+    ensures count { (result.dropped ≡ length (work_at band (view cpu.old)).waiting) × (result.dropped ≤ resize.size) }
 {
     let ends = ends_of(cpu, band);
     let done = turn_band(shared, cpu, band, ends, resize);
@@ -69,7 +81,13 @@ fn turn_at<'a, D: TxDevice>(
 fn turn_all<'a, D: TxDevice>(shared: &Shared<'a, D>, cpu: &mut Cpu<D>, resize: Resize) -> AllTurned
     requires seat { IsSeatOf shared.now cpu.old }
     requires may { MayTurnAll shared.now resize cpu.old }
-    ensures { TurnsEach shared.now resize result cpu.old cpu.new }
+    ensures makes { (held : ℕ → List ℕ)
+        × MakesStepsFrom (λ s. TurnAll resize.len resize.event held result.low.index result.mid.index result.high.index) cpu.old cpu.new
+        × ChangesView (λ v. record (having_resized resize.len resize.event (all_lost resize.len held) v) {
+          locks = locked_three result.low.index result.mid.index result.high.index;
+        }) cpu.old cpu.new
+        × (result.low.dropped + result.mid.dropped + result.high.dropped ≡ length (all_lost resize.len held)) }
+    ensures few { (result.low.dropped ≤ resize.size) × (result.mid.dropped ≤ resize.size) × (result.high.dropped ≤ resize.size) }
 {
     shared.begin_resize(cpu, resize.len, resize.event);
     let low = turn_at(shared, cpu, 0, resize);
@@ -83,7 +101,9 @@ fn turn_all<'a, D: TxDevice>(shared: &Shared<'a, D>, cpu: &mut Cpu<D>, resize: R
 fn lock_all<'a, D: TxDevice, R: Wait>(rt: &R, shared: &Shared<'a, D>, cpu: &mut Cpu<D>)
     requires seat { IsSeatOf shared.now cpu.old }
     requires idle { (view cpu.old).locks ≡ no_locks }
-    ensures { LocksBands cpu.old cpu.new }
+    ensures makes { MakesStepsFrom (λ s. LockAll) cpu.old cpu.new }
+    ensures stands { (low mid high : ℕ) × IsSameSeat cpu.old cpu.new × (cpu.new.station ≡ cpu.old.station) × (slot cpu.new ≡ slot cpu.old)
+        × (view cpu.new ≡ record (view cpu.old) { locks = locked_three low mid high }) }
 {
     lock_producer(rt, shared, cpu, 0);
     lock_producer(rt, shared, cpu, 1);
@@ -93,8 +113,9 @@ fn lock_all<'a, D: TxDevice, R: Wait>(rt: &R, shared: &Shared<'a, D>, cpu: &mut 
 /// Gives the three producer locks back, with the indices that the resize has set.
 fn unlock_all<'a, D: TxDevice>(shared: &Shared<'a, D>, cpu: &mut Cpu<D>, turned: AllTurned)
     requires seat { IsSeatOf shared.now cpu.old }
-    requires locks { HasLocksOfTurned turned cpu.old }
-    ensures { UnlocksBands turned cpu.old cpu.new }
+    requires locks { ((view cpu.old).locks ≡ locked_three turned.low.index turned.mid.index turned.high.index)
+        × ((view cpu.old).holder.resizing ≡ None) }
+    ensures { (stored : ℕ) × MakesSteps (unlock_steps stored turned.low.index turned.mid.index turned.high.index) cpu.old cpu.new }
 {
     shared.load_size(cpu);
     shared.give_producer(cpu, 0, turned.low.index);
@@ -105,7 +126,7 @@ fn unlock_all<'a, D: TxDevice>(shared: &Shared<'a, D>, cpu: &mut Cpu<D>, turned:
 /// Sets the station's heads and tails to 0.
 fn restart_ends<D: TxDevice>(cpu: &mut Cpu<D>)
     requires station { (h : HolderPart) × (cpu.old.station ≡ Some (shown h)) }
-    ensures { RestartsRings cpu.old cpu.new }
+    ensures { MakesSteps (SetEnds 0 0 0 ∷ SetEnds 1 0 0 ∷ SetEnds 2 0 0 ∷ []) cpu.old cpu.new }
 {
     set_ends(cpu, 0, 0, 0);
     set_ends(cpu, 1, 0, 0);

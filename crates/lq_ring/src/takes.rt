@@ -1,10 +1,17 @@
 //! Takes by the holder of the run lock, which waits for nobody.
-ghost use Rattle.std.specs.Prelude.{◌≡◌, ◌<◌, ◌≤◌, Some, slice_index};
-ghost use Rattle.lq_device.specs.Station.{StationState, with_ends};
-ghost use Rattle.lq_table.specs.Consumers.{CarriesEndsBeforeTake};
-ghost use Rattle.lq_table.specs.Sees.{IsSeatOf};
-ghost use Rattle.lq_ring.specs.Seats.{HasBatchToEmpty, HoldsRings};
-ghost use Rattle.lq_ring.specs.Calls.{ChangesStation, DiscardsOne, EmptiesTail, MayConsume, MayDiscard, TakesFrom};
+ghost use Rattle.std.specs.Prelude.{◌≡◌, ◌-◌, ◌<◌, ◌≤◌, [], ◌∷◌, IfSome, MatchOption, Some, slice_get, slice_index};
+ghost use Rattle.lq_device.specs.Station.{StationState};
+ghost use Rattle.lq_model.specs.Account.{held_in, Take};
+ghost use Rattle.lq_table.specs.Consumers.{head_slot_view_empty};
+ghost use Rattle.lq_table.specs.Moves.{IsPacketOf};
+ghost use Rattle.lq_table.specs.Rule.{IsResting};
+ghost use Rattle.lq_table.specs.Sees.{account_of, ends_at, heard, known, setup, slot, solo, view, IsSameSeat, IsSeatOf, IsSole};
+ghost use Rattle.lq_table.specs.Step.{MakesSteps, SetEnds};
+ghost use Rattle.lq_ring.specs.Seats.{GoesOnFromScan};
+ghost use Rattle.lq_ring.specs.StepLists.{discard_steps, zero_steps, Consume, MakesStepsFrom};
+ghost use Rattle.lq_ring.specs.Steps.{FindsSlotEmpty, Takes};
+ghost use Rattle.lq_ring.specs.Take.{consuming, CarriesStation};
+ghost use Rattle.lq_ring.specs.Calls.{MayConsume, MayDiscard, MayZero};
 
 use crate::turns::Ends;
 use lq_device::TxDevice;
@@ -28,7 +35,7 @@ pub(crate) fn ends_of<D: TxDevice>(cpu: &Cpu<D>, band: u32) -> Ends
 pub(crate) fn set_ends<D: TxDevice>(cpu: &mut Cpu<D>, band: u32, head: u32, tail: u32)
     requires band { (band < 3) × (tail ≤ head) }
     requires station { (st : StationState) × (cpu.old.station ≡ Some st) }
-    ensures { ChangesStation (λ st. with_ends st band head tail) cpu.old cpu.new }
+    ensures { MakesSteps (SetEnds band head tail ∷ []) cpu.old cpu.new }
 {
     cpu.station_mut().set_ends(band, head, tail);
 }
@@ -43,10 +50,8 @@ fn zero_tail<'a, D: TxDevice>(
 )
     requires seat { IsSeatOf shared.now cpu.old }
     requires band { band < 3 }
-    requires holder { HoldsRings shared.now cpu.old }
-    requires ends { HasBatchToEmpty band tail head cpu.old }
-    requires before { CarriesEndsBeforeTake band cpu.old }
-    ensures { EmptiesTail shared.now band tail head cpu.old cpu.new }
+    requires may { MayZero shared.now band tail head cpu.old }
+    ensures { MakesSteps (zero_steps band head (head - tail)) cpu.old cpu.new }
 {
     for n in 0..head - tail {
         shared.zero_slot(cpu, band, head - 1 - n);
@@ -63,7 +68,7 @@ pub(crate) fn discard_one<'a, D: TxDevice>(
 )
     requires seat { IsSeatOf shared.now cpu.old }
     requires may { MayDiscard shared.now band size cpu.old }
-    ensures { DiscardsOne shared.now band size cpu.old cpu.new }
+    ensures { MakesSteps (discard_steps band size (ends_at band cpu.old)) cpu.old cpu.new }
 {
     let Ends { tail, head } = ends_of(cpu, band);
     let head = head + 1;
@@ -84,7 +89,21 @@ pub(crate) fn discard_one<'a, D: TxDevice>(
 pub fn consume<'a, D: TxDevice>(shared: &Shared<'a, D>, cpu: &mut Cpu<D>, band: u32) -> Option<u32>
     requires seat { IsSeatOf shared.now cpu.old }
     requires may { MayConsume band cpu.old }
-    ensures { TakesFrom shared.now band result cpu.old cpu.new }
+    ensures makes { MakesStepsFrom (λ s. Consume band s result) cpu.old cpu.new }
+    ensures same { IsSameSeat cpu.old cpu.new × (cpu.new.indices ≡ cpu.old.indices) × (slot cpu.new ≡ slot cpu.old) }
+    ensures knows { MatchOption result (view cpu.new ≡ head_slot_view_empty band (view cpu.old))
+        (λ n. view cpu.new ≡ consuming band n (view cpu.old)) }
+    ensures at { GoesOnFromScan band result cpu.old cpu.new }
+    ensures rests { IsResting (view cpu.new).holder.size (view cpu.new).holder.ends }
+    ensures station { CarriesStation cpu.new }
+    ensures packet { IfSome result (λ n. IsPacketOf (view cpu.old).share.about n) }
+    ensures takes { MatchOption result (FindsSlotEmpty (setup shared.now) band (known cpu.old) (known cpu.new))
+        (λ n. Takes (setup shared.now) band n (known cpu.old) (known cpu.new)) }
+    ensures step { MatchOption result (solo (view cpu.new) ≡ solo (view cpu.old))
+        (λ n. solo (view cpu.new) ≡ heard (Take band) (solo (view cpu.old))) }
+    ensures sole { IsSole (view cpu.old) → slice_get (held_in (account_of (view cpu.old)) band) 0 ≡ result }
+    ensures known { (view cpu.old).whole.state.ends ≡ (view cpu.old).holder.ends
+        → (view cpu.new).whole.state.ends ≡ (view cpu.new).holder.ends }
 {
     let size = shared.load_size(cpu);
     let found = shared.head_slot(cpu, band);

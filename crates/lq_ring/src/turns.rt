@@ -1,7 +1,11 @@
 //! A resize of one band.
-ghost use Rattle.std.specs.Prelude.{◌≡◌, ◌<◌, ◌≤◌};
-ghost use Rattle.lq_table.specs.Sees.{IsSeatOf};
-ghost use Rattle.lq_ring.specs.Calls.{MayTurnBand, TurnsWholeBand};
+ghost use Rattle.std.specs.Prelude.{◌≡◌, ◌<◌, ◌≤◌, length};
+ghost use Rattle.lq_table.specs.Sees.{view, IsSeatOf};
+ghost use Rattle.lq_table.specs.Views.{Work};
+ghost use Rattle.lq_ring.specs.Seats.{ChangesView};
+ghost use Rattle.lq_ring.specs.StepLists.{MakesStepsFrom, TurnRing};
+ghost use Rattle.lq_ring.specs.Work.{having_turned, work_at, IsWorkDone};
+ghost use Rattle.lq_ring.specs.Calls.{MayTurnBand};
 
 use crate::moves::{clear_stale, count_filled, drop_rest, rotate};
 use lq_device::TxDevice;
@@ -52,7 +56,12 @@ pub(crate) fn turn_band<'a, D: TxDevice>(
 ) -> Kept
     requires seat { IsSeatOf shared.now cpu.old }
     requires may { MayTurnBand shared.now band ends resize cpu.old }
-    ensures { TurnsWholeBand shared.now band resize result cpu.old cpu.new }
+    ensures makes { MakesStepsFrom (λ s. TurnRing band) cpu.old cpu.new }
+    ensures stands { (w : Work) × ChangesView (having_turned band resize.event w) cpu.old cpu.new
+        × IsWorkDone shared.now.max_len resize.len (work_at band (view cpu.old)) w }
+    ensures few { result.dropped ≤ resize.size }
+    ensures kept { (result.kept ≡ length (work_at band (view cpu.old)).kept)
+        × (result.dropped ≡ length (work_at band (view cpu.old)).waiting) }
 {
     clear_stale(shared, cpu, band, ends.tail, ends.head);
     rotate(shared, cpu, band, ends.head, resize.size);

@@ -1,7 +1,8 @@
 use Rattle.std.proofs.Common.{◌≡◌, ◌≤◌, ◌+◌, drop, length}
-use Rattle.lq_table.specs.Sees.{view, IsSeatOf, IsElseSame, setup, steps}
-use Rattle.lq_ring.specs.Work.{work_at, working, having_settled, shrunk_to, dropped_to}
-use Rattle.lq_ring.specs.Changes.{TurnsRing}
+use Rattle.lq_table.specs.Sees.{view, IsSeatOf, IsElseSame}
+use Rattle.lq_ring.specs.Work.{work_at, working, having_settled, dropped_to}
+use Rattle.lq_ring.proofs.Works.{shrunk_to}
+use Rattle.lq_ring.specs.StepLists.{MakesStepsFrom, TurnRing}
 use Rattle.lq_ring.proofs.moves.drop_rest.Given as goal
 
 abbrev pub invariant-loop-n : goal.invariant-loop-n
@@ -11,5 +12,5 @@ invariant-loop-n g l = record {
   view_is : view l.cpu ≡ having_settled (shrunk_to l.resize.event l.n (work_at l.band (view l.fn.cpu)).waiting (view l.fn.cpu).settled) (working l.band (dropped_to l.from l.n (work_at l.band (view l.fn.cpu))) (view l.fn.cpu));
   count_is : l.count + length (drop l.n (work_at l.band (view l.fn.cpu)).waiting) ≡ length (work_at l.band (view l.fn.cpu)).waiting;
   few : l.count ≤ l.n;
-  made : TurnsRing (setup l.shared) l.band (steps l.fn.cpu) (steps l.cpu);
+  made : MakesStepsFrom (λ s. TurnRing l.band) l.fn.cpu l.cpu;
 }

@@ -1,7 +1,7 @@
 use Rattle.std.proofs.Common.{◌≡◌}
-use Rattle.lq_table.specs.Sees.{view, IsSeatOf, IsElseSame, setup, steps}
+use Rattle.lq_table.specs.Sees.{view, IsSeatOf, IsElseSame}
 use Rattle.lq_ring.specs.Work.{work_at, working, with_slots, reversed_to}
-use Rattle.lq_ring.specs.Changes.{TurnsRing}
+use Rattle.lq_ring.specs.StepLists.{MakesStepsFrom, TurnRing}
 use Rattle.lq_ring.proofs.moves.reverse.Given as goal
 
 abbrev pub invariant-loop-k : goal.invariant-loop-k
@@ -9,5 +9,5 @@ invariant-loop-k g l = record {
   seat : IsSeatOf l.shared l.cpu;
   same : IsElseSame l.fn.cpu l.cpu;
   view_is : view l.cpu ≡ working l.band (with_slots (reversed_to l.a l.b l.k (work_at l.band (view l.fn.cpu)).slots) (work_at l.band (view l.fn.cpu))) (view l.fn.cpu);
-  made : TurnsRing (setup l.shared) l.band (steps l.fn.cpu) (steps l.cpu);
+  made : MakesStepsFrom (λ s. TurnRing l.band) l.fn.cpu l.cpu;
 }

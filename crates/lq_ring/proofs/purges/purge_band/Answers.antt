@@ -1,19 +1,25 @@
-use Rattle.std.proofs.Common.{rules, ◌≡◌, ℕ, List, [], take, sym, ap, ◌∙◌, subst, arith, Some}
+use Rattle.std.proofs.Common.{rules, ◌≡◌, Bool, true, ℕ, List, [], ◌∷◌, ◌++◌, take, sym, ap, ◌∙◌, subst, arith, Some}
 use Rattle.lq_model.specs.Positions.{holds_lock}
 use Rattle.lq_model.specs.Band.{held_of}
+use Rattle.lq_model.specs.Machine.{Purge}
 use Rattle.lq_band_laws.specs.Three.{at}
-use Rattle.lq_band_laws.specs.Ring.{Ends, after_take}
+use Rattle.lq_band_laws.specs.Ring.{Ends, IsAtRest, after_take}
 use Rattle.lq_table.specs.Views.{View, Left}
 use Rattle.lq_table.specs.Rule.{shown, IsResting}
 use Rattle.lq_table.specs.Sees.{view, setup, steps}
 use Rattle.lq_table.specs.Made.{Made, ◌⊳◌}
-use Rattle.lq_table.specs.Producers.{load_size_log}
+use Rattle.lq_table.specs.Producers.{load_size_log, load_slot_log}
 use Rattle.lq_model.specs.declared.fate.Fate.TheVariants as fate
 use Rattle.lq_ring.specs.Changes.{PurgesEach, none_yet, one_more, purging_steps}
 use Rattle.lq_ring.specs.Purged.{purged_by, IsPurgedTo}
 use Rattle.lq_ring.proofs.Seats.{seat_on}
 use Rattle.lq_ring.proofs.TakeSteps.{sized_none, rest_at, rest_put}
-use Rattle.lq_ring.proofs.PurgeSteps.{none_purged, next_purged, all_purged, still_held, taken_next_of, taken_all, ends_after}
+use Rattle.lq_ring.proofs.PurgeSteps.{few_left, none_purged, next_purged, all_purged, still_held, taken_next_of, taken_all, ends_after}
+use Rattle.lq_band_laws.proofs.Three.{at_put_same}
+use Rattle.lq_table.specs.Step.{LoadSize, MakesSteps, PurgeSlot, Standing, Step, standing}
+use Rattle.lq_ring.specs.StepLists.{EmptiesBand, NoneYet, OneMore, PurgeOne}
+use Rattle.lq_ring.proofs.ListLogs.{pass_leaves, passes, purge_leaves}
+use Rattle.lq_ring.proofs.StepsThen.{makes_then, stands_after}
 use Rattle.lq_ring.proofs.purges.purge_band.Goals as goal
 
 pub loop-n-init : goal.loop-n-init
@@ -23,6 +29,7 @@ loop-n-init g c =
       still = s.0;
       slot = s.3;
       station = s.1 ∙ (c.requires.may.station ∙ ap (λ (x : View). Some (shown x.holder)) (sym loaded));
+      each = ([], NoneYet, c.load_size-size.ensures.makes);
       purged = λ f left. subst (λ (x : View). IsPurgedTo c.args.band 0 f v x) (sym loaded) (none_purged c.args.band f v c.requires.may.below left (rest_at _ c.args.band _ c.requires.may.rests.0));
       made = λ f left. let size = c.load_size-size.ensures.holder (ap holds_lock c.requires.may.at.2) in let start : Ends = at c.args.band v.holder.ends in
           subst (λ (z : Ends × List Made). PurgesEach (setup c.args.shared.now) c.args.band (fate.Purged c.args.cause) v.holder.size start (steps c.args.cpu.now ⊳ load_size_log v.holder.size) [] z.0 z.1)
@@ -34,7 +41,7 @@ purge_one-requires-clause-may g c _ _ = record {
   below = search rules;
   at =
       let at = c.requires.may.at in let l = at.1 in let b = c.args.band in let p = c.loop-n.invariant.purged l at.5 in
-      (at.0, purged_by b c.loop-n.n l, ap (λ (x : View). x.place.position) p.is ∙ at.2, ap (λ (x : View). x.control.purge) p.is ∙ at.3, at.4, ap (λ (x : View). x.holder.left) p.is, at.6, λ n h. at.7 n (still_held b c.loop-n.n l n h));
+      (at.0, purged_by b c.loop-n.n l, ap (λ (x : View). x.place.position) p.is ∙ at.2, ap (λ (x : View). x.control.purge) p.is ∙ at.3, at.4, ap (λ (x : View). x.holder.left) p.is, at.6, (λ n h. at.7 n (still_held b c.loop-n.n l n h)), few_left b c.loop-n.n l _ _ (ap (λ (x : View). x.holder.size) p.is) at.8);
   word = search rules;
   packets =
       let at = c.requires.may.at in let p = c.loop-n.invariant.purged at.1 at.5 in (ap (λ (x : View). x.packets.owed) p.is ∙ c.requires.may.packets.0, ap (λ (x : View). x.packets.fresh) p.is ∙ c.requires.may.packets.1);
@@ -51,22 +58,29 @@ purge_one-requires-clause-may g c _ _ = record {
 
 pub loop-n-preserved : goal.loop-n-preserved
 loop-n-preserved g c =
-    let b = c.args.band in let k = c.loop-n.n in let v = view c.args.cpu.now in let i = c.loop-n.invariant in let s = c.purge_one.ensures.same in
-    let next = λ (l : Left) (left : v.holder.left ≡ Some l). (let p = i.purged l left in let t = c.purge_one.ensures.taken c.if-not-purge_one.false (purged_by b k l) (ap (λ (x : View). x.holder.left) p.is) in
-    next_purged b k t.0 l v (view c.loop-n.cpu) (view c.purge_one.new.cpu) c.requires.may.packets.0 p t.1 t.2) in record {
-      seat = seat_on c.args.shared.now c.args.cpu.now c.purge_one.new.cpu c.requires.seat (s.0.0 ∙ i.still.0, s.0.1 ∙ i.still.1) (ap (λ (x : View). x.share) (next c.requires.may.at.1 c.requires.may.at.5).is);
-      still = (s.0.0 ∙ i.still.0, s.0.1 ∙ i.still.1);
-      slot = s.1 ∙ i.slot;
-      station = c.purge_one.ensures.station;
+    let b = c.args.band in let k = c.loop-n.n in let v = view c.args.cpu.now in let w = view c.loop-n.cpu in let i = c.loop-n.invariant in let m = c.purge_one.ensures.makes in let s = m.2.seat in
+    let z = c.load_size-size.result in let length : z ≡ v.holder.size = c.load_size-size.ensures.holder (ap holds_lock c.requires.may.at.2) in
+    let one = subst (λ (r : Bool). PurgeOne b z c.args.cause (standing c.loop-n.cpu) r m.0) c.if-not-purge_one.false m.1 in
+    let taken = λ (l : Left) (left : v.holder.left ≡ Some l). (let p = i.purged l left in
+    let ends : at b w.holder.ends ≡ p.ends = ap (λ (x : View). at b x.holder.ends) p.is ∙ at_put_same b p.ends v.holder.ends in
+    purge_leaves b z c.args.cause (standing c.loop-n.cpu) (purged_by b k l) m.0 one m.2.told (ap (λ (x : View). x.holder.left) p.is)
+    (subst (λ (x : ℕ × Ends). IsAtRest x.0 x.1) (λ j. (sym length j, sym ends j)) p.rests) (ap (λ (x : View). x.holder.size) p.is ∙ sym length)) in
+    let next = λ (l : Left) (left : v.holder.left ≡ Some l). (let t = taken l left in next_purged b k t.0 l v w (view c.purge_one.new.cpu) c.requires.may.packets.0 (i.purged l left) t.1 (m.2.knows ∙ t.2)) in record {
+      seat = seat_on c.args.shared.now c.args.cpu.now c.purge_one.new.cpu c.requires.seat (s.0 ∙ i.still.0, s.1 ∙ i.still.1) (ap (λ (x : View). x.share) (next c.requires.may.at.1 c.requires.may.at.5).is);
+      still = (s.0 ∙ i.still.0, s.1 ∙ i.still.1);
+      slot = c.purge_one.ensures.stands.0 ∙ i.slot;
+      station = c.purge_one.ensures.stands.1;
+      each = (i.each.0 ++ m.0, OneMore i.each.1 (subst (λ (x : Standing). PurgeOne b z c.args.cause x true m.0) (stands_after i.each.2) one), makes_then i.each.2 m.2);
       purged = next;
       made = λ l left.
-          let p = i.purged l left in let t = c.purge_one.ensures.taken c.if-not-purge_one.false (purged_by b k l) (ap (λ (x : View). x.holder.left) p.is) in let held : List ℕ = held_of (at b l.bands) in
-          let made_ = c.purge_one.ensures.made.first c.if-not-purge_one.false (purged_by b k l) t.0 (ap (λ (x : View). x.holder.left) p.is) t.1 in
-          let size : (view c.loop-n.cpu).holder.size ≡ v.holder.size = ap (λ (x : View). x.holder.size) p.is in
-          let then = ends_after b t.0 (purged_by b k l) (view c.loop-n.cpu) (view c.purge_one.new.cpu) t.2 in
-          subst (λ (z : List ℕ × Ends × List Made). PurgesEach (setup c.args.shared.now) b (fate.Purged c.args.cause) v.holder.size (at b v.holder.ends) (steps c.args.cpu.now ⊳ load_size_log v.holder.size) z.0 z.1 z.2)
-          (λ j. (taken_next_of b k t.0 l t.1 j, ((λ m. after_take (sym size m) (at b (view c.loop-n.cpu).holder.ends)) ∙ sym then) j, ((λ m. purging_steps (setup c.args.shared.now) b (fate.Purged c.args.cause) (sym size m) (at b (view c.loop-n.cpu).holder.ends) t.0 (steps c.loop-n.cpu)) ∙ sym made_) j))
-          (one_more (take k held) (at b (view c.loop-n.cpu).holder.ends) t.0 (steps c.loop-n.cpu) (i.made l left));
+          let p = i.purged l left in let t = taken l left in let held : List ℕ = held_of (at b l.bands) in let k_is = setup c.args.shared.now in
+          let about : w.share.about ≡ k_is = ap (λ (x : View). x.share.about) p.is ∙ c.requires.seat.2 in
+          let made_ = m.2.made ∙ (t.3 ∙ (λ j. purging_steps (about j) b (fate.Purged c.args.cause) (length j) (at b w.holder.ends) t.0 (steps c.loop-n.cpu))) in
+          let size : w.holder.size ≡ v.holder.size = ap (λ (x : View). x.holder.size) p.is in
+          let then = ends_after b t.0 (purged_by b k l) w (view c.purge_one.new.cpu) (m.2.knows ∙ t.2) in
+          subst (λ (x : List ℕ × Ends × List Made). PurgesEach k_is b (fate.Purged c.args.cause) v.holder.size (at b v.holder.ends) (steps c.args.cpu.now ⊳ load_size_log v.holder.size) x.0 x.1 x.2)
+          (λ j. (taken_next_of b k t.0 l t.1 j, ((λ m. after_take (sym size m) (at b w.holder.ends)) ∙ sym then) j, sym made_ j))
+          (one_more (take k held) (at b w.holder.ends) t.0 (steps c.loop-n.cpu) (i.made l left));
     }
 
 pub unreachable-requires : goal.unreachable-requires
@@ -75,26 +89,33 @@ unreachable-requires g c =
     let size : c.load_size-size.result ≡ (view c.args.cpu.now).holder.size = c.load_size-size.ensures.holder (ap holds_lock at.2) in absurd (omega arith)
 
 pub returns-then-not-purge_one : goal.returns-then-not-purge_one
-returns-then-not-purge_one g c = record {
-  same = search rules;
-  few = search rules;
-  station = search rules;
-  purges =
-      let b = c.args.band in let k = c.loop-n.n in let i = c.loop-n.invariant in let one = c.purge_one.ensures in
-      record {
-        purged = λ u l purge left.
-            let p = i.purged l left in
-            let none_ = one.none c.if-not-purge_one.true u (purged_by b k l) (ap (λ (x : View). x.control.purge) p.is ∙ purge) (ap (λ (x : View). x.holder.left) p.is) in
-            all_purged b k u l (view c.args.cpu.now) (view c.loop-n.cpu) (view c.purge_one.new.cpu) p none_.0 none_.1;
+returns-then-not-purge_one g c =
+    let i = c.loop-n.invariant in let m = c.purge_one.ensures.makes in let z = c.load_size-size.result in let b = c.args.band in let k = c.loop-n.n in let s = m.2.seat in
+    let none_ = subst (λ (r : Bool). PurgeOne b z c.args.cause (standing c.loop-n.cpu) r m.0) c.if-not-purge_one.true m.1 in
+    let passed = λ (u : Purge) (l : Left) (purge : (view c.args.cpu.now).control.purge ≡ Some u) (left : (view c.args.cpu.now).holder.left ≡ Some l). (let p = i.purged l left in
+    pass_leaves b z c.args.cause (standing c.loop-n.cpu) u (purged_by b k l) m.0 none_ m.2.told (ap (λ (x : View). x.control.purge) p.is ∙ purge) (ap (λ (x : View). x.holder.left) p.is)) in
+    let knows = λ (u : Purge) (l : Left) (purge : (view c.args.cpu.now).control.purge ≡ Some u) (left : (view c.args.cpu.now).holder.left ≡ Some l). (let t = passed u l purge left in
+    all_purged b k u l (view c.args.cpu.now) (view c.loop-n.cpu) (view c.purge_one.new.cpu) (i.purged l left) t.0 (m.2.knows ∙ t.1)) in record {
+      makes = (
+        LoadSize z ∷ i.each.0 ++ PurgeSlot b 0 ∷ [],
+        EmptiesBand i.each.1,
+        makes_then i.each.2 (subst (λ (xs : List Step). MakesSteps xs c.loop-n.cpu c.purge_one.new.cpu) (passes b z c.args.cause (standing c.loop-n.cpu) m.0 none_) m.2),
+      );
+      same = ((s.0 ∙ i.still.0, s.1 ∙ i.still.1), c.purge_one.ensures.stands.0 ∙ i.slot);
+      few = search rules;
+      station = search rules;
+      knows = knows;
+      purges = record {
+        purged = knows;
         made = λ l left.
-            let p = i.purged l left in let come = c.requires.may.at in
-            let none_ = one.none c.if-not-purge_one.true come.0 (purged_by b k l) (ap (λ (x : View). x.control.purge) p.is ∙ come.3) (ap (λ (x : View). x.holder.left) p.is) in
+            let p = i.purged l left in let come = c.requires.may.at in let t = passed come.0 l come.3 left in
+            let about : (view c.loop-n.cpu).share.about ≡ setup c.args.shared.now = ap (λ (x : View). x.share.about) p.is ∙ c.requires.seat.2 in
             let old = view c.args.cpu.now in let ends = at b (view c.loop-n.cpu).holder.ends in (
               steps c.loop-n.cpu,
               ends,
               subst (λ (ns : List ℕ). PurgesEach (setup c.args.shared.now) b (fate.Purged c.args.cause) old.holder.size (at b old.holder.ends) (steps c.args.cpu.now ⊳ load_size_log old.holder.size) ns ends (steps c.loop-n.cpu))
-                  (taken_all b k l none_.0) (i.made l left),
-              one.made.none c.if-not-purge_one.true,
+                  (taken_all b k l t.0) (i.made l left),
+              m.2.made ∙ (t.2 ∙ (λ j. steps c.loop-n.cpu ⊳ load_slot_log (about j) b ends.head 0)),
             );
       };
-}
+    }

@@ -1,31 +1,27 @@
-use Rattle.std.proofs.Common.{rules, ◌≡◌, ℕ, ◌+◌, ◌-◌, ◌<◌, ◌≤◌, refl, sym, ap, ◌∙◌, subst, arith, Option, Some}
-use Rattle.std.specs.Prelude.{slice_index, is_some}
+use Rattle.std.proofs.Common.{rules, ◌≡◌, ℕ, [], ◌∷◌, ◌+◌, ◌-◌, refl, sym, ap, ◌∙◌, subst, arith, Option, Some}
+use Rattle.std.specs.Prelude.{option_map, slice_index, is_some}
 use Rattle.std.specs.Option.{unwrap_or}
-use Rattle.std.proofs.lemmas.Option.{same_Some}
 use Rattle.lq_account_laws.proofs.Lists.{first-in}
-use Rattle.lq_device.specs.Station.{StationState}
+use Rattle.lq_device.specs.Station.{StationState, with_ends}
 use Rattle.lq_model.specs.Positions.{holds_lock}
 use Rattle.lq_model.specs.declared.fate.Fate.TheVariants as fate
 use Rattle.lq_model.specs.declared.fate.Cause.{Cause}
 use Rattle.lq_band_laws.specs.Three.{at}
 use Rattle.lq_band_laws.specs.Ring.{Ends, taken_on}
 use Rattle.lq_band_laws.proofs.Three.{at_put_same}
-use Rattle.lq_table.specs.Views.{View, no_station}
+use Rattle.lq_table.specs.Views.{Left, View, no_station}
 use Rattle.lq_table.specs.Rule.{shown}
 use Rattle.lq_table.specs.Purges.{purge_slot_view}
-use Rattle.lq_table.specs.Fates.{settle_view_owed, settle_log}
-use Rattle.lq_table.specs.Sees.{view, setup, steps}
-use Rattle.lq_table.specs.Made.{◌⊳◌}
-use Rattle.lq_table.specs.Producers.{load_slot_log}
-use Rattle.lq_model.specs.Words.{word_of}
-use Rattle.lq_ring.specs.Changes.{purging_steps}
-use Rattle.lq_ring.specs.Steps.{zeroed}
-use Rattle.lq_ring.proofs.TakeSteps.{heads_at, tails_at, rest_at, takes_end}
+use Rattle.lq_table.specs.Fates.{settle_view_owed}
+use Rattle.lq_table.specs.Sees.{view}
+use Rattle.lq_table.specs.Step.{MakesSteps, PurgeSlot, Settle, Standing, standing, steps_leave}
+use Rattle.lq_ring.specs.StepLists.{FindsNone, PurgesNext, discard_steps}
+use Rattle.lq_ring.proofs.TakeSteps.{ends_left, heads_at, tails_at, rest_at, taken_batch, takes_end}
 use Rattle.lq_ring.proofs.Seats.{seat_on}
-use Rattle.lq_ring.proofs.PurgeSteps.{purged_station}
-use Rattle.lq_ring.specs.Take.{emptied_count}
-use Rattle.lq_ring.proofs.StepLemmas.{zeroed_as}
-use Rattle.lq_ring.specs.Purged.{PurgesFirst}
+use Rattle.lq_ring.proofs.PurgeSteps.{PurgesOne, purged_station}
+use Rattle.lq_ring.proofs.StepsThen.{makes_then, stands_after}
+use Rattle.lq_ring.proofs.ZeroSteps.{discard_leaves, discarded}
+use Rattle.lq_ring.proofs.purges.purge_one.Given as given
 use Rattle.lq_ring.proofs.purges.purge_one.Goals as goal
 
 abbrev at_ : ℕ → View → Ends
@@ -72,8 +68,7 @@ discard_one-requires-clause-may g c _ _ = record {
       let at = c.requires.may.at in let r = c.requires.may.rests in let b = c.args.band in let v = view c.args.cpu.now in let own : Ends = at_ b v in
       let took = c.settle.ensures.settled ∙ ap settle_view_owed (c.purge_slot-found.ensures.taken at.1 at.5 c.if-found-eq0.false).1 in
       let ends : at_ b (view c.settle.new.cpu) ≡ taken_on own = ap (λ (x : View). at_ b x) took ∙ at_put_same b (taken_on own) v.holder.ends in
-      let rest = rest_at v.holder.size b v.holder.ends r.0 in let first = rest.0 in let within = rest.1 in let size = r.2 in
-      subst (λ (e : Ends). (e.edge ≡ e.head) × (e.tail < e.head) × (e.head ≤ c.args.size)) (sym ends) (refl, omega arith, omega arith);
+      taken_batch v.holder.size c.args.size own _ ends (rest_at v.holder.size b v.holder.ends r.0) (sym r.2);
 }
 
 pub settle-requires-clause-seat : goal.settle-requires-clause-seat
@@ -88,47 +83,44 @@ discard_one-requires-clause-seat g c _ _ =
 
 pub returns-then-found-eq0 : goal.returns-then-found-eq0
 returns-then-found-eq0 g c = record {
-  same = search rules;
-  none = λ _ u l purge left. c.purge_slot-found.ensures.none u l purge left c.if-found-eq0.true;
-  taken = search rules;
-  station =
+  makes =
+      let b = c.args.band in let empty = subst (λ (n : ℕ). MakesSteps (PurgeSlot b n ∷ []) c.args.cpu.now c.purge_slot-found.new.cpu) c.if-found-eq0.true c.purge_slot-found.ensures.makes in
+      (PurgeSlot b 0 ∷ [], FindsNone, empty);
+  stands =
       let at = c.requires.may.at in let e = (c.purge_slot-found.ensures.none at.0 at.1 at.3 at.5 c.if-found-eq0.true).1 in
-      c.purge_slot-found.ensures.same.0.1 ∙ (c.requires.may.station ∙ ap (λ (x : View). Some (shown x.holder)) (sym e));
-  made =
-      let b = c.args.band in let k = setup c.args.shared.now in let zero_ = c.if-found-eq0.true in let head = (at_ b (view c.args.cpu.now)).head in
-      record { first = λ e. cc; none = λ _. c.purge_slot-found.ensures.made ∙ (λ j. steps c.args.cpu.now ⊳ load_slot_log k b head (zero_ j)) };
+      (c.purge_slot-found.ensures.makes.has, c.purge_slot-found.ensures.same.0.1 ∙ (c.requires.may.station ∙ ap (λ (x : View). Some (shown x.holder)) (sym e)));
 }
+
+-- the slots that were taken are emptied where that is due
+left-is : (g : given.Over) (c : goal.After-discard_one g) → let m = standing c.settle.new.cpu in let own = at_ c.args.band (view c.args.cpu.now) in
+    (at_ c.args.band m.view ≡ taken_on own) × (standing c.discard_one.new.cpu ≡ discarded c.args.band c.args.size (taken_on own) (at c.args.band m.view.whole.state.ends) (ends_left c.args.size (taken_on own)) m)
+left-is g c =
+    let at = c.requires.may.at in let r = c.requires.may.rests in let b = c.args.band in let v = view c.args.cpu.now in let own : Ends = at_ b v in let z = c.args.size in let m = standing c.settle.new.cpu in
+    let took = c.settle.ensures.settled ∙ ap settle_view_owed (c.purge_slot-found.ensures.taken at.1 at.5 c.if-found-eq0.false).1 in
+    let ends : at_ b m.view ≡ taken_on own = ap (λ (x : View). at_ b x) took ∙ at_put_same b (taken_on own) v.holder.ends in
+    let some_ = taken_batch v.holder.size z own (taken_on own) refl (rest_at v.holder.size b v.holder.ends r.0) (sym r.2) in
+    (ends, stands_after c.discard_one.ensures ∙ (ap (λ (e : Ends). steps_leave (discard_steps b z e) m) ends ∙ discard_leaves b z (taken_on own) m ends (ap (λ (x : View). x.holder.size) took ∙ r.2) some_.0 some_.1))
 
 pub returns : goal.returns
 returns g c =
-    let first : PurgesFirst c.args.band (view c.args.cpu.now) (view c.discard_one.new.cpu) = λ l left. let b = c.args.band in let v = view c.args.cpu.now in let n = c.purge_slot-found.result - 1 in
-    let took_ = c.purge_slot-found.ensures.taken l left c.if-found-eq0.false in (
+    let first = λ (l : Left) (left : (view c.args.cpu.now).holder.left ≡ Some l). (let b = c.args.band in let v = view c.args.cpu.now in let n = c.purge_slot-found.result - 1 in
+    let answer : PurgesOne b l v (view c.discard_one.new.cpu) = (let took_ = c.purge_slot-found.ensures.taken l left c.if-found-eq0.false in (
       n,
       took_.0,
       takes_end b c.args.size v.holder.size (at_ b v) (at b v.whole.state.ends) (settle_view_owed (purge_slot_view b n l v)) (view c.settle.new.cpu) (view c.discard_one.new.cpu) (sym c.requires.may.rests.2)
-          (c.settle.ensures.settled ∙ ap settle_view_owed took_.1) (at_put_same b _ v.holder.ends) (at_put_same b _ v.whole.state.ends) c.discard_one.ensures.emptied c.discard_one.ensures.rested,
-    ) in record {
-      same = search rules;
-      none = search rules;
-      taken = λ _. first;
-      station =
-          let at = c.requires.may.at in let b = c.args.band in let v = view c.args.cpu.now in let n = c.purge_slot-found.result - 1 in
-          purged_station b n at.1 v (view c.discard_one.new.cpu) c.discard_one.new.cpu.station c.requires.may.below (first at.1 at.5).2
-          (c.discard_one.ensures.station (shown v.holder) (c.settle.ensures.same.1 ∙ (c.purge_slot-found.ensures.same.0.1 ∙ c.requires.may.station)));
-      made =
-          let b = c.args.band in let v = view c.args.cpu.now in let own : Ends = at_ b v in let k = setup c.args.shared.now in let found = c.purge_slot-found.result in let n = found - 1 in let old = steps c.args.cpu.now in
-          let some_ = c.if-found-eq0.false in let back : found ≡ n + 1 = omega arith in let at = c.requires.may.at in
-          let took = c.settle.ensures.settled ∙ ap settle_view_owed (c.purge_slot-found.ensures.taken at.1 at.5 c.if-found-eq0.false).1 in
-          let ends : at_ b (view c.settle.new.cpu) ≡ taken_on own = ap (λ (x : View). at_ b x) took ∙ at_put_same b (taken_on own) v.holder.ends in
-          let stored : steps c.settle.new.cpu ≡ old ⊳ load_slot_log k b own.head (n + 1) ⊳ settle_log k n (word_of (fate.Purged c.args.cause)) =
-          c.settle.ensures.made ∙ ((λ j. c.purge_slot-found.ensures.made j ⊳ settle_log k n (word_of (fate.Purged c.args.cause))) ∙ (λ j. old ⊳ load_slot_log k b own.head (back j) ⊳ settle_log k n (word_of (fate.Purged c.args.cause)))) in
-          let now : Ends = at_ b (view c.settle.new.cpu) in let fate_ = fate.Purged c.args.cause in
-          let zeroes = zeroed_as k b c.args.size now (steps c.settle.new.cpu) (steps c.discard_one.new.cpu) c.discard_one.ensures.made.0 c.discard_one.ensures.made.1 in
-          let here : steps c.discard_one.new.cpu ≡ purging_steps k b fate_ v.holder.size own n old =
-          zeroes ∙ (λ j. zeroed k b (ends j).head (emptied_count (sym c.requires.may.rests.2 j) (ends j)) (stored j)) in
-          record {
-            first = λ _ l m left is. subst (λ (x : ℕ). steps c.discard_one.new.cpu ≡ purging_steps k b fate_ v.holder.size own x old)
-                (same_Some n m (sym (c.purge_slot-found.ensures.taken l left some_).0 ∙ is)) here;
-            none = λ e. cc;
-          };
+          (c.settle.ensures.settled ∙ ap settle_view_owed took_.1) (at_put_same b _ v.holder.ends) (at_put_same b _ v.whole.state.ends) (ap (λ (x : Standing). x.view) (left-is g c).1),
+    )) in answer) in record {
+      makes =
+          let b = c.args.band in let own : Ends = at_ b (view c.args.cpu.now) in let z = c.args.size in let found = c.purge_slot-found.result in let n = found - 1 in
+          let some_ = c.if-found-eq0.false in let back : found ≡ n + 1 = omega arith in
+          let takes = subst (λ (m : ℕ). MakesSteps (PurgeSlot b m ∷ []) c.args.cpu.now c.purge_slot-found.new.cpu) back c.purge_slot-found.ensures.makes in
+          let discards = subst (λ (e : Ends). MakesSteps (discard_steps b z e) c.settle.new.cpu c.discard_one.new.cpu) (left-is g c).0 c.discard_one.ensures in
+          (PurgeSlot b (n + 1) ∷ Settle n (fate.Purged c.args.cause) ∷ discard_steps b z (taken_on own), PurgesNext, makes_then takes (makes_then c.settle.ensures.makes discards));
+      stands =
+          let at = c.requires.may.at in let r = c.requires.may.rests in let b = c.args.band in let v = view c.args.cpu.now in let n = c.purge_slot-found.result - 1 in let own : Ends = at_ b v in let left = (left-is g c).1 in (
+            ap (λ (x : Standing). x.slot) left ∙ (c.settle.ensures.makes.has ∙ c.purge_slot-found.ensures.makes.has),
+            purged_station b n at.1 v (view c.discard_one.new.cpu) c.discard_one.new.cpu.station c.requires.may.below (first at.1 at.5).2
+                (ap (λ (x : Standing). x.station) left
+                ∙ (λ j. option_map (λ (st : StationState). with_ends st b (ends_left (sym r.2 j) (taken_on own)).head (ends_left (sym r.2 j) (taken_on own)).tail) ((c.settle.ensures.same.1 ∙ (c.purge_slot-found.ensures.same.0.1 ∙ c.requires.may.station)) j))),
+          );
     }

@@ -1,12 +1,14 @@
-use Rattle.std.proofs.Common.{rules, ◌≡◌, ℕ, ◌+◌, ◌-◌, ◌<◌, sym, ap, ◌∙◌, subst, arith, Some}
+use Rattle.std.proofs.Common.{◌≡◌, ℕ, ◌+◌, ◌-◌, ◌<◌, [], ◌∷◌, sym, ap, ◌∙◌, subst, arith, Some}
 use Rattle.lq_band_laws.specs.Three.{at}
 use Rattle.lq_band_laws.specs.Ring.{Lock, index_given}
 use Rattle.lq_table.specs.Views.{View}
 use Rattle.lq_band_laws.specs.Ring.{with_room}
-use Rattle.lq_table.specs.Producers.{with_lock_at, store_slot_view, producer_slot_view_full, SeesEnd, load_slot_log, store_slot_log, give_producer_log}
-use Rattle.lq_table.specs.Sees.{view, setup, steps}
-use Rattle.lq_table.specs.Made.{◌⊳◌}
+use Rattle.lq_table.specs.Producers.{with_lock_at, store_slot_view, producer_slot_view_full}
+use Rattle.lq_table.specs.Sees.{view}
+use Rattle.lq_table.specs.Step.{GiveProducer, LoadSize, MakesSteps, ProducerSlot, StoreSlot}
 use Rattle.lq_ring_core.specs.Ring.{next_place}
+use Rattle.lq_ring.specs.StepLists.{DroppedFull, Joined}
+use Rattle.lq_ring.proofs.StepsThen.{makes_then}
 use Rattle.lq_ring.proofs.PutSteps.{lock1, lock2, lock3, ends_full, ends_put}
 use Rattle.lq_ring.proofs.puts.produce_locked.Goals as goal
 
@@ -36,26 +38,20 @@ give_producer-requires-clause-index g c _ _ =
 
 pub returns-then-found-ne0 : goal.returns-then-found-ne0
 returns-then-found-ne0 g c = record {
-  same = search rules;
-  put =
+  makes =
+      let b = c.args.band in let found = c.producer_slot-found.result in let some_ = c.if-found-ne0.true in let back : found ≡ found - 1 + 1 = omega arith in
+      let seen = subst (λ (n : ℕ). MakesSteps (ProducerSlot b n ∷ []) c.load_size-size.new.cpu c.producer_slot-found.new.cpu) back c.producer_slot-found.ensures.makes in (
+        LoadSize c.load_size-size.result ∷ ProducerSlot b (found - 1 + 1) ∷ GiveProducer b c.args.index ∷ [],
+        DroppedFull,
+        makes_then c.load_size-size.ensures.makes (makes_then seen c.give_producer.ensures.makes),
+      );
+  stands =
       let b = c.args.band in let v = view c.args.cpu.now in let locked = c.requires.may.locked in
       let v1 = view c.load_size-size.new.cpu in
       let e1 = c.load_size-size.ensures.size.0 in
       let fresh : v1.packets.fresh ≡ Some c.args.n = ap (λ (x : View). x.packets.fresh) e1 ∙ c.requires.may.packet.0.0 in
       ends_full b c.load_size-size.result c.args.index c.args.n v v1 locked.0 e1 (c.producer_slot-found.result - 1) (view c.producer_slot-found.new.cpu) (view c.give_producer.new.cpu)
       (c.producer_slot-found.ensures.full c.args.n fresh c.if-found-ne0.true) c.give_producer.ensures.given;
-  sole =
-      let found = c.producer_slot-found.result in let some_ = c.if-found-ne0.true in
-      let back : found ≡ found - 1 + 1 = omega arith in
-      subst (λ (y : View × ℕ). SeesEnd c.args.band y.0 y.1) (λ j. (c.load_size-size.ensures.size.0 j, back j)) c.producer_slot-found.ensures.sole;
-  made =
-      let b = c.args.band in let l = c.load_size-size in let z = l.result in let k = setup c.args.shared.now in let i = c.args.index in let found = c.producer_slot-found.result in let some_ = c.if-found-ne0.true in
-      let back : found ≡ found - 1 + 1 = omega arith in
-      let at1 : (at b (view l.new.cpu).locks).index ≡ i = ap (λ (x : Lock). x.index) (lock1 b z i c.args.n (view c.args.cpu.now) (view l.new.cpu) c.requires.may.locked.0 l.ensures.size.0) in (
-        z,
-        c.give_producer.ensures.made
-            ∙ ((λ j. c.producer_slot-found.ensures.made j ⊳ give_producer_log b i) ∙ (λ j. l.ensures.made j ⊳ load_slot_log k b (at1 j) (back j) ⊳ give_producer_log b i)),
-      );
 }
 
 pub store_slot-requires-clause-lock : goal.store_slot-requires-clause-lock
@@ -84,22 +80,16 @@ give_producer-requires-2-clause-index g c _ _ =
 
 pub returns : goal.returns
 returns g c = record {
-  same = search rules;
-  put =
+  makes =
+      let b = c.args.band in let z = c.load_size-size.result in
+      let empty = subst (λ (n : ℕ). MakesSteps (ProducerSlot b n ∷ []) c.load_size-size.new.cpu c.producer_slot-found.new.cpu) c.if-found-ne0.false c.producer_slot-found.ensures.makes in
+      let next = subst (λ (n : ℕ). MakesSteps (GiveProducer b n ∷ []) c.store_slot.new.cpu c.give_producer-2.new.cpu) c.next_place-next.ensures c.give_producer-2.ensures.makes in (
+        LoadSize z ∷ ProducerSlot b 0 ∷ StoreSlot b c.args.n ∷ GiveProducer b (next_place z c.args.index) ∷ [],
+        Joined,
+        makes_then c.load_size-size.ensures.makes (makes_then empty (makes_then c.store_slot.ensures.makes next)),
+      );
+  stands =
       let b = c.args.band in let locked = c.requires.may.locked in let v1 = view c.load_size-size.new.cpu in let v2 = view c.producer_slot-found.new.cpu in
       ends_put b c.load_size-size.result c.args.index c.args.n (view c.args.cpu.now) v1 locked.0 c.load_size-size.ensures.size.0 v2 (c.producer_slot-found.ensures.room c.if-found-ne0.false) (view c.store_slot.new.cpu) c.store_slot.ensures.joined
       (view c.give_producer-2.new.cpu) c.give_producer-2.ensures.given;
-  sole = search rules;
-  made =
-      let b = c.args.band in let locked = c.requires.may.locked in let v1 = view c.load_size-size.new.cpu in let v2 = view c.producer_slot-found.new.cpu in let z = c.load_size-size.result in let k = setup c.args.shared.now in let i = c.args.index in
-      let empty = c.if-found-ne0.false in
-      let at1 : (at b v1.locks).index ≡ i = ap (λ (x : Lock). x.index) (lock1 b z i c.args.n (view c.args.cpu.now) v1 locked.0 c.load_size-size.ensures.size.0) in
-      let at2 : (at b v2.locks).index ≡ i = ap (λ (x : Lock). x.index) (lock2 b z i c.args.n (view c.args.cpu.now) v1 locked.0 c.load_size-size.ensures.size.0 v2 (c.producer_slot-found.ensures.room c.if-found-ne0.false)) in (
-        z,
-        c.give_producer-2.ensures.made
-            ∙ ((λ j. steps c.store_slot.new.cpu ⊳ give_producer_log b (c.next_place-next.ensures j))
-            ∙ ((λ j. c.store_slot.ensures.made j ⊳ give_producer_log b (next_place z i))
-            ∙ ((λ j. c.producer_slot-found.ensures.made j ⊳ store_slot_log k b (at2 j) (c.args.n + 1) ⊳ give_producer_log b (next_place z i))
-            ∙ (λ j. c.load_size-size.ensures.made j ⊳ load_slot_log k b (at1 j) (empty j) ⊳ store_slot_log k b i (c.args.n + 1) ⊳ give_producer_log b (next_place z i))))),
-      );
 }

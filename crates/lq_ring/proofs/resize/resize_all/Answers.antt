@@ -1,47 +1,67 @@
-use Rattle.std.proofs.Common.{rules, ◌≡◌, ap, ◌∙◌, sym, subst, List}
+use Rattle.std.proofs.Common.{◌≡◌, [], ◌∷◌, ◌++◌, ap, ◌∙◌, sym, subst, List, Some}
+use Rattle.std.specs.Prelude.{option_map}
+use Rattle.lq_device.specs.Station.{StationState, with_ends}
 use Rattle.lq_ring.specs.Put.{no_locks}
-use Rattle.lq_table.specs.Views.{View}
+use Rattle.lq_table.specs.Rule.{shown}
+use Rattle.lq_table.specs.Views.{Setup, View}
 use Rattle.lq_table.specs.Producers.{load_size_view, give_producer_log, load_size_log}
 use Rattle.lq_table.specs.Sees.{view, setup, steps}
+use Rattle.lq_table.specs.Step.{LoadSize, SetEnds, standing}
 use Rattle.lq_table.specs.Made.{Made, ◌⊳◌}
-use Rattle.lq_ring.specs.Changes.{TurnsBand}
-use Rattle.lq_ring.specs.Resized.{IsKnownHeld, all_lost, having_locks, having_resized}
+use Rattle.lq_ring.specs.Changes.{LocksAll, TurnsBand}
+use Rattle.lq_ring.specs.Resized.{HoldOwnPackets, IsKnownHeld, all_lost, having_resized, locked_three}
+use Rattle.lq_ring.specs.StepLists.{ResizesThree, unlock_steps}
+use Rattle.lq_ring.proofs.ListLogs.{all_log, all_told, lock_all_log}
+use Rattle.lq_ring.proofs.StepsThen.{makes_then}
 use Rattle.lq_ring.proofs.resize.resize_all.Goals as goal
 
 pub returns : goal.returns
-returns g c = record {
-  same = search rules;
-  station = search rules;
-  resizes =
-      let v = view c.args.cpu.now in let len = c.args.len in let event = c.args.event in let r = c.turn_all-turned.ensures.resized in let t = c.turn_all-turned.result in let lost = all_lost len r.0 in let z = c.load_size-size.result in let l = c.lock_all.ensures.locked in
-      let k = setup c.args.shared.now in let turned = c.turn_all-turned.ensures.made in let unlocked = c.unlock_all.ensures.made in let size = c.load_size-size.ensures.made in
-      let loaded : view c.load_size-size.new.cpu ≡ load_size_view z (having_locks l.0 l.1 l.2 v) = c.load_size-size.ensures.size.0 ∙ ap (load_size_view z) l.3 in record {
-        held = r.0;
-        packets = r.3;
-        is_known = subst (λ (x : View). IsKnownHeld x r.0) loaded r.4;
-        is = c.restart_ends.ensures.same.2
-            ∙ (c.unlock_all.ensures.unlocked
-            ∙ (ap (λ (x : View). record x { locks = no_locks }) r.1
-            ∙ (ap (λ (x : View). record (having_resized len event lost x) { locks = no_locks }) loaded
-            ∙ (λ j. record (having_resized len event lost v) { locks = sym c.requires.may.idle j }))));
-        counted = r.2;
-        made = record {
-          locked = steps c.lock_all.new.cpu;
-          locks = c.lock_all.ensures.made;
-          size = c.load_size-size.result;
-          begun = turned.0;
-          low = t.low.index;
-          mid = t.mid.index;
-          high = t.high.index;
-          one = turned.1;
-          two = turned.2;
-          three = turned.3;
-          first = subst (λ (xs : List Made). TurnsBand k 0 t.low.index (xs ⊳ load_size_log turned.0) turned.1) size turned.4;
-          second = turned.5;
-          third = turned.6;
-          stored = unlocked.0;
-          ends = c.restart_ends.ensures.made
-              ∙ (unlocked.1 ∙ ap (λ (xs : List Made). xs ⊳ load_size_log unlocked.0 ⊳ give_producer_log 0 t.low.index ⊳ give_producer_log 1 t.mid.index ⊳ give_producer_log 2 t.high.index) turned.7);
-        };
-      };
-}
+returns g c =
+    let old = c.args.cpu.now in let v = view old in let len = c.args.len in let event = c.args.event in let z = c.load_size-size.result in let t = c.turn_all-turned.result in
+    let l = c.lock_all.ensures in let size = c.load_size-size.ensures in let m = c.turn_all-turned.ensures.makes in let held = m.0 in let lost = all_lost len held in let u = c.unlock_all.ensures in let r = c.restart_ends.ensures in
+    let loaded : view c.load_size-size.new.cpu ≡ load_size_view z (record v { locks = locked_three l.stands.0 l.stands.1 l.stands.2 }) = size.size.0 ∙ ap (load_size_view z) l.stands.6 in
+    let all = makes_then (makes_then (makes_then l.makes.2 (makes_then size.makes m.1.2)) u.1) r in
+    let is : view c.restart_ends.new.cpu ≡ having_resized len event lost v = r.knows
+    ∙ (u.1.knows
+    ∙ (ap (λ (x : View). record x { locks = no_locks }) m.2.1
+    ∙ (ap (λ (x : View). record (having_resized len event lost x) { locks = no_locks }) loaded
+    ∙ (λ j. record (having_resized len event lost v) { locks = sym c.requires.may.idle j })))) in
+    let about : (view c.load_size-size.new.cpu).share.about ≡ setup c.args.shared.now = ap (λ (x : View). x.share.about) loaded ∙ c.requires.seat.2 in record {
+      held = held;
+      makes = (l.makes.0 ++ LoadSize z ∷ m.1.0 ++ unlock_steps u.0 t.low.index t.mid.index t.high.index ++ SetEnds 0 0 0 ∷ SetEnds 1 0 0 ∷ SetEnds 2 0 0 ∷ [], ResizesThree z u.0 l.makes.1 m.1.1, all);
+      same = (all.seat, r.has ∙ (u.1.has ∙ (m.2.0.3 ∙ (size.makes.has ∙ l.stands.5))));
+      station =
+          let h = v.holder in let start : c.unlock_all.new.cpu.station ≡ Some (shown h) = u.1.carries ∙ (m.2.0.1 ∙ (size.makes.carries ∙ (l.stands.4 ∙ c.requires.may.station))) in
+          (r.carries ∙ ap (λ o. option_map (λ (st : StationState). with_ends st 2 0 0) (option_map (λ (st : StationState). with_ends st 1 0 0) (option_map (λ (st : StationState). with_ends st 0 0 0) o))) start)
+          ∙ ap (λ (x : View). Some (shown x.holder)) (sym is);
+      knows = is;
+      counted = m.3;
+      resizes =
+          let k = setup c.args.shared.now in let told = all_told len event held _ _ _ m.1.0 m.1.1 (standing c.load_size-size.new.cpu) m.1.2.told in
+          let logs = all_log k len event held _ _ _ m.1.0 m.1.1 (standing c.load_size-size.new.cpu) about in record {
+            held = held;
+            packets = subst (λ (x : Setup). HoldOwnPackets x.infos held) about told.0;
+            is_known = subst (λ (x : View). IsKnownHeld x held) loaded told.1;
+            is = is;
+            counted = m.3;
+            made = record {
+              locked = steps c.lock_all.new.cpu;
+              locks = subst (LocksAll (steps old)) (sym l.makes.2.made) (lock_all_log l.makes.0 l.makes.1 (standing old));
+              size = z;
+              begun = logs.0;
+              low = t.low.index;
+              mid = t.mid.index;
+              high = t.high.index;
+              one = logs.1;
+              two = logs.2;
+              three = logs.3;
+              first = subst (λ (xs : List Made). TurnsBand k 0 t.low.index (xs ⊳ load_size_log logs.0) logs.1) size.made logs.4;
+              second = logs.5;
+              third = logs.6;
+              stored = u.0;
+              ends = r.made
+                  ∙ (u.1.made
+                  ∙ ap (λ (xs : List Made). xs ⊳ load_size_log u.0 ⊳ give_producer_log 0 t.low.index ⊳ give_producer_log 1 t.mid.index ⊳ give_producer_log 2 t.high.index) (m.1.2.made ∙ logs.7));
+            };
+          };
+    }

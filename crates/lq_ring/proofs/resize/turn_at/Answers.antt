@@ -1,4 +1,4 @@
-use Rattle.std.proofs.Common.{rules, ℕ, List, Contains, length, sym, ap, ◌∙◌, subst, arith}
+use Rattle.std.proofs.Common.{rules, ℕ, List, [], ◌∷◌, ◌++◌, Contains, length, sym, ap, ◌∙◌, subst, arith}
 use Rattle.std.proofs.lemmas.List.{length-take}
 use Rattle.lq_account_laws.proofs.Lists.{drop-in}
 use Rattle.lq_ring_core.specs.Slots.{round}
@@ -7,6 +7,9 @@ use Rattle.lq_band_laws.specs.Ring.{locked_at}
 use Rattle.lq_table.specs.Views.{View}
 use Rattle.lq_table.specs.Producers.{with_lock_at}
 use Rattle.lq_table.specs.Sees.{view}
+use Rattle.lq_table.specs.Step.{SetProducer}
+use Rattle.lq_ring.specs.StepLists.{Sets}
+use Rattle.lq_ring.proofs.StepsThen.{makes_then}
 use Rattle.lq_ring.specs.Work.{work_at, IsTurner, IsWorkBegun}
 use Rattle.lq_ring.proofs.Works.{turner_after}
 use Rattle.lq_ring.proofs.resize.turn_at.Goals as goal
@@ -27,20 +30,19 @@ index_after-index-requires g c =
 
 pub set_producer-requires-clause-holder : goal.set_producer-requires-clause-holder
 set_producer-requires-clause-holder g c _ _ =
-    let b = c.args.band in let v = view c.args.cpu.now in let done = c.turn_band-done.ensures.turned in let r = c.requires.ready.2 in
-    let turner = subst IsTurner (sym done.1) (turner_after b done.0 v r.turner) in
-    (turner.0, (turner.1.0, turner.1.1), ap (λ (x : View). (at b x.locks).holds) done.1 ∙ r.lock)
+    let b = c.args.band in let v = view c.args.cpu.now in let done = c.turn_band-done.ensures.stands in let r = c.requires.ready.2 in
+    let turner = subst IsTurner (sym done.1.1) (turner_after b done.0 v r.turner) in
+    (turner.0, (turner.1.0, turner.1.1), ap (λ (x : View). (at b x.locks).holds) done.1.1 ∙ r.lock)
 
 pub returns : goal.returns
 returns g c = record {
-  same = search rules;
-  turned =
-      let b = c.args.band in let done = c.turn_band-done.ensures.turned in let i = c.index_after-index.result in (
+  makes = let x = c.turn_band-done.ensures.makes in (x.0 ++ SetProducer c.args.band c.index_after-index.result ∷ [], Sets x.1, makes_then x.2 c.set_producer.ensures.makes);
+  stands =
+      let b = c.args.band in let done = c.turn_band-done.ensures.stands in let i = c.index_after-index.result in (
         done.0,
-        c.set_producer.ensures.set ∙ ap (with_lock_at b (locked_at i)) done.1,
+        (search rules, c.set_producer.ensures.set ∙ ap (with_lock_at b (locked_at i)) done.1.1),
         done.2,
         c.index_after-index.ensures ∙ ap (round c.args.resize.len) (c.turn_band-done.ensures.kept.0 ∙ ap length (sym done.2.kept_is)),
       );
   count = search rules;
-  made = search rules;
 }

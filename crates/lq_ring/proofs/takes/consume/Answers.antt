@@ -1,4 +1,4 @@
-use Rattle.std.proofs.Common.{rules, ◌≡◌, ℕ, ◌+◌, ◌-◌, ◌<◌, ◌≤◌, refl, sym, ap, ◌∙◌, subst, arith}
+use Rattle.std.proofs.Common.{rules, ◌≡◌, ℕ, [], ◌∷◌, ◌+◌, ◌-◌, refl, sym, ap, ◌∙◌, subst, arith}
 use Rattle.lq_model.specs.Positions.{holds_lock}
 use Rattle.lq_band_laws.specs.Three.{at}
 use Rattle.lq_band_laws.specs.Ring.{Ends, taken_on}
@@ -11,9 +11,14 @@ use Rattle.lq_table.specs.Made.{◌⊳◌}
 use Rattle.lq_table.specs.Producers.{load_size_log, load_slot_log}
 use Rattle.lq_ring.specs.Steps.{zeroed}
 use Rattle.lq_ring.specs.Take.{consuming, emptied_count}
-use Rattle.lq_ring.proofs.StepLemmas.{zeroed_as}
+use Rattle.std.specs.Prelude.{option_map}
+use Rattle.lq_device.specs.Station.{StationState, with_ends}
+use Rattle.lq_table.specs.Step.{HeadSlot, LoadSize, MakesSteps, Standing, standing, steps_leave}
+use Rattle.lq_ring.specs.StepLists.{FindsEmpty, TakesFirst, discard_steps}
+use Rattle.lq_ring.proofs.StepsThen.{makes_then, stands_after}
+use Rattle.lq_ring.proofs.ZeroSteps.{discard_leaves, discarded}
 use Rattle.lq_table.specs.Moves.{IsPacketOf}
-use Rattle.lq_ring.proofs.TakeSteps.{sized_none, none_leads, none_heard, take_leads, take_heard, heads_at, tails_at, rest_at, consumes, rests_after, station_after, known_after}
+use Rattle.lq_ring.proofs.TakeSteps.{sized_none, none_leads, none_heard, take_leads, take_heard, heads_at, tails_at, ends_left, rest_at, taken_batch, takes_end, rests_after, station_after, known_after}
 use Rattle.lq_ring.proofs.takes.consume.Given as given
 use Rattle.lq_ring.proofs.takes.consume.Goals as goal
 
@@ -44,21 +49,38 @@ discard_one-requires-clause-may g c _ _ = record {
       let loaded = c.load_size-size.ensures.size.0 ∙ sized_none z v c.requires.may.idle in
       let took = c.head_slot-found.ensures.taken c.if-found-eq0.false ∙ ap (λ (x : View). head_slot_view b n x) loaded in
       let ends : at b (view c.head_slot-found.new.cpu).holder.ends ≡ taken_on own = ap (λ (x : View). at b x.holder.ends) took ∙ at_put_same b (taken_on own) v.holder.ends in
-      let rest = rest_at v.holder.size b v.holder.ends c.requires.may.rests.0 in let first = rest.0 in let within = rest.1 in
-      let size : z ≡ v.holder.size = c.load_size-size.ensures.holder (ap holds_lock c.requires.may.at.1) in
-      subst (λ (e : Ends). (e.edge ≡ e.head) × (e.tail < e.head) × (e.head ≤ z)) (sym ends) (refl, omega arith, omega arith);
+      taken_batch v.holder.size z own _ ends (rest_at v.holder.size b v.holder.ends c.requires.may.rests.0) (c.load_size-size.ensures.holder (ap holds_lock c.requires.may.at.1));
 }
+
+-- the slots that were taken are emptied where that is due
+left-is : (g : given.Over) (c : goal.After-discard_one g) → let m = standing c.head_slot-found.new.cpu in let own = at c.args.band (view c.args.cpu.now).holder.ends in
+    standing c.discard_one.new.cpu ≡ discarded c.args.band c.load_size-size.result (taken_on own) (at c.args.band m.view.whole.state.ends) (ends_left c.load_size-size.result (taken_on own)) m
+left-is g c =
+    let b = c.args.band in let v = view c.args.cpu.now in let n = c.head_slot-found.result - 1 in let own : Ends = at b v.holder.ends in let z = c.load_size-size.result in let m = standing c.head_slot-found.new.cpu in
+    let loaded = c.load_size-size.ensures.size.0 ∙ sized_none z v c.requires.may.idle in
+    let took = c.head_slot-found.ensures.taken c.if-found-eq0.false ∙ ap (λ (x : View). head_slot_view b n x) loaded in
+    let ends : at b m.view.holder.ends ≡ taken_on own = ap (λ (x : View). at b x.holder.ends) took ∙ at_put_same b (taken_on own) v.holder.ends in
+    let same = c.load_size-size.ensures.holder (ap holds_lock c.requires.may.at.1) in
+    let some_ = taken_batch v.holder.size z own (taken_on own) refl (rest_at v.holder.size b v.holder.ends c.requires.may.rests.0) same in
+    stands_after c.discard_one.ensures ∙ (ap (λ (e : Ends). steps_leave (discard_steps b z e) m) ends ∙ discard_leaves b z (taken_on own) m ends (ap (λ (x : View). x.holder.size) took ∙ sym same) some_.0 some_.1)
 
 taken-is : (g : given.Over) (c : goal.After-discard_one g) → view c.discard_one.new.cpu ≡ consuming c.args.band (c.head_slot-found.result - 1) (view c.args.cpu.now)
 taken-is g c =
     let b = c.args.band in let v = view c.args.cpu.now in let n = c.head_slot-found.result - 1 in let z = c.load_size-size.result in
     let loaded = c.load_size-size.ensures.size.0 ∙ sized_none z v c.requires.may.idle in
     let took = c.head_slot-found.ensures.taken c.if-found-eq0.false ∙ ap (λ (x : View). head_slot_view b n x) loaded in
-    consumes b n z v (view c.head_slot-found.new.cpu) (view c.discard_one.new.cpu) (c.load_size-size.ensures.holder (ap holds_lock c.requires.may.at.1)) took c.discard_one.ensures.emptied c.discard_one.ensures.rested
+    takes_end b z v.holder.size (at b v.holder.ends) (at b v.whole.state.ends) (head_slot_view b n v) (view c.head_slot-found.new.cpu) (view c.discard_one.new.cpu) (c.load_size-size.ensures.holder (ap holds_lock c.requires.may.at.1))
+    took (at_put_same b _ v.holder.ends) (at_put_same b _ v.whole.state.ends) (ap (λ (x : Standing). x.view) (left-is g c))
 
 pub returns-then-found-eq0 : goal.returns-then-found-eq0
 returns-then-found-eq0 g c = record {
+  makes =
+      let b = c.args.band in let z = c.load_size-size.result in
+      let empty = subst (λ (n : ℕ). MakesSteps (HeadSlot b n ∷ []) c.load_size-size.new.cpu c.head_slot-found.new.cpu) c.if-found-eq0.true c.head_slot-found.ensures.makes in
+      (LoadSize z ∷ HeadSlot b 0 ∷ [], FindsEmpty, makes_then c.load_size-size.ensures.makes empty);
   same = search rules;
+  knows =
+      let b = c.args.band in c.head_slot-found.ensures.none c.if-found-eq0.true ∙ ap (λ (x : View). head_slot_view_empty b x) (c.load_size-size.ensures.size.0 ∙ sized_none c.load_size-size.result (view c.args.cpu.now) c.requires.may.idle);
   takes =
       let b = c.args.band in let v = view c.args.cpu.now in let k = setup c.args.shared.now in let zero_ = c.if-found-eq0.true in
       let loaded = c.load_size-size.ensures.size.0 ∙ sized_none c.load_size-size.result v c.requires.may.idle in
@@ -83,7 +105,18 @@ returns-then-found-eq0 g c = record {
 
 pub returns : goal.returns
 returns g c = record {
-  same = search rules;
+  makes =
+      let b = c.args.band in let v = view c.args.cpu.now in let found = c.head_slot-found.result in let n = found - 1 in let own : Ends = at b v.holder.ends in let z = c.load_size-size.result in
+      let some_ = c.if-found-eq0.false in let back : found ≡ n + 1 = omega arith in
+      let took = c.head_slot-found.ensures.taken some_ ∙ ap (λ (x : View). head_slot_view b n x) (c.load_size-size.ensures.size.0 ∙ sized_none z v c.requires.may.idle) in
+      let ends : at b (view c.head_slot-found.new.cpu).holder.ends ≡ taken_on own = ap (λ (x : View). at b x.holder.ends) took ∙ at_put_same b (taken_on own) v.holder.ends in
+      let takes = subst (λ (m : ℕ). MakesSteps (HeadSlot b m ∷ []) c.load_size-size.new.cpu c.head_slot-found.new.cpu) back c.head_slot-found.ensures.makes in
+      let discards = subst (λ (e : Ends). MakesSteps (discard_steps b z e) c.head_slot-found.new.cpu c.discard_one.new.cpu) ends c.discard_one.ensures in
+      (LoadSize z ∷ HeadSlot b (n + 1) ∷ discard_steps b z (taken_on own), TakesFirst, makes_then c.load_size-size.ensures.makes (makes_then takes discards));
+  same =
+      let l = c.load_size-size.ensures.makes in let h = c.head_slot-found.ensures.makes in let d = c.discard_one.ensures in let left = left-is g c in
+      ((d.seat.0 ∙ (h.seat.0 ∙ l.seat.0), d.seat.1 ∙ (h.seat.1 ∙ l.seat.1)), ap (λ (x : Standing). x.indices) left ∙ (h.places ∙ l.places), ap (λ (x : Standing). x.slot) left ∙ (h.has ∙ l.has));
+  knows = taken-is g c;
   takes =
       let b = c.args.band in let v = view c.args.cpu.now in let found = c.head_slot-found.result in let n = found - 1 in let own : Ends = at b v.holder.ends in let k = setup c.args.shared.now in
       let loaded = c.load_size-size.ensures.size.0 ∙ sized_none c.load_size-size.result v c.requires.may.idle in
@@ -92,10 +125,10 @@ returns g c = record {
       let some_ = c.if-found-eq0.false in let back : found ≡ n + 1 = omega arith in
       let head = ap (λ (x : View). (at b x.holder.ends).head) loaded in
       let size : c.load_size-size.result ≡ v.holder.size = c.load_size-size.ensures.holder (ap holds_lock c.requires.may.at.1) in
+      let about : (view c.head_slot-found.new.cpu).share.about ≡ k = ap (λ (x : View). x.share.about) took ∙ c.requires.seat.2 in
       let looked : steps c.head_slot-found.new.cpu ≡ steps c.args.cpu.now ⊳ load_size_log c.load_size-size.result ⊳ load_slot_log k b own.head (n + 1) =
       c.head_slot-found.ensures.made ∙ (λ j. c.load_size-size.ensures.made j ⊳ load_slot_log k b (head j) (back j)) in
-      let z = zeroed_as k b c.load_size-size.result (at b (view c.head_slot-found.new.cpu).holder.ends) (steps c.head_slot-found.new.cpu) (steps c.discard_one.new.cpu) c.discard_one.ensures.made.0 c.discard_one.ensures.made.1 in
-      (taken-is g c, c.load_size-size.result, z ∙ (λ j. zeroed k b (ends j).head (emptied_count (size j) (ends j)) (looked j)));
+      (taken-is g c, c.load_size-size.result, ap (λ (x : Standing). x.steps) (left-is g c) ∙ (λ j. zeroed (about j) b (own.head + 1) (emptied_count (size j) (taken_on own)) (looked j)));
   packet =
       let loaded = c.load_size-size.ensures.size.0 ∙ sized_none c.load_size-size.result (view c.args.cpu.now) c.requires.may.idle in
       subst (λ (x : View). IsPacketOf x.share.about (c.head_slot-found.result - 1)) loaded (c.head_slot-found.ensures.known c.if-found-eq0.false);
@@ -104,9 +137,10 @@ returns g c = record {
       ap (λ (x : View). x.place.position) (taken-is g c) ∙ take_leads b at_.0 v at_.1 n c.requires.may.below;
   rests = rests_after c.args.band (c.head_slot-found.result - 1) (view c.args.cpu.now) (view c.discard_one.new.cpu) c.requires.may.rests.0 (taken-is g c);
   station =
-      let v = view c.args.cpu.now in
-      station_after c.args.band (c.head_slot-found.result - 1) v (view c.discard_one.new.cpu) c.discard_one.new.cpu.station c.requires.may.below (taken-is g c)
-      (c.discard_one.ensures.station (shown v.holder) (c.head_slot-found.ensures.same.0.1 ∙ (c.load_size-size.ensures.same.1 ∙ c.requires.may.station)));
+      let b = c.args.band in let v = view c.args.cpu.now in let own : Ends = at b v.holder.ends in let same = c.load_size-size.ensures.holder (ap holds_lock c.requires.may.at.1) in
+      station_after b (c.head_slot-found.result - 1) v (view c.discard_one.new.cpu) c.discard_one.new.cpu.station c.requires.may.below (taken-is g c)
+      (ap (λ (x : Standing). x.station) (left-is g c)
+      ∙ (λ j. option_map (λ (st : StationState). with_ends st b (ends_left (same j) (taken_on own)).head (ends_left (same j) (taken_on own)).tail) ((c.head_slot-found.ensures.same.0.1 ∙ (c.load_size-size.ensures.same.1 ∙ c.requires.may.station)) j)));
   step =
       let at_ = c.requires.may.at in
       ap (λ (x : View). solo x) (taken-is g c) ∙ take_heard c.args.band at_.0 (view c.args.cpu.now) at_.1 (c.head_slot-found.result - 1);

@@ -5,13 +5,13 @@ use Rattle.lq_band_laws.specs.Ring.{word_at}
 use Rattle.lq_band_laws.specs.HalfResized.{IsRefilled}
 use Rattle.lq_table.specs.Views.{View, Work}
 use Rattle.lq_table.specs.Resizes.{is_word}
-use Rattle.lq_table.specs.Sees.{view, setup, steps}
+use Rattle.lq_table.specs.Sees.{view}
 use Rattle.lq_model.specs.declared.fate.Fate.TheVariants as fate
 use Rattle.lq_ring.specs.Fates.{fates_onto}
-use Rattle.lq_ring.specs.Work.{work_at, working, event_of_work, AreMembers, members_of, having_settled, shrunk_to, with_slots, rotated, zeroed_to, dropped_to, IsWorkBegun}
-use Rattle.lq_ring.proofs.Works.{at_chain, turner_chain, chain, event_after, zeroed_long}
+use Rattle.lq_ring.specs.Work.{work_at, working, event_of_work, members_of, having_settled, with_slots, rotated, zeroed_to, dropped_to, IsWorkBegun}
+use Rattle.lq_ring.proofs.Works.{AreMembers, shrunk_to, at_chain, turner_chain, chain, event_after, zeroed_long}
 use Rattle.lq_ring.proofs.Turned.{stale_other, cleared_members, turned_members, long3, dropped_in, none_left, drop_none-take, refilled, counted}
-use Rattle.lq_ring.proofs.StepLemmas.{turns_then}
+use Rattle.lq_ring.proofs.StepsThen.{turns_then}
 use Rattle.lq_ring.proofs.turns.turn_band.Goals as goal
 
 -- the words of the band's packets
@@ -25,12 +25,12 @@ clear_stale-requires-clause-stale g c _ _ = λ j low high.
 
 pub rotate-requires-clause-turner : goal.rotate-requires-clause-turner
 rotate-requires-clause-turner g c _ _ = let b = c.args.band in let v = view c.args.cpu.now in let w : Work = work_at b v in
-    turner_chain b (with_slots (zeroed_to c.args.ends.tail (c.args.ends.head - c.args.ends.tail) w.slots) w) v _ c.requires.may.turner.0 c.clear_stale.ensures.is
+    turner_chain b (with_slots (zeroed_to c.args.ends.tail (c.args.ends.head - c.args.ends.tail) w.slots) w) v _ c.requires.may.turner.0 c.clear_stale.ensures.stands.1
 
 pub rotate-requires-clause-slots : goal.rotate-requires-clause-slots
 rotate-requires-clause-slots g c _ _ =
     let b = c.args.band in let v = view c.args.cpu.now in let w : Work = work_at b v in let held = c.requires.may.whole.0 in let h = c.requires.may.whole.1 in let z : List ℕ = zeroed_to c.args.ends.tail (c.args.ends.head - c.args.ends.tail) w.slots in
-    let here = at_chain b (with_slots z w) v _ c.requires.may.turner.0 c.clear_stale.ensures.is in (
+    let here = at_chain b (with_slots z w) v _ c.requires.may.turner.0 c.clear_stale.ensures.stands.1 in (
       ap (λ (x : Work). length x.slots) here ∙ (zeroed_long c.args.ends.tail (c.args.ends.head - c.args.ends.tail) w.slots ∙ h.unturned.long),
       subst (λ (x : Work). AreMembers (members_of x) x.slots) (sym here) (subst (λ (ls : List ℕ). AreMembers ls z) (same_members _ _ _ _ _ held w h) (cleared_members _ _ w.slots held c.args.ends.tail c.args.ends.head c.args.resize.len h.unturned)),
     )
@@ -38,13 +38,13 @@ rotate-requires-clause-slots g c _ _ =
 pub count_filled-kept-requires-clause-turner : goal.count_filled-kept-requires-clause-turner
 count_filled-kept-requires-clause-turner g c _ _ =
     let b = c.args.band in let v = view c.args.cpu.now in let w : Work = work_at b v in let z : List ℕ = zeroed_to c.args.ends.tail (c.args.ends.head - c.args.ends.tail) w.slots in let t = c.requires.may.turner.0 in
-    turner_chain b (with_slots (rotated c.args.ends.head c.args.resize.size z) w) v _ t (chain b (λ (x : Work). with_slots (rotated c.args.ends.head c.args.resize.size x.slots) x) (with_slots z w) v _ _ t c.clear_stale.ensures.is c.rotate.ensures.is)
+    turner_chain b (with_slots (rotated c.args.ends.head c.args.resize.size z) w) v _ t (chain b (λ (x : Work). with_slots (rotated c.args.ends.head c.args.resize.size x.slots) x) (with_slots z w) v _ _ t c.clear_stale.ensures.stands.1 c.rotate.ensures.stands.1)
 
 pub count_filled-kept-requires-clause-slots : goal.count_filled-kept-requires-clause-slots
 count_filled-kept-requires-clause-slots g c _ _ =
     let b = c.args.band in let v = view c.args.cpu.now in let w : Work = work_at b v in let z : List ℕ = zeroed_to c.args.ends.tail (c.args.ends.head - c.args.ends.tail) w.slots in let t = c.requires.may.turner.0 in let held = c.requires.may.whole.0 in let h = c.requires.may.whole.1 in
     let r : List ℕ = rotated c.args.ends.head c.args.resize.size z in
-    let here = at_chain b (with_slots r w) v _ t (chain b (λ (x : Work). with_slots (rotated c.args.ends.head c.args.resize.size x.slots) x) (with_slots z w) v _ _ t c.clear_stale.ensures.is c.rotate.ensures.is) in (
+    let here = at_chain b (with_slots r w) v _ t (chain b (λ (x : Work). with_slots (rotated c.args.ends.head c.args.resize.size x.slots) x) (with_slots z w) v _ _ t c.clear_stale.ensures.stands.1 c.rotate.ensures.stands.1) in (
       ap (λ (x : Work). length x.slots) here ∙ long3 _ _ w.slots held c.args.ends.tail c.args.ends.head c.args.resize.len h.unturned,
       subst (λ (x : Work). AreMembers (members_of x) x.slots) (sym here) (subst (λ (ls : List ℕ). AreMembers ls r) (same_members _ _ _ _ _ held w h) (turned_members _ _ w.slots held c.args.ends.tail c.args.ends.head c.args.resize.len h.unturned)),
     )
@@ -58,12 +58,12 @@ drop_rest-dropped-requires-clause-may g c _ _ = record {
   turner =
       let b = c.args.band in let v = view c.args.cpu.now in let w : Work = work_at b v in let z : List ℕ = zeroed_to c.args.ends.tail (c.args.ends.head - c.args.ends.tail) w.slots in let t = c.requires.may.turner.0 in
       let r : Work = with_slots (rotated c.args.ends.head c.args.resize.size z) w in
-      let e = c.count_filled-kept.ensures.keeps.is ∙ chain b (λ (x : Work). with_slots (rotated c.args.ends.head c.args.resize.size x.slots) x) (with_slots z w) v _ _ t c.clear_stale.ensures.is c.rotate.ensures.is in
+      let e = c.count_filled-kept.ensures.stands.1 ∙ chain b (λ (x : Work). with_slots (rotated c.args.ends.head c.args.resize.size x.slots) x) (with_slots z w) v _ _ t c.clear_stale.ensures.stands.1 c.rotate.ensures.stands.1 in
       (turner_chain b r v _ t e, ap event_of_work e ∙ (event_after b r v t ∙ c.requires.may.turner.1));
   rest =
       let b = c.args.band in let v = view c.args.cpu.now in let w : Work = work_at b v in let z : List ℕ = zeroed_to c.args.ends.tail (c.args.ends.head - c.args.ends.tail) w.slots in let t = c.requires.may.turner.0 in let held = c.requires.may.whole.0 in let h = c.requires.may.whole.1 in
       let r : Work = with_slots (rotated c.args.ends.head c.args.resize.size z) w in let m = c.lesser-limit.result in
-      let e = c.count_filled-kept.ensures.keeps.is ∙ chain b (λ (x : Work). with_slots (rotated c.args.ends.head c.args.resize.size x.slots) x) (with_slots z w) v _ _ t c.clear_stale.ensures.is c.rotate.ensures.is in
+      let e = c.count_filled-kept.ensures.stands.1 ∙ chain b (λ (x : Work). with_slots (rotated c.args.ends.head c.args.resize.size x.slots) x) (with_slots z w) v _ _ t c.clear_stale.ensures.stands.1 c.rotate.ensures.stands.1 in
       let here = at_chain b r v _ t e in (
         ap (λ (x : Work). x.hand) here ∙ h.bare,
         λ n l. ap (λ (x : Work). get_or x.slots (m + n) 0) here ∙ (dropped_in _ _ w.slots held c.args.ends.tail c.args.ends.head c.args.resize.len h.unturned m (less_of m c.args.resize.len c.args.resize.size c.lesser-limit.ensures.less.0 c.lesser-limit.ensures.less.1) n l
@@ -72,7 +72,7 @@ drop_rest-dropped-requires-clause-may g c _ _ = record {
   packets = λ n l.
       let b = c.args.band in let v = view c.args.cpu.now in let w : Work = work_at b v in let z : List ℕ = zeroed_to c.args.ends.tail (c.args.ends.head - c.args.ends.tail) w.slots in let t = c.requires.may.turner.0 in
       let r : Work = with_slots (rotated c.args.ends.head c.args.resize.size z) w in
-      let e = c.count_filled-kept.ensures.keeps.is ∙ chain b (λ (x : Work). with_slots (rotated c.args.ends.head c.args.resize.size x.slots) x) (with_slots z w) v _ _ t c.clear_stale.ensures.is c.rotate.ensures.is in
+      let e = c.count_filled-kept.ensures.stands.1 ∙ chain b (λ (x : Work). with_slots (rotated c.args.ends.head c.args.resize.size x.slots) x) (with_slots z w) v _ _ t c.clear_stale.ensures.stands.1 c.rotate.ensures.stands.1 in
       c.requires.may.packets n (subst (λ (ls : List ℕ). Contains ls n) (ap (λ (x : Work). x.waiting) (at_chain b r v _ t e)) l);
 }
 
@@ -82,11 +82,11 @@ none_waits limit size tail head len m held w h less = ap (drop (size - m)) h.wai
 
 pub returns : goal.returns
 returns g c = record {
-  same = search rules;
-  turned =
+  makes = let b = c.args.band in turns_then b (turns_then b (turns_then b c.clear_stale.ensures.makes c.rotate.ensures.makes) c.count_filled-kept.ensures.makes) c.drop_rest-dropped.ensures.makes;
+  stands =
       let b = c.args.band in let v = view c.args.cpu.now in let w : Work = work_at b v in let z : List ℕ = zeroed_to c.args.ends.tail (c.args.ends.head - c.args.ends.tail) w.slots in let t = c.requires.may.turner.0 in let held = c.requires.may.whole.0 in let h = c.requires.may.whole.1 in
       let r : Work = with_slots (rotated c.args.ends.head c.args.resize.size z) w in let m = c.lesser-limit.result in let size = c.args.resize.size in
-      let e = c.count_filled-kept.ensures.keeps.is ∙ chain b (λ (x : Work). with_slots (rotated c.args.ends.head c.args.resize.size x.slots) x) (with_slots z w) v _ _ t c.clear_stale.ensures.is c.rotate.ensures.is in
+      let e = c.count_filled-kept.ensures.stands.1 ∙ chain b (λ (x : Work). with_slots (rotated c.args.ends.head c.args.resize.size x.slots) x) (with_slots z w) v _ _ t c.clear_stale.ensures.stands.1 c.rotate.ensures.stands.1 in
       let v3 = view c.count_filled-kept.new.cpu in
       let e4 = chain b (dropped_to m (size - m)) r v v3 (working b (dropped_to m (size - m) (work_at b v3)) v3) t e refl in
       let less = less_of m c.args.resize.len c.args.resize.size c.lesser-limit.ensures.less.0 c.lesser-limit.ensures.less.1 in
@@ -97,7 +97,7 @@ returns g c = record {
       let stored : shrunk_to c.args.resize.event (size - m) (work_at b v3).waiting v3.settled ≡ fates_onto (fate.Shrunk c.args.resize.event) w.waiting v.settled =
       (λ j. shrunk_to c.args.resize.event (size - m) (waits j) ((ap (λ (x : View). x.settled) e) j)) ∙ ap (λ (ls : List ℕ). fates_onto (fate.Shrunk c.args.resize.event) ls v.settled) all in (
         dropped_to m (size - m) r,
-        c.drop_rest-dropped.ensures.drops.is ∙ (λ j. having_settled (stored j) (e4 j)),
+        (search rules, c.drop_rest-dropped.ensures.stands.1 ∙ (λ j. having_settled (stored j) (e4 j))),
         record {
           kept_is = refl;
           waiting_is = none_;
@@ -106,16 +106,13 @@ returns g c = record {
         },
       );
   few = search rules;
-  made =
-      let old = steps c.args.cpu.now in let one = steps c.clear_stale.new.cpu in let two = steps c.rotate.new.cpu in let three = steps c.count_filled-kept.new.cpu in let k = setup c.args.shared.now in let b = c.args.band in
-      turns_then k b old three (steps c.drop_rest-dropped.new.cpu) (turns_then k b old two three (turns_then k b old one two c.clear_stale.ensures.made c.rotate.ensures.made) c.count_filled-kept.ensures.keeps.made) c.drop_rest-dropped.ensures.drops.made;
   kept =
       let b = c.args.band in let v = view c.args.cpu.now in let w : Work = work_at b v in let z : List ℕ = zeroed_to c.args.ends.tail (c.args.ends.head - c.args.ends.tail) w.slots in let t = c.requires.may.turner.0 in let held = c.requires.may.whole.0 in let h = c.requires.may.whole.1 in
       let r : Work = with_slots (rotated c.args.ends.head c.args.resize.size z) w in let m = c.lesser-limit.result in let size = c.args.resize.size in
       let less = less_of m c.args.resize.len c.args.resize.size c.lesser-limit.ensures.less.0 c.lesser-limit.ensures.less.1 in
-      let e = chain b (λ (x : Work). with_slots (rotated c.args.ends.head c.args.resize.size x.slots) x) (with_slots z w) v _ _ t c.clear_stale.ensures.is c.rotate.ensures.is in
+      let e = chain b (λ (x : Work). with_slots (rotated c.args.ends.head c.args.resize.size x.slots) x) (with_slots z w) v _ _ t c.clear_stale.ensures.stands.1 c.rotate.ensures.stands.1 in
       let here = at_chain b r v _ t e in let f = c.count_filled-kept.ensures.filled in
-      let waits : (work_at b (view c.count_filled-kept.new.cpu)).waiting ≡ w.waiting = ap (λ (x : View). (work_at b x).waiting) c.count_filled-kept.ensures.keeps.is ∙ ap (λ (x : Work). x.waiting) here in
+      let waits : (work_at b (view c.count_filled-kept.new.cpu)).waiting ≡ w.waiting = ap (λ (x : View). (work_at b x).waiting) c.count_filled-kept.ensures.stands.1 ∙ ap (λ (x : Work). x.waiting) here in
       let left : length (drop (size - m) (work_at b (view c.count_filled-kept.new.cpu)).waiting) ≡ 0 = ap (λ (ls : List ℕ). length (drop (size - m) ls)) waits ∙ ap length (none_waits _ _ _ _ _ m held w h less) in
       let n = c.drop_rest-dropped.ensures.count in (
         counted _ _ w.slots held c.args.ends.tail c.args.ends.head c.args.resize.len h.unturned m less c.count_filled-kept.result f.0
