@@ -14,17 +14,16 @@ use Rattle.lq_model.specs.Plan.{band_in, queue_in}
 use Rattle.lq_model.specs.Steps.{begun as begun_as}
 use Rattle.lq_model.specs.declared.fate.Info.{Info}
 use Rattle.lq_run.specs.Runs as runs
-use Rattle.lq_table.specs.Made.{Made}
-use Rattle.lq_table.specs.Views.{View, Setup, machine_packet, SharePart, first_account, no_packets, Known}
+use Rattle.lq_table.specs.Views.{View, Setup, machine_packet, SharePart, first_account, no_packets}
 use Rattle.lq_table.specs.Sees.{Solo, IsSole, account_of, solo, heard}
 use Rattle.lq_table.specs.Locks.{locked_to}
 use Rattle.lq_table.specs.States.{SeesState, clear_sched_alone, set_sched_alone, recheck_view_direct, load_state_view, some_bit}
 use Rattle.lq_table.specs.Inside.{lowered, call_of, enter_view}
 use Rattle.lq_table.specs.Moves.{is_set, seen_by, stepped}
 use Rattle.lq_model.specs.declared.machine.Answer.TheVariants.{Plain}
-use Rattle.lq_qdisc.proofs.ViewRelations.{Attempts, FollowsDirect, Goes, GoesPast, GoesThrough, Interrupts, RunsToEnd, TriesToPass}
+use Rattle.lq_qdisc.proofs.ViewRelations.{Attempts, FollowsDirect, Goes, GoesPast, GoesThrough, Interrupts, RunsToEnd, TriesToPass, transmitting, WakesAt, WakesFirst, IsRefused}
 use Rattle.lq_qdisc.specs.Alone.{BringsAlone, Does, HasAll, IsAlone, IsOneSender, RunsAlone, account_in, bits_are_clear, running}
-use Rattle.lq_qdisc.specs.Sends.{Enqueues, IsRefused, Wakes, WakesBelow, transmitting}
+use Rattle.lq_qdisc.specs.Outcomes.{Enqueues}
 use Rattle.lq_qdisc.specs.declared.answers.Sending.{Sending}
 use Rattle.lq_qdisc.specs.declared.answers.Sending.TheVariants as sending
 use Rattle.lq_qdisc.specs.declared.answers.Through.{Through}
@@ -188,7 +187,7 @@ module _ (k : Setup) (infos : List Info) (n : ℕ) where
         same_bits : some_bit f.0 ≡ ((solo last).whole.missed || (solo last).whole.draining)
         same_bits = ap₂ (λ (x y : Bool). x || y) (f.1 all).missed (f.1 all).draining
 
-        by_state : (((some_bit f.0 ≡ true) × RunsToEnd infos (load_state_view f.0 last) new) ⊎ ((some_bit f.0 ≡ false) × Rattle.lq_qdisc.specs.Sends.IsLockReleased (load_state_view f.0 last) new)) → solo new ≡ ended (solo last)
+        by_state : (((some_bit f.0 ≡ true) × RunsToEnd infos (load_state_view f.0 last) new) ⊎ ((some_bit f.0 ≡ false) × Rattle.lq_qdisc.specs.Outcomes.IsLockReleased (load_state_view f.0 last) new)) → solo new ≡ ended (solo last)
         by_state (inl t) = absurd (both_clear (solo last).whole.missed (solo last).whole.draining (still refl) (sym same_bits ∙ t.0))
         by_state (inr t) = t.1.sole all ∙ (ended_is (solo (load_state_view f.0 last)) ∙ ap ended f.2)
     follows_is (through.Back reason) last f all still = f.sole all ∙ ended_is (solo last)
@@ -374,24 +373,24 @@ module _ (k : Setup) (infos : List Info) (queue : ℕ) (old new : View) (about :
     sym (ap (λ (a : Account). with_account a (running (first_account k) (solo old))) (cond-false _ _ _ (ne_eqb _ _ other))),
   )
 
-  wake_alone : (k' : Setup) (one : Bool) (steps steps' : List Made) → Wakes k' queue one (record { view = old; steps = steps }) (record { view = new; steps = steps' }) → Opens (solo new)
-  wake_alone k' true steps steps' w = woken_alone w.0 w.2 (w.3 h.sender.sole) (sym stop-at ∙ w.4 h.sender.sole)
-  wake_alone k' false steps steps' w = still_alone w.0 (λ z. w.1 h.sender.sole (stop-at ∙ z))
+  wake_alone : (one : Bool) → WakesAt queue one old new → Opens (solo new)
+  wake_alone true w = woken_alone w.0 w.2 (w.3 h.sender.sole) (sym stop-at ∙ w.4 h.sender.sole)
+  wake_alone false w = still_alone w.0 (λ z. w.1 h.sender.sole (stop-at ∙ z))
 
-wake_about : (k : Setup) (queue : ℕ) (one : Bool) (old new : Known) → Wakes k queue one old new → new.view.share.about ≡ old.view.share.about
-wake_about k queue true old new w = ap (λ (v : View). v.share.about) w.1
-wake_about k queue false old new w = ap (λ (v : View). v.share.about) w.0
+wake_about : (queue : ℕ) (one : Bool) (old new : View) → WakesAt queue one old new → new.share.about ≡ old.share.about
+wake_about queue true old new w = ap (λ (v : View). v.share.about) w.1
+wake_about queue false old new w = ap (λ (v : View). v.share.about) w.0
 
-wakes_alone : (k : Setup) (infos : List Info) (queues : ℕ) (one : Bool) (old new : Known) → old.view.share.about ≡ k → IsAlone infos (first_account k) (solo old.view) → WakesBelow k queues one old new
-    → (new.view.share.about ≡ k) × (IsAlone infos (first_account k) (solo new.view) × (running (first_account k) (solo new.view) ≡ with_account (opened_up_to queues (account_in (first_account k) (solo old.view))) (running (first_account k) (solo old.view))))
+wakes_alone : (k : Setup) (infos : List Info) (queues : ℕ) (one : Bool) (old new : View) → old.share.about ≡ k → IsAlone infos (first_account k) (solo old) → WakesFirst queues one old new
+    → (new.share.about ≡ k) × (IsAlone infos (first_account k) (solo new) × (running (first_account k) (solo new) ≡ with_account (opened_up_to queues (account_in (first_account k) (solo old))) (running (first_account k) (solo old))))
 wakes_alone k infos zero one old new about h (none, w) =
-    (ap (λ (v : Known). v.view.share.about) w ∙ about, (subst (λ (v : Known). IsAlone infos (first_account k) (solo v.view)) (sym w) h, ap (λ (v : Known). running (first_account k) (solo v.view)) w))
+    (ap (λ (v : View). v.share.about) w ∙ about, (subst (λ (v : View). IsAlone infos (first_account k) (solo v)) (sym w) h, ap (λ (v : View). running (first_account k) (solo v)) w))
 wakes_alone k infos (suc queue) one old new about h (mid, before, now, first, wakes, is) =
     let below = wakes_alone k infos queue before old mid about h first in
-    let here = wake_alone k infos queue mid.view new.view below.0 below.1.0 k now mid.steps new.steps wakes in
-    (wake_about k queue now mid new wakes ∙ below.0, (here.0, here.1 ∙ ap (λ (s : RunningStation). with_account (opened_queue queue s.account) s) below.1.1))
+    let here = wake_alone k infos queue mid new below.0 below.1.0 now wakes in
+    (wake_about queue now mid new wakes ∙ below.0, (here.0, here.1 ∙ ap (λ (s : RunningStation). with_account (opened_queue queue s.account) s) below.1.1))
 
-pub irq_alone : (k : Setup) (infos : List Info) (one : Bool) (old new : Known) → old.view.share.about ≡ k → WakesBelow k k.queues one old new → Does infos (first_account k) opened (solo old.view) (solo new.view)
+pub irq_alone : (k : Setup) (infos : List Info) (one : Bool) (old new : View) → old.share.about ≡ k → WakesFirst k.queues one old new → Does infos (first_account k) opened (solo old) (solo new)
 irq_alone k infos one old new about w h =
     let all = wakes_alone k infos k.queues one old new about h w in
-    (all.1.0, all.1.1 ∙ ap (λ (n : ℕ). with_account (opened_up_to n (account_in (first_account k) (solo old.view))) (running (first_account k) (solo old.view))) (sym (count_of k (solo old.view))))
+    (all.1.0, all.1.1 ∙ ap (λ (n : ℕ). with_account (opened_up_to n (account_in (first_account k) (solo old))) (running (first_account k) (solo old))) (sym (count_of k (solo old))))

@@ -9,7 +9,7 @@ use Rattle.lq_model.specs.declared.device.Tx.TheVariants.{Sent, SentStop, SentHa
 use Rattle.lq_model.specs.declared.fate.Info.{Info}
 use Rattle.lq_table.specs.Sees.{Solo, heard, device_to}
 use Rattle.lq_table.specs.States.{missed_to, draining_to}
-use Rattle.lq_qdisc.specs.Direct.{hearing_hung}
+use Rattle.lq_qdisc.proofs.DirectLemmas.{hearing_hung}
 use Rattle.lq_qdisc.specs.Stations.{dirty, is_waiting, may_take}
 use Rattle.lq_qdisc.specs.Alone.{IsAlone, IsOneSender, account_in, running}
 use Rattle.lq_qdisc.specs.declared.answers.Taken.{Taken}

@@ -16,11 +16,11 @@ use Rattle.lq_model.specs.declared.fate.Info.{Info}
 use Rattle.lq_table.specs.Views.{View, HolderPart, Setup, SharePart, first_account}
 use Rattle.lq_table.specs.Rule.{shown}
 use Rattle.lq_table.specs.Sees.{Solo, IsSole, IsAccounts, HasSent, account_of, solo, is_heard, heard, device_to}
-use Rattle.lq_qdisc.proofs.ViewRelations.{Directs, Hands, LastTurn, Runs, Sends}
+use Rattle.lq_qdisc.proofs.ViewRelations.{Hands, LastTurn, Runs, Sends}
 use Rattle.lq_qdisc.specs.Stations.{is_waiting, may_take}
 use Rattle.lq_qdisc.specs.Alone.{IsOneSender, RunsAlone, RunsOn, account_in, running, telling_of}
 use Rattle.lq_qdisc.specs.Calls.{AreNone, Dequeues, FindsPacket, Picks, SeesOneQueue}
-use Rattle.lq_qdisc.specs.Direct.{hearing_stops, hung_below, stopped_by}
+use Rattle.lq_qdisc.specs.Direct.{Directs, hearing_stops, hung_below, stopped_by}
 use Rattle.lq_qdisc.specs.declared.answers.Ran.{Ran}
 use Rattle.lq_qdisc.specs.declared.answers.RunEnd.{RunEnd}
 use Rattle.lq_qdisc.specs.declared.answers.RunEnd.TheVariants as end

@@ -1,5 +1,5 @@
 -- What handing a packet to the device leaves.
-use Rattle.std.proofs.Common.{◌≡◌, ◌≢◌, ℕ, ◌+◌, ◌<◌, ◌==◌, Bool, true, false, if◌then◌else◌, refl, sym, ap, ◌∙◌, subst, arith, List, ◌∷◌, None, Some, Option}
+use Rattle.std.proofs.Common.{◌≡◌, ◌≢◌, ℕ, ◌+◌, ◌<◌, ◌==◌, Bool, true, false, if◌then◌else◌, refl, sym, ap, ◌∙◌, subst, arith, List, [], ◌∷◌, None, Some, Option}
 use Rattle.std.specs.Prelude.{nat_lt, slice_index}
 use Rattle.lq_model.specs.Positions.{holds_lock}
 use Rattle.std.specs.Option.{option_map, unwrap_or}
@@ -17,17 +17,18 @@ use Rattle.lq_model.specs.declared.machine.Packet.{Packet}
 use Rattle.lq_model.specs.declared.machine.Position.{Position}
 use Rattle.lq_model.specs.declared.machine.Position.TheVariants.{BlockedClear, Gate, StoreXoff, Xmit}
 use Rattle.lq_table.specs.Views.{View, HolderPart, no_station}
-use Rattle.lq_table.specs.States.{CarriesBusyDevice, carried_but_for_slot, requeue_view, set_bit_view, missed_to, draining_to}
+use Rattle.lq_table.specs.States.{CarriesBusyDevice, carried_but_for_slot, requeue_view, missed_to, draining_to}
 use Rattle.lq_table.specs.Rule.{shown, IsResting}
 use Rattle.lq_table.specs.Sees.{view, slot, position, carried, packet_at, IsSameSeat, IsElseSame, Solo, IsSole, account_of, solo, heard, device_to}
 use Rattle.lq_table.specs.declared.shared.Cpu.{Cpu}
 use Rattle.lq_table.specs.declared.shared.Shared.{Shared}
-use Rattle.lq_model.specs.Plan.{queue_in}
+use Rattle.lq_model.specs.Plan.{band_in, queue_in}
 use Rattle.lq_qdisc.specs.Calls.{IsKeptInRun, IsServing, IsSettledSame}
-use Rattle.lq_table.specs.Fates.{MaySettle, machine_answer, fate_sent, settle_view_sent}
+use Rattle.lq_table.specs.Fates.{MaySettle, machine_answer, fate_sent, settle_alone, settle_view, settle_view_sent}
+use Rattle.lq_table.specs.Step.{MakesSteps, Settle}
 use Rattle.lq_table.specs.Stops.{HasRoom, load_xoff_view, load_xoff_view_from, store_xoff_view, store_xoff_view_from, SeesXoff}
-use Rattle.lq_table.specs.Moves.{and_settled, pass_view, seen_by}
-use Rattle.lq_qdisc.specs.Direct.{Accepts, IsBusyAt, IsSentAs, LaysAside, SeesOpen, StaysAt, hearing_hung, hearing_stops, hung_below, position_after, sent_leads, stopped_by}
+use Rattle.lq_table.specs.Moves.{and_settled, seen_by}
+use Rattle.lq_qdisc.specs.Direct.{Accepts, IsBusyAt, LaysAside, SeesOpen, StaysAt, hearing_stops, hung_below, position_after, sent_leads, stopped_by}
 use Rattle.lq_qdisc.proofs.TakeLemmas.{one, stop_is}
 use Rattle.lq_qdisc.specs.declared.answers.Through.TheVariants as through
 
@@ -87,10 +88,30 @@ if_below {A} n m x y h = ap (λ (b : Bool). if b then x else y) (lt-ltb n m h)
 pub hung_more : (queue : ℕ) (past : List Event) → Stop queue 2 ∷ hung_below queue past ≡ hung_below (queue + 1) past
 hung_more queue past = ap (λ (n : ℕ). hung_below n past) (one queue)
 
+abbrev pub hearing_hung : ℕ → Solo → Solo
+hearing_hung queues v = record v { whole = record v.whole { past = hung_below queues v.whole.past } }
+
 pub hearing_more : (queue : ℕ) (s : Solo) → heard (Stop queue 2) (hearing_hung queue s) ≡ hearing_hung (queue + 1) s
 hearing_more queue s = ap (λ (n : ℕ). hearing_hung n s) (one queue)
 
 -- A PACKET THAT WAS SENT
+
+-- The fate of the packet n is stored, which the device accepted with this answer; the station is as st says.
+pub record IsSentAs (answer : Tx) (n queue : ℕ) (direct : Bool) (st : StationState) (old new : View) : Type 0 where
+  pub share : new.share ≡ old.share
+  pub packets : new.packets ≡ old.packets
+  pub locks : new.locks ≡ old.locks
+  pub control : new.control ≡ old.control
+  pub turns : new.turns ≡ old.turns
+  pub trail : new.trail ≡ old.trail
+  pub told : new.whole.told ≡ old.whole.told
+  pub raised : new.place.raised ≡ old.place.raised
+  pub run : new.place.run ≡ run_counted old.place.run
+  pub at : new.place.position ≡ sent_leads answer queue direct new
+  pub past : new.whole.state.past ≡ Send ∷ old.whole.state.past
+  pub holder : new.holder ≡ record old.holder { station = st; hand = None; last = Some n }
+  pub settled : new.settled ≡ (n, fate_sent old.holder.station) ∷ old.settled
+  pub step : solo new ≡ device_to st.device (heard Send (solo old))
 
 abbrev settling_at : Position → Option Tx → Option ℕ → StationState → View → View
 settling_at position last hand st v = record v {
@@ -184,7 +205,6 @@ pub busy_at : (n queue : ℕ) (st : StationState) (v w : View) → v.holder.hand
 busy_at n queue st v w hand called is step sole = record {
   station = st;
   called = called;
-  past = ap (λ (x : View). x.whole.state.past) is;
   holder = ap (λ (x : View). x.holder) is ∙ ap (λ (o : Option ℕ). record v.holder { station = st; slot = o; hand = None }) hand;
   settled = ap (λ (x : View). x.settled) is;
   step = step;
@@ -252,17 +272,11 @@ module _ {D : Type 0} where
 
   -- the queue of the packet in hand was found stopped
   abbrev pub lays_aside : (n queue first : ℕ) (p : Packet) (direct : Bool) (b m w : Cpu D) → first ≢ 0 → position b ≡ Gate p direct → (view b).holder.shut ≡ None → view m ≡ load_xoff_view first (view b) → SeesXoff queue (view b) first
-      → IsSettledSame m w → (view w).holder ≡ record (view m).holder { slot = Some n; hand = None } → (view w).whole.state.past ≡ Back ∷ (view m).whole.state.past
-      → ((again : ℕ) × (view w ≡ set_bit_view (set_bit_view (load_xoff_view again (pass_view (view m))))))
+      → IsSettledSame m w → (view w).holder ≡ record (view m).holder { slot = Some n; hand = None }
       → (IsSole (view m) → slice_index (account_of (view m)).stops queue ≢ 0 → solo (view w) ≡ missed_to true (heard Back (draining_to true (missed_to false (solo (view m))))))
       → LaysAside n queue (view b) (view w)
-  lays_aside n queue first p direct b m w closed here shut loaded sees fates holder past again sole =
+  lays_aside n queue first p direct b m w closed here shut loaded sees fates holder sole =
       let e : view m ≡ moved_to (if first == 0 then Xmit p direct else BlockedClear (InHand p direct)) (view b) = loaded ∙ loaded_at_gate first (view b) p direct here in record {
-        first = first;
-        again = again.0;
-        stopped = closed;
-        is = again.1 ∙ ap (λ (v : View). set_bit_view (set_bit_view (load_xoff_view again.0 (pass_view v)))) loaded;
-        past = past ∙ ap (λ (v : View). Back ∷ v.whole.state.past) e;
         holder = holder ∙ ap (λ (v : View). record v.holder { slot = Some n; hand = None }) e;
         settled = fates.0 ∙ ap (λ (v : View). v.settled) e;
         sole = λ alone.
@@ -281,3 +295,17 @@ module _ {D : Type 0} where
       subst (λ (v : View). SeesOpen queue v) (sym e) (λ alone.
       let holds = ap (λ (y : Position). holds_lock y) here in
       (sym (stop_is queue first (view b) sees alone holds shut) ∙ opened, sees.1 alone holds, sees.2 alone holds))
+
+  -- where the fate was stored, which is that of a packet that the device accepted
+  pub sent_settled : (t : Shared D) (n : ℕ) (f : Fate) (m s : Cpu D) → MakesSteps (Settle n f ∷ []) m s → (view m).holder.hand ≡ Some n → f ≡ fate_sent (view m).holder.station
+      → (answer : Tx) → (direct : Bool) → is_busy answer ≡ false → HasAnswered answer (queue_in t.infos.now n) n (shown (view m).holder) (carried m) → position m ≡ Xmit (packet_at t n) direct
+      → IsSentAs answer n (queue_in t.infos.now n) direct (carried m) (view m) (view s)
+  sent_settled t n f m s made hand is answer direct accepted called here =
+      let v = view m in let st = carried m in let b = band_in v.share.about.infos n in
+      sent_as n (packet_at t n) direct st v (view s) here hand answer accepted (ap (λ (x : StationState). x.last) called.rest)
+      (made.knows ∙ ap (λ (x : Fate). settle_view st b n x v) is)
+      (ap solo made.knows ∙ (made.told.0 ∙ ap (λ (x : Fate). settle_alone st x (solo v)) is))
+
+  -- a stored fate changes the view alone
+  pub else_same : {n : ℕ} {f : Fate} {b a : Cpu D} → MakesSteps (Settle n f ∷ []) b a → IsElseSame b a
+  else_same m = (m.seat, m.carries, m.places, m.has)

@@ -1,5 +1,7 @@
 -- what the calls come to
 pub mod ViewRelations
+-- steps after steps
+pub mod ListLemmas
 pub mod TakeLemmas
 pub mod DirectLemmas
 pub mod RunLemmas

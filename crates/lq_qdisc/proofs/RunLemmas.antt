@@ -22,9 +22,8 @@ use Rattle.lq_table.specs.Fates.{fate_sent}
 use Rattle.lq_table.specs.Moves.{pass_view, seen_by}
 use Rattle.lq_model.specs.Account.{Back}
 use Rattle.lq_table.specs.Sees.{Solo, heard}
-use Rattle.lq_qdisc.proofs.ViewRelations.{Directs}
 use Rattle.lq_qdisc.specs.Calls.{Dequeues, FindsPacket, KeepsFates, Picks}
-use Rattle.lq_qdisc.specs.Direct.{position_in_run}
+use Rattle.lq_qdisc.specs.Direct.{Directs, position_in_run}
 use Rattle.lq_qdisc.specs.declared.answers.Taken.{Taken}
 use Rattle.lq_qdisc.specs.declared.answers.Taken.TheVariants as taken
 use Rattle.lq_qdisc.specs.declared.answers.Through.{Through}

@@ -11,16 +11,17 @@ use Rattle.lq_model.specs.declared.machine.Position.TheVariants.{Check, Leave, P
 use Rattle.lq_model.specs.declared.fate.Info.{Info}
 use Rattle.lq_account_laws.specs.Trail.{is_own}
 use Rattle.lq_table.specs.Moves.{is_set, seen_by}
-use Rattle.lq_table.specs.States.{load_state_view, seen_state, some_bit, load_state_log}
-use Rattle.lq_table.specs.Made.{◌⊳◌}
-use Rattle.lq_table.specs.Sees.{view, known, steps, IsElseSame, IsSameSeat, IsSeatOf}
+use Rattle.lq_table.specs.States.{load_state_view, seen_state, some_bit}
+use Rattle.lq_table.specs.Sees.{view, IsElseSame, IsSameSeat, IsSeatOf}
 use Rattle.lq_table.specs.declared.shared.Cpu.{Cpu}
 use Rattle.lq_table.specs.declared.shared.Shared.{Shared}
-use Rattle.lq_table.specs.Views.{PacketPart, View, Known}
+use Rattle.lq_table.specs.Views.{PacketPart, View}
 use Rattle.lq_qdisc.specs.Calls.{KeepsFates}
-use Rattle.lq_qdisc.specs.Steps.{with_state_loaded}
+use Rattle.lq_ring.specs.StepLists.{MakesStepsFrom}
+use Rattle.lq_table.specs.Step.{Standing, Step}
 use Rattle.lq_qdisc.specs.Parts.{BringsBy, EndsCallBy, IsFreeInside, LeavesBy}
-use Rattle.lq_qdisc.specs.Sends.{Enqueues, HasCome, IsBringing, IsCallKept, came_as, trail_with}
+use Rattle.lq_qdisc.specs.Sends.{HasCome, IsBringing, IsCallKept, came_as, trail_with}
+use Rattle.lq_qdisc.specs.Outcomes.{Enqueues}
 use Rattle.lq_qdisc.specs.declared.answers.Sending.{Sending}
 use Rattle.lq_qdisc.specs.declared.answers.Sending.TheVariants as sending
 use Rattle.lq_qdisc.proofs.RunLemmas.{fates_same, fates_then}
@@ -89,17 +90,14 @@ module _ {D : Type 0} where
   -- What is known where a seat that brings a packet loaded the state, and goes on with the packet.
   pub record IsLooked (t : Shared D) (n state : ℕ) (b m : Cpu D) : Type 0 where
     pub is : view m ≡ load_state_view state (view b)
-    pub all : known m ≡ with_state_loaded state (known b)
     pub call : KeepsCall t b m
     pub packet : IsBringing t n m
     pub free : IsFreeInside b → IsFreeInside m
     pub came : (answer : Sending) (w : View) → HasCome t.infos.now n answer (view m) w → HasCome t.infos.now n answer (view b) w
 
-  pub looked_from : (t : Shared D) (n state : ℕ) (b m : Cpu D) → IsElseSame b m → view m ≡ load_state_view state (view b)
-      → steps m ≡ steps b ⊳ load_state_log state → IsSeatOf t b → IsBringing t n b → IsLooked t n state b m
-  looked_from t n state b m same e made s packet = record {
+  pub looked_from : (t : Shared D) (n state : ℕ) (b m : Cpu D) → IsElseSame b m → view m ≡ load_state_view state (view b) → IsSeatOf t b → IsBringing t n b → IsLooked t n state b m
+  looked_from t n state b m same e s packet = record {
     is = e;
-    all = λ j. record { view = e j; steps = made j };
     call = keeps_call t b m same.0 (ap (λ (v : View). v.share) e) (ap (λ (v : View). v.control) e) (ap (λ (v : View). v.whole.told) e)
         (ap (λ (v : View). v.settled) e) s;
     packet = brings_looked t n state b m e packet;
@@ -118,25 +116,25 @@ module _ {D : Type 0} where
     pub told : (view m).whole.told ≡ (view b).whole.told
     pub settled : (view m).settled ≡ (view b).settled
 
-  ends_then : {comes : View → View → Type 0} {by to : Known → Known → Type 0} (b m a : Cpu D) → LeavesTheRest b m → LeavesBy comes by m a → comes (view b) (view a) → to (known b) (known a) → LeavesBy comes to b a
-  ends_then b m a i r came steps = record {
+  ends_then : {comes : View → View → Type 0} {such to : Standing → List Step → Type 0} (b m a : Cpu D) → LeavesTheRest b m → LeavesBy comes such m a → comes (view b) (view a) → MakesStepsFrom to b a → LeavesBy comes to b a
+  ends_then b m a i r came makes = record {
     kept = called_from b m a i.seat i.share i.control i.told r.kept;
     fates = fates_then (view b) (view m) (view a) (fates_same (view b) (view m) i.settled) r.fates;
     at = r.at;
     free = r.free;
     came = came;
-    steps = steps;
+    makes = makes;
   }
 
-  pub serves_then : {by to : Known → Known → Type 0} (b m a : Cpu D) → LeavesTheRest b m → EndsCallBy by m a → to (known b) (known a) → EndsCallBy to b a
-  serves_then b m a i r steps =
-      ends_then b m a i r (record { share = r.came.share ∙ i.share; packets = r.came.packets ∙ i.packets; turns = r.came.turns ∙ i.turns; trail = r.came.trail ∙ i.trail }) steps
+  pub serves_then : {such to : Standing → List Step → Type 0} (b m a : Cpu D) → LeavesTheRest b m → EndsCallBy such m a → MakesStepsFrom to b a → EndsCallBy to b a
+  serves_then b m a i r makes =
+      ends_then b m a i r (record { share = r.came.share ∙ i.share; packets = r.came.packets ∙ i.packets; turns = r.came.turns ∙ i.turns; trail = r.came.trail ∙ i.trail }) makes
 
-  pub brings_then : {by to : Known → Known → Type 0} (infos : List Info) (n : ℕ) (answer : Sending) (b m a : Cpu D) → LeavesTheRest b m → BringsBy infos n answer by m a → to (known b) (known a)
+  pub brings_then : {such to : Standing → List Step → Type 0} (infos : List Info) (n : ℕ) (answer : Sending) (b m a : Cpu D) → LeavesTheRest b m → BringsBy infos n answer such m a → MakesStepsFrom to b a
       → BringsBy infos n answer to b a
-  brings_then infos n answer b m a i r steps = ends_then b m a i r (come_from infos n answer (view b) (view m) (view a) i.share i.packets i.turns i.trail r.came) steps
+  brings_then infos n answer b m a i r makes = ends_then b m a i r (come_from infos n answer (view b) (view m) (view a) i.share i.packets i.turns i.trail r.came) makes
 
   -- and after a load of the state, which goes on with the packet
-  pub brings_looked_by : {by to : Known → Known → Type 0} (t : Shared D) (n state : ℕ) (answer : Sending) (b m a : Cpu D) → IsLooked t n state b m → BringsBy t.infos.now n answer by m a → to (known b) (known a)
+  pub brings_looked_by : {such to : Standing → List Step → Type 0} (t : Shared D) (n state : ℕ) (answer : Sending) (b m a : Cpu D) → IsLooked t n state b m → BringsBy t.infos.now n answer such m a → MakesStepsFrom to b a
       → BringsBy t.infos.now n answer to b a
-  brings_looked_by t n state answer b m a l r steps = record { kept = l.call.kept a r.kept; fates = l.call.fates (view a) r.fates; at = r.at; free = r.free; came = l.came answer (view a) r.came; steps = steps }
+  brings_looked_by t n state answer b m a l r makes = record { kept = l.call.kept a r.kept; fates = l.call.fates (view a) r.fates; at = r.at; free = r.free; came = l.came answer (view a) r.came; makes = makes }

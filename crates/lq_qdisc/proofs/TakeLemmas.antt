@@ -1,9 +1,9 @@
 -- What a look through the bands leaves.
-use Rattle.std.proofs.Common.{◌≡◌, ◌≢◌, ℕ, zero, suc, ◌+◌, ◌<◌, ◌==◌, Bool, true, false, refl, sym, ap, ◌∙◌, subst, arith, List, [], ◌∷◌, Option, None, Some, inr, is_some, if◌then◌else◌}
+use Rattle.std.proofs.Common.{◌≡◌, ◌≢◌, ℕ, zero, suc, ◌+◌, ◌<◌, ◌==◌, Bool, true, false, refl, sym, ap, ◌∙◌, subst, arith, List, [], ◌∷◌, Option, None, Some, is_some, if◌then◌else◌}
 use Rattle.std.proofs.lemmas.Bool.{ne_eqb, true≢false}
 use Rattle.std.specs.Option.{option_map, unwrap_or}
 use Rattle.std.specs.Prelude.{slice_get, slice_index, MatchOption}
-use Rattle.lq_model.specs.Account.{Account, Event, Empty, Take, after_all, held_in}
+use Rattle.lq_model.specs.Account.{Account, Event, Empty, after_all, held_in, Back}
 use Rattle.lq_model.specs.Machine.{Qdisc, band_at}
 use Rattle.lq_model.specs.Steps.{step_at, scan, after_band, queue_of_slot}
 use Rattle.lq_model.specs.declared.machine.Answer.TheVariants.{Plain}
@@ -12,20 +12,20 @@ use Rattle.lq_model.specs.declared.machine.Position.{Position}
 use Rattle.lq_model.specs.declared.machine.Position.TheVariants.{BlockedClear, BlockedDrain, BlockedMiss, Deq, Scan}
 use Rattle.lq_model.specs.declared.machine.Blocked.TheVariants.{InHand, NoneTaken}
 use Rattle.lq_model.specs.declared.machine.Blocked.{Blocked}
-use Rattle.lq_model.specs.Positions.{holds_lock}
+use Rattle.lq_model.specs.Positions.{holds_lock, in_hand}
 use Rattle.lq_model.specs.declared.machine.Seat.{Seat}
 use Rattle.lq_ring.specs.Take.{consuming}
 use Rattle.lq_device.specs.Station.{StationState, with_slot}
 use Rattle.lq_table.specs.Views.{View, HolderPart, SharePart, State, machine_packet, first_account, no_station}
 use Rattle.lq_table.specs.Stops.{load_xoff_view, load_xoff_view_from, picking, slot_begins, SeesXoff}
-use Rattle.lq_table.specs.Moves.{pass_view, seen_by}
+use Rattle.lq_table.specs.Moves.{pass_view, seen_by, past_with}
 use Rattle.lq_table.specs.Consumers.{seen_band, head_slot_view_empty}
 use Rattle.lq_table.specs.States.{set_bit_view, set_bit_alone}
 use Rattle.lq_table.specs.Rule.{shown, IsResting}
 use Rattle.lq_table.specs.Sees.{view, position, slot, CarriesSlot, IsElseSame, IsSeatOf, IsSameSeat, IsSole, account_of}
 use Rattle.lq_table.specs.declared.shared.Cpu.{Cpu}
 use Rattle.lq_table.specs.declared.shared.Shared.{Shared}
-use Rattle.lq_qdisc.specs.Calls.{IsKeptInRun, IsServing, IsSettledSame, after_blocked, AreNone, Dequeues, Finds, ClearsMissedAlone, FindsNone, FindsPacket, FindsStopped, IsStopFor, Looks, Picks, finding_stopped, found_empty, laid_aside, looking_at, with_back}
+use Rattle.lq_qdisc.specs.Calls.{IsKeptInRun, IsServing, IsSettledSame, after_blocked, AreNone, Dequeues, Finds, ClearsMissedAlone, FindsNone, FindsPacket, FindsStopped, IsStopFor, Looks, Picks, found_empty, laid_aside, looking_at}
 use Rattle.lq_model.specs.declared.fate.Info.{Info}
 use Rattle.lq_qdisc.specs.declared.answers.Taken.{Taken}
 use Rattle.lq_qdisc.specs.declared.answers.Taken.TheVariants as taken
@@ -90,7 +90,7 @@ abbrev pub blocked_over : Blocked → Qdisc → View → View
 blocked_over b q v = record v {
   place = record v.place { position = after_blocked (BlockedClear b) };
   holder = laid_aside (BlockedClear b) v.holder;
-  whole = record v.whole { qdisc = q; state = with_back (BlockedClear b) v.whole.state };
+  whole = record v.whole { qdisc = q; state = if is_some (in_hand (BlockedClear b)) then past_with Back v.whole.state else v.whole.state };
 }
 
 pub maybe_cleared : (b : Blocked) (x : ℕ) (v w : View) → v.place.position ≡ BlockedClear b → w ≡ set_bit_view (load_xoff_view x (pass_view v)) → (q : Qdisc) × (w ≡ blocked_over b q v)
@@ -150,7 +150,6 @@ module _ {D : Type 0} where
     pub kept : IsKeptInRun b a
     pub at : position a ≡ after_blocked (position b)
     pub holder : (view a).holder ≡ laid_aside (position b) (view b).holder
-    pub heard : (view a).whole.state ≡ with_back (position b) (view b).whole.state
     pub fates : IsSettledSame b a
 
   pub leaves_blocked : (blocked : Blocked) (found : ℕ) (b m l a : Cpu D) → position b ≡ BlockedClear blocked
@@ -164,7 +163,6 @@ module _ {D : Type 0} where
         kept = kept_moved b a _ _ _ _ seat (third.2 ∙ (second.2 ∙ first.2)) e.1 refl;
         at = ap (λ (x : View). x.place.position) e.1 ∙ ap after_blocked (sym here);
         holder = ap (λ (x : View). x.holder) e.1 ∙ ap (λ (y : Position). laid_aside y (view b).holder) (sym here);
-        heard = ap (λ (x : View). x.whole.state) e.1 ∙ ap (λ (y : Position). with_back y (view b).whole.state) (sym here);
         fates = (ap (λ (x : View). x.settled) e.1, ap (λ (x : View). x.trail) e.1);
       }
 
@@ -224,9 +222,9 @@ looks_dequeue infos (taken.Packet n) v w none l = subst (λ (o : Option ℕ). Ma
 pub looks_from : (t : Taken) (p : Position) (v m w : View) → m ≡ standing p v → Looks t m w → Looks t v w
 looks_from t p v m w is l = looks t (subst (λ (x : View). Looks t x w) is l) where
   looks : (t : Taken) → Looks t (standing p v) w → Looks t v w
-  looks taken.Empty l = record { past = l.past; holder = l.holder; sole = l.sole }
+  looks taken.Empty l = record { holder = l.holder; sole = l.sole }
   looks taken.Stopped l = l
-  looks (taken.Packet n) l = record { band = l.band; below = l.below; past = l.past; holder = l.holder; sole = l.sole }
+  looks (taken.Packet n) l = record { band = l.band; below = l.below; holder = l.holder; sole = l.sole }
 
 -- one that comes to an answer was made with the queue open
 pub open_for : (t : Taken) (stop : ℕ) (v w : View) → Looks t v w → stop ≡ 0 → IsStopFor t stop
@@ -235,14 +233,9 @@ open_for taken.Stopped stop v w l is = absurd l
 open_for (taken.Packet n) stop v w l is = is
 
 -- the queue was found stopped where a dequeue begins, MISSED was cleared, and what follows that was done
-pub finds_stopped : (q x again queue : ℕ) (v m w : View) → x ≢ 0 → m ≡ standing (BlockedClear (NoneTaken queue)) v → w ≡ finding_stopped x again v → w.whole.state ≡ with_back m.place.position m.whole.state
+pub finds_stopped : (q x queue : ℕ) (v m w : View) → x ≢ 0 → m ≡ standing (BlockedClear (NoneTaken queue)) v
     → w.holder ≡ laid_aside m.place.position m.holder → ClearsMissedAlone q (set_bit_alone m) m w → (IsSole v → x ≡ slice_index (account_of v).stops q) → FindsStopped q v w
-finds_stopped q x again queue v m w some_ e is state holder alone stop = record {
-  first = x;
-  again = again;
-  stopped = some_;
-  is = is;
-  past = ap (λ (g : State). g.past) (state ∙ ap (λ (y : View). with_back y.place.position y.whole.state) e);
+finds_stopped q x queue v m w some_ e holder alone stop = record {
   holder = holder ∙ ap (λ (y : View). laid_aside y.place.position y.holder) e;
   sole = λ s. (λ z. some_ (stop s ∙ z), subst (λ (y : View). ClearsMissedAlone q (set_bit_alone y) y w) e alone s (λ z. some_ (stop s ∙ z)));
 }
@@ -260,7 +253,6 @@ finds_again n v u m w share told holder state none f =
     let past : m.whole.state.past ≡ found_empty 3 v.whole.state.past = ap (λ (g : State). g.past) state ∙ none.past in record {
       band = f.band;
       below = f.below;
-      past = inr (f.past ∙ ap (λ (es : List Event). Take f.band ∷ found_empty f.band es) past);
       holder = f.holder ∙ ap (λ (h : HolderPart). record h { ends = w.holder.ends; hand = Some n }) (holder ∙ none.holder);
       sole = λ s.
           let again = f.sole (ap (λ (x : SharePart). x.shares) share ∙ s.0, told ∙ s.1) in

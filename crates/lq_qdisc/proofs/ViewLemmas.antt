@@ -1,13 +1,27 @@
 -- What the calls come to, as relations of views alone.
-use Rattle.std.proofs.Common.{ℕ, zero, suc, ◌≡◌, ap, inl, inr}
-use Rattle.lq_model.specs.Plan.{band_in}
+use Rattle.std.proofs.Common.{◌≡◌, ◌||◌, eq-eqb, ◌≢◌, ℕ, suc, ◌+◌, Bool, true, false, if◌then◌else◌, List, [], ◌∷◌, ◌++◌, ◌⊎◌, Some, None, ◌-◌, ◌/◌, ◌*◌, refl, sym, ap, ◌∙◌, subst, inl, inr, arith}
+use Rattle.std.proofs.lemmas.Bool.{true≢false}
+use Rattle.lq_model.specs.Account.{Direct}
+use Rattle.lq_model.specs.declared.fate.Fate.TheVariants as fate
+use Rattle.lq_model.specs.Plan.{band_in, queue_in}
 use Rattle.lq_table.specs.Views.{View, Setup, Known}
 use Rattle.lq_table.specs.Inside.{enter_view}
-use Rattle.lq_table.specs.Moves.{pass_view}
-use Rattle.lq_table.specs.Sees.{solo}
-use Rattle.lq_qdisc.proofs.ViewRelations.{Attempts, Directs, FollowsDirect, Goes, GoesPast, GoesThrough, GoesThroughHeld, Hands, Interrupts, LastTurn, Runs, RunsToEnd, Sends, TriesToPass}
-use Rattle.lq_qdisc.specs.Sends.{Enqueues}
-use Rattle.lq_qdisc.specs.Steps.{QdiscRun, DirectsBy, EndsBy, EnqueuesBy, RunAfterBypass, XmitSkb, GoesHeldBy, GoesPastBy, EnqueueAndRun, HandsBy, InterruptsBy, RunsBy, RunsToEndBy, SendsBy, TryBypass, with_state_loaded}
+use Rattle.lq_table.specs.Fates.{settle_view_owed}
+use Rattle.lq_table.specs.Moves.{is_set, pass_view}
+use Rattle.lq_table.specs.Sees.{solo, heard}
+use Rattle.lq_table.specs.States.{check_view_refused, clear_sched_alone, load_state_view, recheck_view_direct, some_bit}
+use Rattle.lq_table.specs.Step.{Standing, Step, step_leaves, steps_leave, steps_tell}
+use Rattle.lq_table.specs.Step.{Check, ClearSched, Enter, Leave, LoadState, LookStop, Recheck, SetSched, Settle, Wake}
+use Rattle.lq_ring.proofs.StepsThen.{leave_then}
+use Rattle.lq_qdisc.proofs.ListLemmas.{left_then, tells_after, tells_before, tells_first, tells_rest, told_first, told_then}
+use Rattle.lq_qdisc.proofs.ViewRelations.{Attempts, FollowsDirect, Goes, GoesPast, GoesThrough, GoesThroughHeld, Hands, Interrupts, IsDue, IsRefused, LastTurn, Runs, RunsToEnd, Sends, TriesToPass, WakesAt, WakesFirst}
+use Rattle.lq_qdisc.specs.Direct.{Accepts, Directs}
+use Rattle.lq_qdisc.specs.Outcomes.{Enqueues, IsLockReleased}
+use Rattle.lq_qdisc.specs.StepLists.{BeginSoftirq, BypassLocked, EnqueueAndRun, EnqueueAndRunLocked, HandsOver, NetTxAction, QdiscRun, Restart, QdiscRunLocked, RunAfterBypass, RunToEnd, SendEach, TryBypass, WakeEach, WakeQueue, XmitBypass, XmitSkb}
+use Rattle.lq_qdisc.specs.StepLists.{EndsAfter, EndsAtOnce, EndsEarly, IsActive, IsBack, IsDown, IsDueNow, IsLaid, IsNotDue, IsSent, LooksAgain, MayNotPass, MayPass, NothingHeld, Passes, QueueStopped, ReachesQuota, SentMore, SentNone, ServesAfter, Waits}
+use Rattle.lq_qdisc.specs.StepLists.{IsNotStopped, IsOpenBefore, IsOpened, LooksAtNext, LooksAtNone}
+use Rattle.lq_qdisc.specs.Sends.{WakesBelow}
+use Rattle.lq_qdisc.specs.Steps.{InterruptsBy}
 use Rattle.lq_qdisc.specs.declared.answers.Ran.{Ran}
 use Rattle.lq_qdisc.specs.declared.answers.RunEnd.{RunEnd}
 use Rattle.lq_qdisc.specs.declared.answers.RunEnd.TheVariants as end
@@ -15,107 +29,250 @@ use Rattle.lq_qdisc.specs.declared.answers.Sending.{Sending}
 use Rattle.lq_qdisc.specs.declared.answers.Sending.TheVariants as sending
 use Rattle.lq_qdisc.specs.declared.answers.Through.{Through}
 use Rattle.lq_qdisc.specs.declared.answers.Through.TheVariants as through
-use Rattle.lq_qdisc.specs.declared.answers.Why.TheVariants as why
 
-pub directs_view : (k : Setup) (t : Through) (n queue : ℕ) (old new : Known) → DirectsBy k t n queue old new → Directs t n queue old.view new.view
-directs_view k through.Yes n queue old new d = d.0
-directs_view k (through.Back why.Busy) n queue old new d = d.0
-directs_view k (through.Back why.Stopped) n queue old new d = d.0
+-- what a seat knows after a list of steps
+abbrev seen : List Step → Standing → View
+seen xs s = (steps_leave xs s).view
 
-pub hands_view : (k : Setup) (t : Through) (old new : Known) → HandsBy k t old new → Hands (Directs t) k.infos old.view new.view
-hands_view k t old new h = record {
-  packet = h.packet;
-  between = h.between.view;
-  dequeued = h.dequeued.comes_to;
-  one = h.one;
-  same = h.same;
-  is = directs_view k t h.packet _ h.between new h.is;
-  share = h.share;
+hands_view : (k : Setup) (n : ℕ) (t : Through) (s : Standing) (xs : List Step) → HandsOver k n t s xs → Hands (Directs t) k.infos s.view (seen xs s)
+hands_view k n t s xs h = record {
+  packet = n;
+  between = seen h.xs s;
+  dequeued = h.first.came.0;
+  one = h.first.came.1;
+  same = h.first.came.2;
+  is = subst (λ (z : Standing). Directs t n (queue_in k.infos n) (seen h.xs s) z.view) (sym (left_then h)) h.next.came.0;
+  share = ap (λ (z : Standing). z.view.share) (left_then h) ∙ (h.next.came.1 ∙ h.first.came.2);
 }
 
-pub sends_view : (k : Setup) (sent : ℕ) (old new : Known) → SendsBy k sent old new → Sends sent k.infos old.view new.view
-sends_view k zero old new s = ap (λ (x : Known). x.view) s
-sends_view k (suc sent) old new s = (s.0.view, sends_view k sent old s.0 s.1, hands_view k through.Yes s.0 new s.2)
+sent_view : {k : Setup} {s : Standing} {xs : List Step} → Restart k s None xs → Hands Accepts k.infos s.view (seen xs s)
+sent_view {k} {s} {xs} (IsSent {n = n} h) = hands_view k n through.Yes s xs h
 
-pub ends_view : (k : Setup) (e : RunEnd) (old new : Known) → EndsBy k e old new → LastTurn e k.infos old.view new.view
-ends_view k end.Empty old new d = (d.0.comes_to, d.1)
-ends_view k end.Quota old new d = (d.0, d.1)
-ends_view k end.Stopped old new (inl d) = inl (d.0.comes_to, d.1)
-ends_view k end.Stopped old new (inr h) = inr (hands_view k (through.Back why.Stopped) old new h)
-ends_view k end.Busy old new h = hands_view k (through.Back why.Busy) old new h
+ends_view : {k : Setup} {s : Standing} {e : RunEnd} {xs : List Step} → Restart k s (Some e) xs → LastTurn e k.infos s.view (seen xs s)
+ends_view {k} {s} {e} {xs} (IsLaid {n = n} h) = inr (hands_view k n _ s xs h)
+ends_view {k} {s} {e} {xs} (IsBack {n = n} h) = hands_view k n _ s xs h
+ends_view (NothingHeld d) = (d.came.0, d.came.1)
+ends_view (QueueStopped d) = inl (d.came.0, d.came.1)
 
-pub runs_view : (k : Setup) (ran : Ran) (old new : Known) → RunsBy k ran old new → Runs k.infos ran old.view new.view
-runs_view k ran old new r = record { last = r.last.view; sent = sends_view k ran.sent old r.last r.sent; share = r.share; ends = ends_view k ran.end r.last new r.ends; within = r.within; quota = r.quota }
+ends_share : {k : Setup} {s : Standing} {e : RunEnd} {xs : List Step} → Restart k s (Some e) xs → (seen xs s).share ≡ s.view.share
+ends_share {k} {s} {e} {xs} (IsLaid {n = n} h) = (hands_view k n _ s xs h).share
+ends_share {k} {s} {e} {xs} (IsBack {n = n} h) = (hands_view k n _ s xs h).share
+ends_share (NothingHeld d) = d.came.2
+ends_share (QueueStopped d) = d.came.2
 
-pub to_end_view : (k : Setup) (old new : Known) → RunsToEndBy k old new → RunsToEnd k.infos old.view new.view
-to_end_view k old new r = record { ran = r.ran; last = r.last.view; runs = runs_view k r.ran old r.last r.runs; share = r.share; ended = r.ended.0 }
+not_quota : {k : Setup} {s : Standing} {e : RunEnd} {xs : List Step} → Restart k s (Some e) xs → e ≢ end.Quota
+not_quota (IsLaid h) is = cc
+not_quota (IsBack h) is = cc
+not_quota (NothingHeld d) is = cc
+not_quota (QueueStopped d) is = cc
 
-pub attempts_view : (k : Setup) (old new : Known) → QdiscRun k old new → Attempts k.infos old.view new.view
-attempts_view k old new (inl m) = inl m.0
-attempts_view k old new (inr t) = inr (t.0.view, t.1.0, to_end_view k t.0 new t.2)
+sends_view : {k : Setup} {s : Standing} {sent : ℕ} {xs : List Step} → SendEach k s sent xs → Sends sent k.infos s.view (seen xs s)
+sends_view SentNone = refl
+sends_view {k} {s} (SentMore {sent = sent} {xs = xs} {ys = ys} h last) =
+    let one : suc sent ≡ sent + 1 = omega arith in
+    subst (λ (n : ℕ). Sends n k.infos s.view (seen (xs ++ ys) s)) one (seen xs s, sends_view h, subst (λ (z : Standing). Hands Accepts k.infos (seen xs s) z.view) (sym (leave_then xs ys s)) (sent_view last))
 
-pub enqueues_view : (k : Setup) (n : ℕ) (answer : Sending) (old new : Known) → EnqueuesBy k n answer old new → Enqueues n (band_in k.infos n) answer old.view new.view
-enqueues_view k n sending.Queued old new e = e.0
-enqueues_view k n (sending.FullSeen seen) old new e = e.0
-enqueues_view k n sending.Direct old new e = absurd e
-enqueues_view k n (sending.Refused event) old new e = absurd e
-enqueues_view k n (sending.OutOfTurn found) old new e = absurd e
+sends_share : {k : Setup} {s : Standing} {sent : ℕ} {xs : List Step} → SendEach k s sent xs → (seen xs s).share ≡ s.view.share
+sends_share SentNone = refl
+sends_share {k} {s} (SentMore {xs = xs} {ys = ys} h last) = ap (λ (z : Standing). z.view.share) (leave_then xs ys s) ∙ ((sent_view last).share ∙ sends_share h)
 
-pub through_view : (k : Setup) (n : ℕ) (answer : Sending) (old new : Known) → EnqueueAndRun k n answer old new → GoesThrough k.infos n answer old.view new.view
-through_view k n answer old new g = record { put = g.0.view; enqueued = enqueues_view k n answer old g.0 g.1; attempted = attempts_view k g.0 new g.2 }
+pub runs_view : {k : Setup} {s : Standing} {ran : Ran} {xs : List Step} → QdiscRunLocked k s ran xs → Runs k.infos ran s.view (seen xs s)
+runs_view {k} {s} (EndsEarly {sent = sent} {end_ = end_} {xs = xs} {ys = ys} less h last) = record {
+  last = seen xs s;
+  sent = sends_view h;
+  share = sends_share h;
+  ends = subst (λ (z : Standing). LastTurn end_ k.infos (seen xs s) z.view) (sym (leave_then xs ys s)) (ends_view last);
+  within = omega (arith, less);
+  quota = (λ e. absurd (not_quota last e), λ e. absurd (omega (arith, less, e)));
+}
+runs_view {k} {s} (ReachesQuota {xs = xs} was h passes tells) =
+    record { last = seen xs s; sent = sends_view h; share = sends_share h; ends = (passes, tells); within = omega arith; quota = (λ _. refl, λ _. refl) }
 
-pub held_view : (k : Setup) (n : ℕ) (answer : Sending) (old new : Known) → GoesHeldBy k n answer old new → GoesThroughHeld k.infos n answer old.view new.view
-held_view k n answer old new h = record {
-  state = h.state;
-  waits = h.waits;
-  sees = h.sees;
-  put = h.put.view;
-  enqueued = enqueues_view k n answer (with_state_loaded h.state old) h.put h.enqueued;
-  served = to_end_view k h.put new h.served;
+run_share : {k : Setup} {s : Standing} {ran : Ran} {xs : List Step} → QdiscRunLocked k s ran xs → (seen xs s).share ≡ s.view.share
+run_share {k} {s} (EndsEarly {xs = xs} {ys = ys} less h last) = ap (λ (z : Standing). z.view.share) (leave_then xs ys s) ∙ (ends_share last ∙ sends_share h)
+run_share (ReachesQuota was h passes tells) = ap (λ (v : View). v.share) passes ∙ sends_share h
+
+to_end_view : (k : Setup) (s : Standing) (xs : List Step) → RunToEnd k s xs → RunsToEnd k.infos s.view (seen xs s)
+to_end_view k s xs (ran, t) = record {
+  ran = ran;
+  last = seen t.xs s;
+  runs = runs_view t.first;
+  share = run_share t.first;
+  ended = subst (λ (z : Standing). IsLockReleased (seen t.xs s) z.view) (sym (left_then t)) t.next.came;
 }
 
-pub follows_view : (k : Setup) (t : Through) (old new : Known) → RunAfterBypass k t old new → FollowsDirect t k.infos old.view new.view
-follows_view k through.Yes old new (state, sees, step, inl t) = (state, sees, step, inl (t.0, to_end_view k (with_state_loaded state old) new t.1))
-follows_view k through.Yes old new (state, sees, step, inr t) = (state, sees, step, inr (t.0, t.1.0))
-follows_view k (through.Back reason) old new f = f.0
+attempts_view : (k : Setup) (s : Standing) (xs : List Step) → QdiscRun k s xs → Attempts k.infos s.view (seen xs s)
+attempts_view k s xs (inl m) = inl m.came
+attempts_view k s xs (inr t) =
+    inr (seen t.xs s, t.first.came, subst (λ (z : Standing). RunsToEnd k.infos (seen t.xs s) z.view) (sym (left_then t)) (to_end_view k (steps_leave t.xs s) t.ys t.next))
 
-pub past_view : (k : Setup) (n : ℕ) (old new : Known) → GoesPastBy k n old new → GoesPast k.infos n old.view new.view
-past_view k n old new p = record {
-  state = p.state;
-  clear = p.clear;
-  sees = p.sees;
-  step = p.step;
-  handed = p.handed;
-  after = p.after.view;
-  direct = directs_view k p.handed n _ _ p.after p.direct;
-  follows = follows_view k p.handed p.after new p.follows;
+through_view : (k : Setup) (n : ℕ) (answer : Sending) (s : Standing) (xs : List Step) → EnqueueAndRun k n answer s xs → GoesThrough k.infos n answer s.view (seen xs s)
+through_view k n answer s xs t = record {
+  put = seen t.xs s;
+  enqueued = t.first.came;
+  attempted = subst (λ (z : Standing). Attempts k.infos (seen t.xs s) z.view) (sym (left_then t)) (attempts_view k (steps_leave t.xs s) t.ys t.next);
 }
 
-pub tries_view : (k : Setup) (n : ℕ) (answer : Sending) (old new : Known) → TryBypass k n answer old new → TriesToPass k.infos n answer old.view new.view
-tries_view k n answer old new (inl m) = inl (m.0.view, m.1.0, through_view k n answer m.0 new m.2)
-tries_view k n answer old new (inr (got, gets, inl h)) = inr (got.view, gets.0, inl (held_view k n answer got new h))
-tries_view k n answer old new (inr (got, gets, inr p)) = inr (got.view, gets.0, inr (p.0, past_view k n got new p.1))
+follows_view : {k : Setup} {s : Standing} {t : Through} {xs : List Step} → RunAfterBypass k s t xs → steps_tell xs s → FollowsDirect t k.infos s.view (seen xs s)
+follows_view {k} {s} (ServesAfter {state = state} {xs = xs} set h) told =
+    let loaded = tells_first (LoadState state) xs s told in (state, loaded.1, loaded.0, inl (set, to_end_view k (step_leaves (LoadState state) s) xs h))
+follows_view {k} {s} (EndsAfter {state = state} {xs = xs} clear h) told = let loaded = tells_first (LoadState state) xs s told in (state, loaded.1, loaded.0, inr (clear, h.came))
+follows_view (EndsAtOnce h) told = h.came
 
-pub goes_view : (k : Setup) (n : ℕ) (answer : Sending) (old new : Known) → XmitSkb k n answer old new → Goes k.infos k.bypass n answer old.view new.view
-goes_view k n answer old new g = record {
-  state = g.state;
-  sees = g.sees;
-  first = g.first;
-  refused = λ e. (let r = g.refused e in (r.0, r.1, r.2));
-  through = λ a e. through_view k n answer (with_state_loaded g.state old) new (g.through a e);
-  past = λ a e. tries_view k n answer (with_state_loaded g.state old) new (g.past a e);
+-- after the load under the run lock
+module _ (k : Setup) (n state : ℕ) (s : Standing) (xs : List Step) where
+  abbrev after : Standing
+  after = step_leaves (Recheck n state) s
+
+  seen_as : (b : Bool) → some_bit state ≡ b → after.view ≡ (if b then load_state_view state s.view else recheck_view_direct n state s.view)
+  seen_as b is = ap (λ (c : Bool). if c then load_state_view state s.view else recheck_view_direct n state s.view) is
+
+  held_view : (answer : Sending) → some_bit state ≡ true → EnqueueAndRunLocked k n answer after xs → steps_tell (Recheck n state ∷ xs) s → GoesThroughHeld k.infos n answer s.view (seen xs after)
+  held_view answer set t told = record {
+    state = state;
+    waits = set;
+    sees = (tells_first (Recheck n state) xs s told).1;
+    put = seen t.xs after;
+    enqueued = subst (λ (v : View). Enqueues n (band_in k.infos n) answer v (seen t.xs after)) (seen_as true set) t.first.came;
+    served = subst (λ (z : Standing). RunsToEnd k.infos (seen t.xs after) z.view) (sym (left_then t)) (to_end_view k (steps_leave t.xs after) t.ys t.next);
+  }
+
+  past_view : some_bit state ≡ false → XmitBypass k n after xs → steps_tell (Recheck n state ∷ xs) s → GoesPast k.infos n s.view (seen xs after)
+  past_view clear (through, t) told = let loaded = tells_first (Recheck n state) xs s told in record {
+    state = state;
+    clear = clear;
+    sees = loaded.1;
+    step = ap solo (sym (seen_as false clear)) ∙ (loaded.0 ∙ ap (λ (b : Bool). if b then solo s.view else heard (Direct n) (solo s.view)) clear);
+    handed = through;
+    after = seen t.xs after;
+    direct = subst (λ (v : View). Directs through n (queue_in k.infos n) v (seen t.xs after)) (seen_as false clear) t.first.came;
+    follows = subst (λ (z : Standing). FollowsDirect through k.infos (seen t.xs after) z.view) (sym (left_then t)) (follows_view t.next (told_then t (tells_rest (Recheck n state) xs s told)));
+  }
+
+locked_view : {k : Setup} {n : ℕ} {s : Standing} {answer : Sending} {xs : List Step} → BypassLocked k n s answer xs → steps_tell xs s
+    → GoesThroughHeld k.infos n answer s.view (seen xs s) ⊎ ((answer ≡ sending.Direct) × GoesPast k.infos n s.view (seen xs s))
+locked_view {k} {n} {s} {answer} (Waits {state = state} {xs = xs} set t) told = inl (held_view k n state s xs answer set t told)
+locked_view {k} {n} {s} (Passes {state = state} {xs = xs} clear t) told = inr (refl, past_view k n state s xs clear t told)
+
+tries_view : (k : Setup) (n : ℕ) (answer : Sending) (s : Standing) (xs : List Step) → TryBypass k n answer s xs → steps_tell xs s → TriesToPass k.infos n answer s.view (seen xs s)
+tries_view k n answer s xs (inl t) told =
+    inl (seen t.xs s, t.first.came, subst (λ (z : Standing). GoesThrough k.infos n answer (seen t.xs s) z.view) (sym (left_then t)) (through_view k n answer (steps_leave t.xs s) t.ys t.next))
+tries_view k n answer s xs (inr t) told = inr (
+  seen t.xs s,
+  t.first.came,
+  subst (λ (z : Standing). GoesThroughHeld k.infos n answer (seen t.xs s) z.view ⊎ ((answer ≡ sending.Direct) × GoesPast k.infos n (seen t.xs s) z.view)) (sym (left_then t)) (locked_view t.next (told_then t told)),
+)
+
+-- after the first load
+module _ (k : Setup) (n state : ℕ) (s : Standing) where
+  active_as : is_set 2 state ≡ false → (step_leaves (Check n state) s).view ≡ load_state_view state s.view
+  active_as off = ap (λ (b : Bool). if b then check_view_refused n (state / 256 - 1) state s.view else load_state_view state s.view) off
+
+pub goes_view : {k : Setup} {n : ℕ} {s : Standing} {answer : Sending} {xs : List Step} → XmitSkb k n s answer xs → steps_tell xs s → Goes k.infos k.bypass n answer s.view (seen xs s)
+goes_view {k} {n} {s} (IsDown {state = state} on) told =
+    let event = state / 256 - 1 in let loaded = tells_first (Check n state) (Settle n (fate.Refused event) ∷ []) s told in let h = loaded.0 on in
+    let same : h.0 ≡ event = h.5 in
+    let r : IsRefused n event state s.view (seen (Check n state ∷ Settle n (fate.Refused event) ∷ []) s) = (
+      on,
+      (h.1, h.2, h.4 ∙ ap (λ (e : ℕ). h.1 + 256 * (e + 1)) same),
+      ap (λ (b : Bool). settle_view_owed (if b then check_view_refused n event state s.view else load_state_view state s.view)) on,
+    ) in record {
+      state = state;
+      sees = loaded.2;
+      first = loaded.3;
+      refused = λ _. (event, refl, r);
+      through = λ off. absurd (true≢false (sym on ∙ off));
+      past = λ off. absurd (true≢false (sym on ∙ off));
+    }
+goes_view {k} {n} {s} {answer} (MayPass {state = state} {xs = xs} off may t) told = let loaded = tells_first (Check n state) xs s told in let m = step_leaves (Check n state) s in record {
+  state = state;
+  sees = loaded.2;
+  first = loaded.3;
+  refused = λ on. absurd (true≢false (sym on ∙ off));
+  through = λ _ not_. absurd (true≢false (sym may ∙ not_));
+  past = λ _ _. subst (λ (v : View). TriesToPass k.infos n answer v (seen xs m)) (active_as k n state s off) (tries_view k n answer m xs t (tells_rest (Check n state) xs s told));
 }
+goes_view {k} {n} {s} {answer} (MayNotPass {state = state} {xs = xs} off may_not t) told = let loaded = tells_first (Check n state) xs s told in let m = step_leaves (Check n state) s in record {
+  state = state;
+  sees = loaded.2;
+  first = loaded.3;
+  refused = λ on. absurd (true≢false (sym on ∙ off));
+  through = λ _ _. subst (λ (v : View). GoesThrough k.infos n answer v (seen xs m)) (active_as k n state s off) (through_view k n answer m xs t);
+  past = λ _ may. absurd (true≢false (sym may ∙ may_not));
+}
+
+-- SCHED was cleared
+pub due_view : {due : Bool} {xs : List Step} (s : Standing) → BeginSoftirq due xs → steps_tell xs s → IsDue due s.view (seen xs s)
+due_view s (IsActive {first = first} off) told =
+    let rest = ClearSched ∷ [] in let loaded = tells_first (LoadState first) rest s told in let cleared = tells_first ClearSched [] (step_leaves (LoadState first) s) (tells_rest (LoadState first) rest s told) in record {
+      first = first;
+      sees = loaded.1;
+      step = cleared ∙ ap clear_sched_alone loaded.0;
+      active = λ _. (refl, refl);
+      deactivated = λ on. absurd (true≢false (sym on ∙ off));
+    }
+due_view s (LooksAgain {first = first} {second = second} on) told =
+    let rest = ClearSched ∷ LoadState second ∷ [] in let m = step_leaves (LoadState first) s in let after_first = tells_rest (LoadState first) rest s told in
+    let loaded = tells_first (LoadState first) rest s told in let cleared = tells_first ClearSched (LoadState second ∷ []) m after_first in
+    let again = tells_first (LoadState second) [] (step_leaves ClearSched m) (tells_rest ClearSched (LoadState second ∷ []) m after_first) in let step_ = cleared ∙ ap clear_sched_alone loaded.0 in record {
+      first = first;
+      sees = loaded.1;
+      step = step_;
+      active = λ off. absurd (true≢false (sym on ∙ off));
+      deactivated = λ _. (second, refl, refl, again.0 ∙ step_, λ sole. (again.1 sole).down);
+    }
+
+left_call : {k : Setup} {s : Standing} {xs : List Step} → NetTxAction k s xs → steps_tell xs s
+    → (before : View) × Interrupts k.infos (enter_view s.view) before × (seen xs s ≡ pass_view before) × (solo (seen xs s) ≡ solo before)
+left_call {k} {s} (IsDueNow {xs = xs} t) told =
+    let m = step_leaves Enter s in let ended = leave_then xs (Leave ∷ []) m in let last = tells_first Leave [] (steps_leave xs m) (tells_after xs (Leave ∷ []) m (tells_rest Enter (xs ++ Leave ∷ []) s told)) in (
+      seen xs m,
+      record {
+        due = true;
+        cleared = seen t.xs m;
+        begins = due_view m t.first (told_first t (tells_before xs (Leave ∷ []) m (tells_rest Enter (xs ++ Leave ∷ []) s told)));
+        serves = λ _. subst (λ (z : Standing). Attempts k.infos (seen t.xs m) z.view) (sym (left_then t)) (attempts_view k (steps_leave t.xs m) t.ys t.next);
+        leaves = λ off. absurd (true≢false off);
+      },
+      ap (λ (z : Standing). z.view) ended,
+      ap (λ (z : Standing). solo z.view) ended ∙ last,
+    )
+left_call {k} {s} (IsNotDue {xs = xs} d) told =
+    let m = step_leaves Enter s in let ended = leave_then xs (Leave ∷ []) m in let last = tells_first Leave [] (steps_leave xs m) (tells_after xs (Leave ∷ []) m (tells_rest Enter (xs ++ Leave ∷ []) s told)) in (
+      seen xs m,
+      record { due = false; cleared = seen xs m; begins = due_view m d (tells_before xs (Leave ∷ []) m (tells_rest Enter (xs ++ Leave ∷ []) s told)); serves = λ on. absurd (true≢false (sym on)); leaves = λ _. refl },
+      ap (λ (z : Standing). z.view) ended,
+      ap (λ (z : Standing). solo z.view) ended ∙ last,
+    )
 
 pub interrupts_view : (k : Setup) (old new : Known) → InterruptsBy k old new → (before : View) × Interrupts k.infos (enter_view old.view) before × (new.view ≡ pass_view before) × (solo new.view ≡ solo before)
-interrupts_view k old new i = (
-  i.last.view,
-  record {
-    due = i.due;
-    cleared = i.cleared.view;
-    begins = i.begins.0;
-    serves = λ d. attempts_view k i.cleared i.last (i.serves d);
-    leaves = λ d. ap (λ (x : Known). x.view) (i.leaves d);
-  },
-  ap (λ (x : Known). x.view) i.ends,
-  i.step,
-)
+interrupts_view k old new (s, xs, such, v, was, w, is, told) =
+    let c = left_call such told in (c.0, subst (λ (x : View). Interrupts k.infos (enter_view x) c.0) v c.1, w ∙ c.2, ap solo w ∙ c.3)
+
+-- a queue was looked at
+pub wakes_view : {opened : Bool} {xs : List Step} (queue : ℕ) (s : Standing) → WakeQueue queue opened xs → steps_tell xs s → WakesAt queue opened s.view (seen xs s)
+wakes_view queue s (IsNotStopped {found = found} other) told = (refl, λ sole z. other (tells_first (LookStop queue found) [] s told sole ∙ z))
+wakes_view queue s IsOpenBefore told =
+    let m = step_leaves (LookStop queue 1) s in let lost = tells_first (Wake queue false) [] m (tells_rest (LookStop queue 1) (Wake queue false ∷ []) s told) in
+    (refl, λ sole z. absurd (true≢false (sym (lost sole ∙ eq-eqb _ _ z))))
+wakes_view queue s (IsOpened {was = was}) told =
+    let rest = Wake queue true ∷ SetSched was ∷ [] in let m = step_leaves (LookStop queue 1) s in let woken = tells_rest (LookStop queue 1) rest s told in
+    let set = tells_first (SetSched was) [] (step_leaves (Wake queue true) m) (tells_rest (Wake queue true) (SetSched was ∷ []) m woken) in
+    (was, refl, set.0, set.1, λ sole. sym (tells_first (LookStop queue 1) rest s told sole))
+
+each_view : {opened : Bool} {queues : ℕ} {xs : List Step} (s : Standing) → WakeEach queues opened xs → steps_tell xs s → WakesFirst queues opened s.view (seen xs s)
+each_view s LooksAtNone told = (refl, refl)
+each_view s (LooksAtNext {queue = queue} {before = before} {here = here} {xs = xs} {ys = ys} h w) told =
+    let one : suc queue ≡ queue + 1 = omega arith in
+    subst (λ (n : ℕ). WakesFirst n (before || here) s.view (seen (xs ++ ys) s)) one (
+      seen xs s,
+      before,
+      here,
+      each_view s h (tells_before xs ys s told),
+      subst (λ (z : Standing). WakesAt queue here (seen xs s) z.view) (sym (leave_then xs ys s)) (wakes_view queue (steps_leave xs s) w (tells_after xs ys s told)),
+      refl,
+    )
+
+pub below_view : (k : Setup) (queues : ℕ) (opened : Bool) (old new : Known) → WakesBelow k queues opened old new → WakesFirst queues opened old.view new.view
+below_view k queues opened old new (s, xs, such, v, was, w, is, told) =
+    subst (λ (x : View). WakesFirst queues opened x new.view) v (subst (λ (x : View). WakesFirst queues opened s.view x) (sym w) (each_view s such told))

@@ -1,11 +1,11 @@
 -- What the calls come to, as relations of views alone: what a seat that has the table alone is shown from.
-use Rattle.lq_model.specs.Account.{Direct}
+use Rattle.lq_model.specs.Account.{Direct, Wake}
 use Rattle.lq_model.specs.Plan.{queue_in, band_in, owner_in, rank_in}
 use Rattle.lq_model.specs.declared.fate.Info.{Info}
 use Rattle.lq_model.specs.declared.state.TheConstants.{QUOTA}
 use Rattle.lq_qdisc.specs.Calls.{Dequeues, SeesOneQueue}
-use Rattle.lq_qdisc.specs.Direct.{Accepts, IsBusyAt, LaysAside}
-use Rattle.lq_qdisc.specs.Sends.{came_as, trail_with, GetsLock, Misses, IsLockReleased, Enqueues, IsRefused, transmitting, IsDue}
+use Rattle.lq_qdisc.specs.Direct.{Accepts, Directs, IsBusyAt, LaysAside}
+use Rattle.lq_qdisc.specs.Outcomes.{GetsLock, Misses, IsLockReleased, Enqueues}
 use Rattle.lq_qdisc.specs.declared.answers.Ran.{Ran}
 use Rattle.lq_qdisc.specs.declared.answers.RunEnd.{RunEnd}
 use Rattle.lq_qdisc.specs.declared.answers.RunEnd.TheVariants as end
@@ -15,18 +15,15 @@ use Rattle.lq_qdisc.specs.declared.answers.Taken.TheVariants as taken
 use Rattle.lq_qdisc.specs.declared.answers.Through.{Through}
 use Rattle.lq_qdisc.specs.declared.answers.Through.TheVariants as through
 use Rattle.lq_qdisc.specs.declared.answers.Why.TheVariants as why
-use Rattle.lq_table.specs.Sees.{IsSole, solo, heard}
-use Rattle.lq_table.specs.States.{SeesState, SeesDown, some_bit, load_state_view, recheck_view_direct, missed_to}
+use Rattle.lq_table.specs.Sees.{IsSole, account_of, solo, heard}
+use Rattle.lq_table.specs.Inside.{enter_view}
+use Rattle.lq_table.specs.Fates.{settle_view_owed}
+use Rattle.lq_table.specs.Turns.{take_turn_view}
+use Rattle.lq_table.specs.States.{SeesState, SeesDown, some_bit, load_state_view, recheck_view_direct, check_view_refused as refused, missed_to, clear_sched_alone, set_sched_alone, set_sched_view}
+use Rattle.lq_table.specs.Stops.{wake_view}
 use Rattle.lq_table.specs.Moves.{pass_view, is_set}
-use Rattle.lq_table.specs.Turns.{give_turn_view}
 use Rattle.lq_table.specs.Views.{View}
-use Rattle.std.specs.Prelude.{◌≡◌, ℕ, zero, suc, Bool, true, false, List, ◌⊎◌, ◌↔◌, ◌≤◌, slice_set, ◌+◌, ◌*◌, not, ◌&&◌, is_some}
-
--- what a direct transmit of the packet n, which is of this queue, answers
-abbrev pub Directs : Through → ℕ → ℕ → View → View → Type 0
-Directs through.Yes n queue old new = Accepts n queue old new
-Directs (through.Back why.Stopped) n queue old new = LaysAside n queue old new
-Directs (through.Back why.Busy) n queue old new = IsBusyAt n queue old new
+use Rattle.std.specs.Prelude.{◌≡◌, ◌≢◌, ◌||◌, slice_index, ℕ, zero, suc, Bool, true, false, List, ◌⊎◌, ◌↔◌, ◌≤◌, ◌<◌, ◌+◌, ◌*◌, not, ◌&&◌, is_some}
 
 -- A packet was dequeued, and then it was handed to the device with this result.
 pub record Hands (handed : ℕ → ℕ → View → View → Type 0) (infos : List Info) (old new : View) : Type 0 where
@@ -112,6 +109,14 @@ TriesToPass infos n answer old new =
     ((missed : View) × Misses old missed × GoesThrough infos n answer missed new)
     ⊎ ((got : View) × GetsLock old got × (GoesThroughHeld infos n answer got new ⊎ ((answer ≡ sending.Direct) × GoesPast infos n got new)))
 
+-- the seat's view as the transmit of the packet n begins, whose turn it has
+abbrev pub transmitting : List Info → ℕ → View → View
+transmitting infos n v = enter_view (take_turn_view n (owner_in infos n) (rank_in infos n) v)
+
+-- The station is deactivated by the event: the packet is refused, and that is its fate.
+abbrev pub IsRefused : ℕ → ℕ → ℕ → View → View → Type 0
+IsRefused n event state old new = (is_set 2 state ≡ true) × ((bits : ℕ) × (bits < 16) × (state ≡ bits + 256 * (event + 1))) × (new ≡ settle_view_owed (refused n event state old))
+
 -- what a transmit does with the packet between its two steps on the calls inside
 pub record Goes (infos : List Info) (bypass : Bool) (n : ℕ) (answer : Sending) (old new : View) : Type 0 where
   pub state : ℕ
@@ -121,15 +126,14 @@ pub record Goes (infos : List Info) (bypass : Bool) (n : ℕ) (answer : Sending)
   pub through : is_set 2 state ≡ false → bypass && not (some_bit state) ≡ false → GoesThrough infos n answer (load_state_view state old) new
   pub past : is_set 2 state ≡ false → bypass && not (some_bit state) ≡ true → TriesToPass infos n answer (load_state_view state old) new
 
--- The transmit of the packet n, whose turn it is: the turn is given back.
-pub record Transmits (infos : List Info) (bypass : Bool) (n : ℕ) (answer : Sending) (old new : View) : Type 0 where
-  pub came : is_some (came_as infos n answer) ≡ true
-  pub turns : new.turns ≡ slice_set old.turns (owner_in infos n) (2 * rank_in infos n + 2)
-  pub trail : new.trail ≡ trail_with (came_as infos n answer) old
-  pub last : View
-  pub goes : Goes infos bypass n answer (transmitting infos n old) last
-  pub ends : new ≡ give_turn_view (owner_in infos n) (rank_in infos n) (pass_view last)
-  pub step : solo new ≡ solo last
+-- SCHED was cleared; what the loads of the state showed says whether the bands are served
+pub record IsDue (due : Bool) (old new : View) : Type 0 where
+  pub first : ℕ
+  pub sees : IsSole old → SeesState old first
+  pub step : solo (pass_view (load_state_view first old)) ≡ clear_sched_alone (solo old)
+  pub active : is_set 2 first ≡ false → (due ≡ true) × (new ≡ pass_view (load_state_view first old))
+  pub deactivated : is_set 2 first ≡ true → (second : ℕ) × (due ≡ not (is_set 2 second)) × (new ≡ load_state_view second (pass_view (load_state_view first old))) × (solo new ≡ clear_sched_alone (solo old))
+      × (IsSole old → is_set 2 second ≡ is_some (account_of old).down)
 
 -- A soft interrupt, between its two steps on the calls inside: the bands are served, unless the station is deactivated still.
 pub record Interrupts (infos : List Info) (old new : View) : Type 0 where
@@ -138,3 +142,15 @@ pub record Interrupts (infos : List Info) (old new : View) : Type 0 where
   pub begins : IsDue due old cleared
   pub serves : due ≡ true → Attempts infos cleared new
   pub leaves : due ≡ false → new ≡ cleared
+
+-- A queue was looked at: it was stopped and is opened, and the table scheduled, or it wasn't. The truth value says whether it was opened.
+abbrev pub WakesAt : ℕ → Bool → View → View → Type 0
+WakesAt queue true old new = (was : Bool) × (new ≡ set_sched_view was (wake_view queue old)) × (solo new ≡ set_sched_alone was (heard (Wake queue) (solo old)))
+    × (IsSole old → was ≡ old.whole.qdisc.sched) × (IsSole old → slice_index (account_of old).stops queue ≡ 1)
+WakesAt queue false old new = (new ≡ old) × (IsSole old → slice_index (account_of old).stops queue ≢ 1)
+
+-- those of the first so many queues; the truth value says whether one was opened
+abbrev pub WakesFirst : ℕ → Bool → View → View → Type 0
+WakesFirst zero opened old new = (opened ≡ false) × (new ≡ old)
+WakesFirst (suc queue) opened old new =
+    (between : View) × (before : Bool) × (here : Bool) × WakesFirst queue before old between × WakesAt queue here between new × (opened ≡ (before || here))

@@ -1,17 +1,17 @@
 -- What the calls of a queue discipline leave of what the seat that makes them knows.
 use Rattle.std.specs.Option.{option_map_or}
-use Rattle.std.specs.Prelude.{⊤, MatchOption, ◌⊎◌, slice_index, ◌≡◌, ◌≢◌, ℕ, zero, suc, ◌<◌, nat_lt, Bool, true, false, if◌then◌else◌, is_some, List, ◌∷◌, ◌++◌, slice_get, Some, None}
-use Rattle.lq_model.specs.Account.{Account, Event, Back, Empty, Take, Pick, held_in}
+use Rattle.std.specs.Prelude.{⊤, MatchOption, slice_index, ◌≡◌, ◌≢◌, ℕ, zero, suc, ◌<◌, nat_lt, Bool, true, false, if◌then◌else◌, is_some, List, ◌∷◌, ◌++◌, slice_get, Some, None}
+use Rattle.lq_model.specs.Account.{Account, Event, Empty, Take, Pick, held_in}
 use Rattle.lq_model.specs.Positions.{in_hand}
 use Rattle.lq_model.specs.Plan.{queue_in}
 use Rattle.lq_model.specs.declared.machine.Position.{Position}
 use Rattle.lq_model.specs.declared.machine.Position.TheVariants.{Again, Unlock, Test, Scan, Gate}
 use Rattle.lq_run.specs.Runs.{HasStation, Rests}
 use Rattle.lq_ring.specs.Put.{no_locks}
-use Rattle.lq_table.specs.Views.{View, Setup, HolderPart, State, machine_packet}
-use Rattle.lq_table.specs.Moves.{IsPacketOf, IsKnownSlot, past_with, pass_view}
-use Rattle.lq_table.specs.States.{set_bit_view, missed_to, draining_to}
-use Rattle.lq_table.specs.Stops.{load_xoff_view, picking}
+use Rattle.lq_table.specs.Views.{View, Setup, HolderPart, machine_packet}
+use Rattle.lq_table.specs.Moves.{IsPacketOf, IsKnownSlot}
+use Rattle.lq_table.specs.States.{missed_to, draining_to}
+use Rattle.lq_table.specs.Stops.{picking}
 use Rattle.lq_table.specs.Sees.{view, setup, position, IsSameSeat, Solo, IsSole, IsAccounts, HasSent, account_of, solo, heard}
 use Rattle.lq_model.specs.declared.fate.Fate.{Fate}
 use Rattle.lq_model.specs.declared.fate.Info.{Info}
@@ -55,9 +55,6 @@ KeepsFates old new = (more : List (ℕ × Fate)) × (new.settled ≡ more ++ old
 abbrev pub laid_aside : Position → HolderPart → HolderPart
 laid_aside position h = if is_some (in_hand position) then record h { slot = h.hand; hand = None } else h
 
-abbrev pub with_back : Position → State → State
-with_back position g = if is_some (in_hand position) then past_with Back g else g
-
 abbrev pub after_blocked : Position → Position
 after_blocked position = if is_some (in_hand position) then Again else Unlock
 
@@ -92,7 +89,6 @@ pub record FindsNone (old new : View) : Type 0 where
 pub record Finds (n : ℕ) (old new : View) : Type 0 where
   pub band : ℕ
   pub below : band < 3
-  pub past : new.whole.state.past ≡ Take band ∷ found_empty band old.whole.state.past
   pub holder : new.holder ≡ record old.holder { ends = new.holder.ends; hand = Some n }
   pub step : solo new ≡ heard (Take band) (solo old)
   pub sole : IsSole old → AreNone (account_of old) band × (slice_get (held_in (account_of old) band) 0 ≡ Some n)
@@ -103,7 +99,6 @@ cleared v = draining_to false (missed_to false v)
 
 -- The bands were found empty: once where both bits were loaded clear after that, and else once more after their clearing.
 pub record FindsEmpty (old new : View) : Type 0 where
-  pub past : (new.whole.state.past ≡ found_empty 3 old.whole.state.past) ⊎ (new.whole.state.past ≡ found_empty 3 (found_empty 3 old.whole.state.past))
   pub holder : new.holder ≡ old.holder
   pub sole : IsSole old → AreNone (account_of old) 3 × (solo new ≡ cleared (solo old))
 
@@ -111,21 +106,11 @@ pub record FindsEmpty (old new : View) : Type 0 where
 pub record FindsPacket (n : ℕ) (old new : View) : Type 0 where
   pub band : ℕ
   pub below : band < 3
-  pub past : (new.whole.state.past ≡ Take band ∷ found_empty band old.whole.state.past) ⊎ (new.whole.state.past ≡ Take band ∷ found_empty band (found_empty 3 old.whole.state.past))
   pub holder : new.holder ≡ record old.holder { ends = new.holder.ends; hand = Some n }
   pub sole : IsSole old → AreNone (account_of old) band × (slice_get (held_in (account_of old) band) 0 ≡ Some n) × (solo new ≡ heard (Take band) (solo old))
 
--- The stop word of a queue was loaded as x and, after the clearing of MISSED, once more as y.
-abbrev pub finding_stopped : ℕ → ℕ → View → View
-finding_stopped x y v = set_bit_view (load_xoff_view y (pass_view (load_xoff_view x v)))
-
--- It was loaded as 1 or 2, and nothing was taken.
+-- The stop word of a queue was loaded as 1 or 2, and nothing was taken.
 pub record FindsStopped (queue : ℕ) (old new : View) : Type 0 where
-  pub first : ℕ
-  pub again : ℕ
-  pub stopped : first ≢ 0
-  pub is : new ≡ finding_stopped first again old
-  pub past : new.whole.state.past ≡ old.whole.state.past
   pub holder : new.holder ≡ old.holder
   pub sole : IsSole old → (slice_index (account_of old).stops queue ≢ 0) × (solo new ≡ draining_to true (missed_to false (solo old)))
 

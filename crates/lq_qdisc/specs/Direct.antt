@@ -12,11 +12,11 @@ use Rattle.lq_run.specs.Runs.{begins}
 use Rattle.lq_table.specs.Views.{View}
 use Rattle.lq_table.specs.Rule.{shown}
 use Rattle.lq_table.specs.Fates.{fate_sent}
-use Rattle.lq_table.specs.States.{set_bit_view, missed_to, draining_to}
+use Rattle.lq_table.specs.States.{missed_to, draining_to}
 use Rattle.lq_table.specs.Sees.{Solo, IsSole, IsAccounts, HasSent, account_of, solo, heard, device_to}
-use Rattle.lq_qdisc.specs.Calls.{finding_stopped}
 use Rattle.lq_qdisc.specs.declared.answers.Through.{Through}
 use Rattle.lq_qdisc.specs.declared.answers.Through.TheVariants as through
+use Rattle.lq_qdisc.specs.declared.answers.Why.TheVariants as why
 use Rattle.lq_model.specs.declared.state.TheConstants.{QUOTA}
 
 -- the events of storing in each queue below this one that the device hangs, the latest first, before those that came earlier
@@ -46,9 +46,6 @@ pub record StaysAt (old new : View) : Type 0 where
   pub run : new.place.run ≡ old.place.run
 
 -- a seat that has the table alone heard of them
-abbrev pub hearing_hung : ℕ → Solo → Solo
-hearing_hung queues v = record v { whole = record v.whole { past = hung_below queues v.whole.past } }
-
 abbrev pub hearing_stops : Tx → ℕ → ℕ → Solo → Solo
 hearing_stops answer queue queues v = record v { whole = record v.whole { past = stopped_by answer queue queues v.whole.past } }
 
@@ -72,7 +69,6 @@ pub record Accepts (n queue : ℕ) (old new : View) : Type 0 where
 pub record IsBusyAt (n queue : ℕ) (old new : View) : Type 0 where
   pub station : StationState
   pub called : HasAnswered Busy queue n (shown old.holder) station
-  pub past : new.whole.state.past ≡ Back ∷ old.whole.state.past
   pub holder : new.holder ≡ record old.holder { station = station; slot = Some n; hand = None }
   pub settled : new.settled ≡ old.settled
   pub step : solo new ≡ device_to station.device (heard Back (missed_to true (solo old)))
@@ -80,14 +76,15 @@ pub record IsBusyAt (n queue : ℕ) (old new : View) : Type 0 where
 
 -- The stop word of the packet's queue was loaded as 1 or 2: the packet n lies in the requeue slot, and MISSED is set.
 pub record LaysAside (n queue : ℕ) (old new : View) : Type 0 where
-  pub first : ℕ
-  pub again : ℕ
-  pub stopped : first ≢ 0
-  pub is : new ≡ set_bit_view (finding_stopped first again old)
-  pub past : new.whole.state.past ≡ Back ∷ old.whole.state.past
   pub holder : new.holder ≡ record old.holder { slot = Some n; hand = None }
   pub settled : new.settled ≡ old.settled
   pub sole : IsSole old → (slice_index (account_of old).stops queue ≢ 0) × (solo new ≡ missed_to true (heard Back (draining_to true (missed_to false (solo old)))))
+
+-- what a direct transmit of the packet n, which is of this queue, answers
+abbrev pub Directs : Through → ℕ → ℕ → View → View → Type 0
+Directs through.Yes n queue old new = Accepts n queue old new
+Directs (through.Back why.Stopped) n queue old new = LaysAside n queue old new
+Directs (through.Back why.Busy) n queue old new = IsBusyAt n queue old new
 
 -- where the seat stands in a run, by how many packets that has sent
 abbrev pub position_in_run : View → Position
@@ -104,23 +101,6 @@ sent_leads Sent queue direct v = position_after through.Yes direct v
 sent_leads SentStop queue direct v = StoreXoff queue false direct
 sent_leads SentHang queue direct v = StoreXoff 0 true direct
 sent_leads Busy queue direct v = position_after through.Yes direct v
-
--- The fate of the packet n is stored, which the device accepted with this answer; the station is as st says.
-pub record IsSentAs (answer : Tx) (n queue : ℕ) (direct : Bool) (st : StationState) (old new : View) : Type 0 where
-  pub share : new.share ≡ old.share
-  pub packets : new.packets ≡ old.packets
-  pub locks : new.locks ≡ old.locks
-  pub control : new.control ≡ old.control
-  pub turns : new.turns ≡ old.turns
-  pub trail : new.trail ≡ old.trail
-  pub told : new.whole.told ≡ old.whole.told
-  pub raised : new.place.raised ≡ old.place.raised
-  pub run : new.place.run ≡ run_counted old.place.run
-  pub at : new.place.position ≡ sent_leads answer queue direct new
-  pub past : new.whole.state.past ≡ Send ∷ old.whole.state.past
-  pub holder : new.holder ≡ record old.holder { station = st; hand = None; last = Some n }
-  pub settled : new.settled ≡ (n, fate_sent old.holder.station) ∷ old.settled
-  pub step : solo new ≡ device_to st.device (heard Send (solo old))
 
 -- how many packets the run has sent after it
 abbrev pub run_after : Through → ℕ → ℕ

@@ -8,6 +8,10 @@ pub mod Sends
 pub mod Stations
 -- what the calls do of a seat that has the table alone
 pub mod Alone
+-- what parts of its calls come to
+pub mod Outcomes
+-- its calls, each with the lists of steps that it may make
+pub mod StepLists
 -- the steps of its calls
 pub mod Steps
 -- what its calls ask of a seat, and what they leave of it

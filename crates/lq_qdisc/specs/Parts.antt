@@ -1,5 +1,5 @@
 -- A transmit, the interrupts, and their parts: what each requires of the seat (`May..`), and what each ensures of it.
-use Rattle.std.specs.Prelude.{◌≡◌, ℕ, true, false, Bool, if◌then◌else◌, List, None, ◌<◌, ◌*◌, ◌≢◌, Some, ◌↔◌}
+use Rattle.std.specs.Prelude.{◌≡◌, ℕ, true, false, Bool, if◌then◌else◌, List, None, [], ◌∷◌, ◌<◌, ◌+◌, ◌*◌, ◌≢◌, Some, ◌↔◌}
 use Rattle.lq_model.specs.declared.fate.Info.{Info}
 use Rattle.lq_model.specs.declared.machine.Attempt.{Attempt}
 use Rattle.lq_model.specs.declared.machine.Attempt.TheVariants.{Interrupt}
@@ -12,13 +12,19 @@ use Rattle.lq_table.specs.Fates.{settle_view_owed}
 use Rattle.lq_table.specs.Sees.{view, known, steps, setup, position, slot, IsElseSame, IsSameSeat, solo}
 use Rattle.lq_table.specs.Moves.{IsPacketOf}
 use Rattle.lq_table.specs.Views.{View, Known}
+use Rattle.lq_table.specs.Step.{MakesSteps, Settle, Standing, Step}
+use Rattle.lq_model.specs.declared.fate.Fate.TheVariants as fate
+use Rattle.lq_run.specs.Steps.{MakesStepsOf}
+use Rattle.lq_ring.specs.StepLists.{MakesStepsFrom}
 use Rattle.lq_table.specs.declared.shared.Cpu.{Cpu}
 use Rattle.lq_table.specs.declared.shared.Shared.{Shared}
 use Rattle.lq_qdisc.specs.Calls.{IsServing, IsSlotOf, KeepsFates}
 use Rattle.lq_qdisc.specs.Direct.{position_after}
 use Rattle.lq_qdisc.specs.Seats.{FindsOtherTurn, IsTurnOf, turn_word, BringsStation}
 use Rattle.lq_qdisc.specs.Sends.{HasCome, IsBringing, IsCallKept, IsReadyToSend, IsStill, serves_bands}
-use Rattle.lq_qdisc.specs.Steps.{EnqueuesBy, IsDueBy, StoresRefused, TransmitsBy}
+use Rattle.lq_qdisc.specs.Outcomes.{Enqueues}
+use Rattle.lq_qdisc.specs.StepLists.{BeginSoftirq, PfifoFastEnqueue}
+use Rattle.lq_qdisc.specs.Steps.{TransmitsBy}
 use Rattle.lq_qdisc.specs.declared.answers.Sending.{Sending}
 use Rattle.lq_qdisc.specs.declared.answers.Through.{Through}
 use Rattle.lq_qdisc.specs.declared.answers.Through.TheVariants.{Yes}
@@ -79,34 +85,36 @@ module _ {D : Type 0} where
 -- WHAT THEY ENSURE
 
 module _ {D : Type 0} where
-  -- The seat is at the end of its call, without the run lock, by these steps; this came of what it knew.
-  pub record LeavesBy (comes : View → View → Type 0) (by : Known → Known → Type 0) (b a : Cpu D) : Type 0 where
+  -- The seat is at the end of its call, without the run lock, by such steps; this came of what it knew.
+  pub record LeavesBy (comes : View → View → Type 0) (such : Standing → List Step → Type 0) (b a : Cpu D) : Type 0 where
     pub kept : IsCallKept b a
     pub fates : KeepsFates (view b) (view a)
     pub at : position a ≡ Leave
     pub free : IsFreeInside a
     pub came : comes (view b) (view a)
-    pub steps : by (known b) (known a)
+    pub makes : MakesStepsFrom such b a
 
   -- so it is where it tried to run the bands
-  abbrev pub EndsCallBy : (Known → Known → Type 0) → Cpu D → Cpu D → Type 0
-  EndsCallBy by b a = LeavesBy IsStill by b a
+  abbrev pub EndsCallBy : (Standing → List Step → Type 0) → Cpu D → Cpu D → Type 0
+  EndsCallBy such b a = LeavesBy IsStill such b a
 
   -- and where it brought packet n with this answer
-  abbrev pub BringsBy : List Info → ℕ → Sending → (Known → Known → Type 0) → Cpu D → Cpu D → Type 0
-  BringsBy infos n answer by b a = LeavesBy (HasCome infos n answer) by b a
+  abbrev pub BringsBy : List Info → ℕ → Sending → (Standing → List Step → Type 0) → Cpu D → Cpu D → Type 0
+  BringsBy infos n answer such b a = LeavesBy (HasCome infos n answer) such b a
 
   -- Packet n was put into its band, or dropped as full with its fate stored, as the answer says.
   pub record EnqueuesAs (t : Shared D) (n : ℕ) (answer : Sending) (b a : Cpu D) : Type 0 where
     pub same : IsSameSeat b a × (a.station ≡ b.station) × (slot a ≡ slot b)
     pub at : GoesOnFromPut t n b a
-    pub put : EnqueuesBy (setup t) n answer (known b) (known a)
+    pub came : Enqueues n (band_in t.infos.now n) answer (view b) (view a)
+    pub makes : MakesStepsOf (PfifoFastEnqueue (setup t) n answer) b a
 
   -- Packet n was refused by the event that this word of the state tells, and its fate is stored.
   pub record RefusesAs (t : Shared D) (n state : ℕ) (answer : Sending) (b a : Cpu D) : Type 0 where
     pub same : IsElseSame b a
     pub settled : view a ≡ settle_view_owed (view b)
-    pub event : StoresRefused (setup t) n state answer (steps b) (steps a)
+    pub event : (event : ℕ) × (bits : ℕ) × (bits < 16) × (state ≡ bits + 256 * (event + 1)) × (answer ≡ sending.Refused event)
+        × MakesSteps (Settle n (fate.Refused event) ∷ []) b a
     pub step : solo (view a) ≡ solo (view b)
 
   -- A packet was transmitted where it is its turn: the seat is in no call, and has nothing in hand.
@@ -126,7 +134,7 @@ module _ {D : Type 0} where
     pub same : IsElseSame b a
     pub at : position a ≡ (if answer then Try1 Interrupt else Leave)
     pub still : IsStill (view b) (view a) × ((view a).locks ≡ (view b).locks) × ((view a).holder ≡ (view b).holder)
-    pub due : IsDueBy answer (known b) (known a)
+    pub makes : MakesStepsOf (BeginSoftirq answer) b a
     pub mark : (view a).place.raised ≡ (view b).place.raised
 
   -- An interrupt was done by these steps, with these fates stored: the seat is in no call, and has nothing in hand. A seat that has the table

@@ -1,21 +1,17 @@
 -- What the calls of a queue discipline ask of a seat, and what they leave of it.
 use Rattle.std.specs.Prelude.{◌≡◌, ◌≢◌, ℕ, ◌*◌, ◌<◌, Bool, false, length, slice_index, Some, None}
-use Rattle.lq_device.specs.Station.{StationState, HasAnswered}
+use Rattle.lq_device.specs.Station.{StationState}
 use Rattle.lq_model.specs.Alone.{RunningStation, opened}
-use Rattle.lq_model.specs.Device.{is_busy}
-use Rattle.lq_model.specs.Plan.{owner_in, queue_in, rank_in}
-use Rattle.lq_model.specs.declared.device.Tx.{Tx}
+use Rattle.lq_model.specs.Plan.{owner_in, rank_in}
 use Rattle.lq_model.specs.declared.machine.Position.{Position}
-use Rattle.lq_model.specs.declared.machine.Position.TheVariants.{Xmit}
 use Rattle.lq_table.specs.Views.{first_account}
-use Rattle.lq_table.specs.Rule.{shown}
-use Rattle.lq_table.specs.Sees.{view, steps, setup, position, packet_at, carried, IsAccounts, solo}
+use Rattle.lq_table.specs.Sees.{view, steps, setup, position, IsAccounts, solo}
 use Rattle.lq_table.specs.Made.{◌⊳◌}
 use Rattle.lq_table.specs.Turns.{take_turn_log}
 use Rattle.lq_table.specs.declared.shared.Cpu.{Cpu}
 use Rattle.lq_table.specs.declared.shared.Shared.{Shared}
 use Rattle.lq_qdisc.specs.Alone.{BringsAlone, Does, IsOneSender, RunsAlone, account_in}
-use Rattle.lq_qdisc.specs.Direct.{IsSentAs, position_after}
+use Rattle.lq_qdisc.specs.Direct.{position_after}
 use Rattle.lq_qdisc.specs.declared.answers.Sending.{Sending}
 use Rattle.lq_qdisc.specs.declared.answers.Sending.TheVariants as sending
 use Rattle.lq_qdisc.specs.declared.answers.Through.{Through}
@@ -30,11 +26,6 @@ module _ {D : Type 0} where
   -- the device of the station that it carries has room for a packet, and doesn't hang
   abbrev pub CarriesDeviceWithRoom : Cpu D → Type 0
   CarriesDeviceWithRoom c = (st : StationState) × (c.station ≡ Some st) × (0 < st.device.spare) × (st.device.hung ≡ false) × (length st.device.accepted < 1000000)
-
-  -- whichever answer it accepted the packet n with, the packet's fate is stored as after this answer
-  abbrev pub StoresSent : Shared D → ℕ → Cpu D → Cpu D → Type 0
-  StoresSent t n b a = (answer : Tx) → (direct : Bool) → is_busy answer ≡ false → HasAnswered answer (queue_in t.infos.now n) n (shown (view b).holder) (carried b)
-      → position b ≡ Xmit (packet_at t n) direct → IsSentAs answer n (queue_in t.infos.now n) direct (carried b) (view b) (view a)
 
 -- TRANSMITS
 

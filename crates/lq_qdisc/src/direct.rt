@@ -1,14 +1,16 @@
 //! Handing a packet to the device.
-ghost use Rattle.std.specs.Prelude.{◌≡◌, Bool, true, Some, None};
+ghost use Rattle.std.specs.Prelude.{◌≡◌, [], ◌∷◌, Bool, true, Some, None};
 ghost use Rattle.lq_device.specs.Station.{StationState, with_slot};
 ghost use Rattle.lq_model.specs.Device.{is_busy};
 ghost use Rattle.lq_model.specs.Plan.{queue_in};
 ghost use Rattle.lq_model.specs.declared.device.Tx.TheVariants.{SentHang};
 ghost use Rattle.lq_model.specs.declared.machine.Position.TheVariants.{Gate, StoreXoff, Xmit};
-ghost use Rattle.lq_table.specs.Sees.{view, setup, position, packet_at, IsSeatOf};
+ghost use Rattle.lq_table.specs.Step.{MakesSteps, Settle};
+ghost use Rattle.lq_table.specs.Sees.{view, position, packet_at, IsSeatOf};
 ghost use Rattle.lq_ring.specs.Calls.{ChangesStation};
-ghost use Rattle.lq_qdisc.specs.Steps.{DirectsBy, StartXmit};
-ghost use Rattle.lq_qdisc.specs.Handing.{AsksDevice, MayRequeueBusy, MayRequeueStopped, MaySettleSent, MayStartXmit, MayStop, RequeuesBusy, RequeuesStopped, SettlesSent, StoresStops, XmitsBy};
+ghost use Rattle.lq_qdisc.specs.Direct.{Directs};
+ghost use Rattle.lq_qdisc.specs.StepLists.{DirectXmit, StartXmit};
+ghost use Rattle.lq_qdisc.specs.Handing.{AsksDevice, MayRequeueBusy, MayRequeueStopped, MaySettleSent, MayStartXmit, MayStop, RequeuesBusy, RequeuesStopped, StoresStops, XmitsBy};
 ghost use Rattle.lq_qdisc.specs.Seats.{CarriesDeviceWithRoom};
 ghost use Rattle.lq_qdisc.specs.Takes.{MayXmit};
 
@@ -26,7 +28,8 @@ use lq_table::{Cpu, Shared};
 pub fn direct_xmit<'a, D: TxDevice>(shared: &Shared<'a, D>, cpu: &mut Cpu<D>, n: u32) -> Through
     requires seat { IsSeatOf shared.now cpu.old }
     requires may { (direct : Bool) × MayXmit shared.now n direct cpu.old }
-    ensures { XmitsBy (Gate (packet_at shared.now n)) result (DirectsBy (setup shared.now) result n (queue_in shared.now.infos.now n)) cpu.old cpu.new }
+    ensures { XmitsBy (Gate (packet_at shared.now n)) result (Directs result n (queue_in shared.now.infos.now n))
+        (λ s. DirectXmit shared.now.queues n (queue_in shared.now.infos.now n) s result) cpu.old cpu.new }
 {
     let queue = queue_of(shared, n);
     if shared.load_xoff(cpu, queue) != 0 {
@@ -94,7 +97,7 @@ fn store_hung<'a, D: TxDevice>(shared: &Shared<'a, D>, cpu: &mut Cpu<D>)
 fn requeue_busy<'a, D: TxDevice>(shared: &Shared<'a, D>, cpu: &mut Cpu<D>, n: u32)
     requires seat { IsSeatOf shared.now cpu.old }
     requires may { MayRequeueBusy shared.now n cpu.old }
-    ensures { RequeuesBusy cpu.old cpu.new }
+    ensures { RequeuesBusy n cpu.old cpu.new }
 {
     fill_requeue_slot(cpu, n);
     shared.requeue(cpu);
@@ -104,7 +107,7 @@ fn requeue_busy<'a, D: TxDevice>(shared: &Shared<'a, D>, cpu: &mut Cpu<D>, n: u3
 fn settle_sent<'a, D: TxDevice>(shared: &Shared<'a, D>, cpu: &mut Cpu<D>, n: u32, fate: Fate)
     requires seat { IsSeatOf shared.now cpu.old }
     requires may { MaySettleSent shared.now n fate cpu.old }
-    ensures { SettlesSent shared.now n fate cpu.old cpu.new }
+    ensures { MakesSteps (Settle n fate ∷ []) cpu.old cpu.new }
 {
     shared.settle(cpu, n, fate);
 }
@@ -132,7 +135,7 @@ fn start_xmit<'a, D: TxDevice>(
 ) -> Through
     requires seat { IsSeatOf shared.now cpu.old }
     requires may { MayStartXmit shared.now n queue cpu.old }
-    ensures { XmitsBy (Xmit (packet_at shared.now n)) result (λ b a. StartXmit (setup shared.now) result n queue b.steps b a) cpu.old cpu.new }
+    ensures { XmitsBy (Xmit (packet_at shared.now n)) result (Directs result n queue) (λ s. StartXmit shared.now.queues n queue s result) cpu.old cpu.new }
 {
     let (answer, fate) = ask_device(cpu, queue, n);
     if is_refusal(answer) {

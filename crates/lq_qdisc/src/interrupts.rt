@@ -1,11 +1,13 @@
 //! Soft interrupts, and a driver's interrupts.
 ghost use Rattle.std.specs.Prelude.{◌≡◌, ◌<◌, true};
 ghost use Rattle.lq_model.specs.declared.machine.Position.TheVariants.{Idle, Soft};
-ghost use Rattle.lq_table.specs.Sees.{view, known, setup, position, IsSeatOf, IsElseSame};
+ghost use Rattle.lq_table.specs.Sees.{view, setup, position, IsSeatOf, IsElseSame};
 ghost use Rattle.lq_table.specs.Moves.{at_rest};
 ghost use Rattle.lq_qdisc.specs.Calls.{KeepsFates};
 ghost use Rattle.lq_qdisc.specs.Steps.{InterruptsBy};
-ghost use Rattle.lq_qdisc.specs.Sends.{IsReadyToSend, Wakes, WakesBelow};
+ghost use Rattle.lq_run.specs.Steps.{MakesStepsOf};
+ghost use Rattle.lq_qdisc.specs.Sends.{IsReadyToSend, WakesBelow};
+ghost use Rattle.lq_qdisc.specs.StepLists.{WakeQueue};
 ghost use Rattle.lq_qdisc.specs.Parts.{BeginsSoftirq, InterruptsAs};
 ghost use Rattle.lq_qdisc.specs.Seats.{BringsStation, OpensStation};
 
@@ -70,7 +72,7 @@ fn wake_queue<'a, D: TxDevice>(shared: &Shared<'a, D>, cpu: &mut Cpu<D>, queue: 
     requires at { position cpu.old ≡ Idle }
     ensures same { IsElseSame cpu.old cpu.new }
     ensures at { position cpu.new ≡ Idle }
-    ensures wakes { Wakes (setup shared.now) queue result (known cpu.old) (known cpu.new) }
+    ensures makes { MakesStepsOf (WakeQueue queue result) cpu.old cpu.new }
 {
     if shared.look_stop(cpu, queue) && shared.wake(cpu, queue) {
         schedule(shared, cpu);

@@ -5,7 +5,7 @@ ghost use Rattle.lq_model.specs.declared.machine.Position.TheVariants.{Check, Pu
 ghost use Rattle.lq_table.specs.Sees.{view, setup, packet_at, IsSeatOf};
 ghost use Rattle.lq_table.specs.Moves.{is_set};
 ghost use Rattle.lq_table.specs.States.{some_bit};
-ghost use Rattle.lq_qdisc.specs.Steps.{QdiscRun, EnqueuesAndRunsBy, RunAfterBypass, XmitSkb, BypassLocked, EnqueueAndRun, XmitBypass, RunsToEndBy, TryBypass};
+ghost use Rattle.lq_qdisc.specs.StepLists.{BypassLocked, EnqueueAndRun, EnqueueAndRunLocked, QdiscRun, RunAfterBypass, RunToEnd, TryBypass, XmitBypass, XmitSkb};
 ghost use Rattle.lq_qdisc.specs.Sends.{OwesRefused};
 ghost use Rattle.lq_qdisc.specs.Parts.{BringsBy, EndsCallBy, EnqueuesAs, IsFreeInside, IsUnlocked, MayBring, MayFollow, MayRun, MayServe, MayTryRun, RefusesAs};
 ghost use Rattle.lq_qdisc.specs.Takes.{MayXmit};
@@ -40,7 +40,7 @@ pub(crate) fn is_deactivated(state: u64) -> bool
 fn run_to_end<'a, D: TxDevice>(shared: &Shared<'a, D>, cpu: &mut Cpu<D>)
     requires seat { IsSeatOf shared.now cpu.old }
     requires may { MayRun shared.now cpu.old }
-    ensures { EndsCallBy (RunsToEndBy (setup shared.now)) cpu.old cpu.new }
+    ensures { EndsCallBy (RunToEnd (setup shared.now)) cpu.old cpu.new }
 {
     run(shared, cpu);
     end(shared, cpu);
@@ -104,7 +104,7 @@ fn enqueue_and_run_locked<'a, D: TxDevice, R: Wait>(
 ) -> Sending
     requires seat { IsSeatOf shared.now cpu.old }
     requires may { MayBring shared.now n (Put (packet_at shared.now n) true) (MayServe shared.now) cpu.old }
-    ensures { BringsBy shared.now.infos.now n result (EnqueuesAndRunsBy (setup shared.now) n result) cpu.old cpu.new }
+    ensures { BringsBy shared.now.infos.now n result (EnqueueAndRunLocked (setup shared.now) n result) cpu.old cpu.new }
 {
     let sending = enqueue(rt, shared, cpu, n);
     run_to_end(shared, cpu);
@@ -116,7 +116,7 @@ fn enqueue_and_run_locked<'a, D: TxDevice, R: Wait>(
 fn run_after_bypass<'a, D: TxDevice>(shared: &Shared<'a, D>, cpu: &mut Cpu<D>, through: Through)
     requires seat { IsSeatOf shared.now cpu.old }
     requires may { MayFollow through cpu.old }
-    ensures { EndsCallBy (RunAfterBypass (setup shared.now) through) cpu.old cpu.new }
+    ensures { EndsCallBy (λ s. RunAfterBypass (setup shared.now) s through) cpu.old cpu.new }
 {
     if through == Through::Yes && is_non_empty(shared.load_state(cpu)) {
         run_to_end(shared, cpu);
@@ -145,7 +145,7 @@ fn bypass_locked<'a, D: TxDevice, R: Wait>(
 ) -> Sending
     requires seat { IsSeatOf shared.now cpu.old }
     requires may { MayBring shared.now n (Recheck (packet_at shared.now n)) (MayServe shared.now) cpu.old }
-    ensures { BringsBy shared.now.infos.now n result (BypassLocked (setup shared.now) n result) cpu.old cpu.new }
+    ensures { BringsBy shared.now.infos.now n result (λ s. BypassLocked (setup shared.now) n s result) cpu.old cpu.new }
 {
     let state = shared.recheck(cpu, n);
     if is_non_empty(state) {
@@ -196,7 +196,7 @@ pub(crate) fn xmit_skb<'a, D: TxDevice, R: Wait>(
 ) -> Sending
     requires seat { IsSeatOf shared.now cpu.old }
     requires may { MayBring shared.now n (Check (packet_at shared.now n)) IsFreeInside cpu.old }
-    ensures { BringsBy shared.now.infos.now n result (XmitSkb (setup shared.now) n result) cpu.old cpu.new }
+    ensures { BringsBy shared.now.infos.now n result (λ s. XmitSkb (setup shared.now) n s result) cpu.old cpu.new }
 {
     let state = shared.check(cpu, n);
     if is_deactivated(state) {

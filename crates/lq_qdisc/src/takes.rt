@@ -1,5 +1,5 @@
 //! Taking the packet that is served next.
-ghost use Rattle.std.specs.Prelude.{◌≡◌, ◌<◌, Bool, true, false, if◌then◌else◌, length, Some, None};
+ghost use Rattle.std.specs.Prelude.{◌≡◌, ◌<◌, ℕ, [], ◌∷◌, Bool, true, false, if◌then◌else◌, length, Some, None};
 ghost use Rattle.lq_model.specs.Plan.{queue_in};
 ghost use Rattle.lq_model.specs.Steps.{queue_of_blocked};
 ghost use Rattle.lq_model.specs.declared.machine.Blocked.{Blocked};
@@ -9,9 +9,11 @@ ghost use Rattle.lq_table.specs.Moves.{IsPacketOf};
 ghost use Rattle.lq_device.specs.Station.{StationState, with_slot};
 ghost use Rattle.lq_table.specs.Rule.{shown};
 ghost use Rattle.lq_ring.specs.Calls.{ChangesStation};
-ghost use Rattle.lq_qdisc.specs.Calls.{IsServing, cleared};
-ghost use Rattle.lq_qdisc.specs.Steps.{ClearsBothBy, LoadsBitsBy};
-ghost use Rattle.lq_qdisc.specs.Takes.{ClearsAtStop, DequeuesAs, DequeuesBands, DequeuesNext, DequeuesWith, MayDequeue, MayDequeueOpen, ScansBands, TakesNothing};
+ghost use Rattle.lq_qdisc.specs.Calls.{IsServing, Looks, cleared};
+ghost use Rattle.lq_table.specs.States.{some_bit};
+ghost use Rattle.lq_table.specs.Step.{ClearDraining, ClearMissed as ClearMissedStep, LoadState, MakesSteps};
+ghost use Rattle.lq_qdisc.specs.StepLists.{DequeueSkb, DequeuesTo, PfifoFastDequeue};
+ghost use Rattle.lq_qdisc.specs.Takes.{ClearsAtStop, DequeuesAs, MayDequeue, MayDequeueOpen, ScansBands, TakesNothing};
 
 use crate::answers::Taken;
 use lq_device::TxDevice;
@@ -28,7 +30,7 @@ use lq_table::{Cpu, Shared};
 pub fn dequeue<'a, D: TxDevice>(shared: &Shared<'a, D>, cpu: &mut Cpu<D>) -> Taken
     requires seat { IsSeatOf shared.now cpu.old }
     requires may { MayDequeue shared.now cpu.old }
-    ensures { DequeuesAs shared.now result (DequeuesNext (setup shared.now) result) cpu.old cpu.new }
+    ensures { DequeuesAs shared.now result (DequeuesTo (setup shared.now) result) (λ s. DequeueSkb (setup shared.now) s result) cpu.old cpu.new }
 {
     if let Some(n) = requeued(cpu) {
         return dequeue_requeued(shared, cpu, n);
@@ -69,7 +71,7 @@ fn dequeue_requeued<'a, D: TxDevice>(shared: &Shared<'a, D>, cpu: &mut Cpu<D>, n
     requires at { position cpu.old ≡ Deq }
     requires serving { IsServing cpu.old }
     requires slot { ((view cpu.old).holder.slot ≡ Some n) × IsPacketOf (setup shared.now) n }
-    ensures { DequeuesAs shared.now result (DequeuesWith (setup shared.now) (Some n) result) cpu.old cpu.new }
+    ensures { DequeuesAs shared.now result (DequeuesTo (setup shared.now) result) (λ s. DequeueSkb (setup shared.now) s result) cpu.old cpu.new }
 {
     let queue = queue_of(shared, n);
     if shared.load_xoff(cpu, queue) != 0 {
@@ -84,7 +86,7 @@ fn dequeue_requeued<'a, D: TxDevice>(shared: &Shared<'a, D>, cpu: &mut Cpu<D>, n
 fn dequeue_open<'a, D: TxDevice>(shared: &Shared<'a, D>, cpu: &mut Cpu<D>) -> Taken
     requires seat { IsSeatOf shared.now cpu.old }
     requires may { MayDequeueOpen shared.now cpu.old }
-    ensures { DequeuesAs shared.now result (DequeuesWith (setup shared.now) None result) cpu.old cpu.new }
+    ensures { DequeuesAs shared.now result (DequeuesTo (setup shared.now) result) (λ s. DequeueSkb (setup shared.now) s result) cpu.old cpu.new }
 {
     if shared.load_xoff(cpu, 0) != 0 {
         maybe_clear_missed(shared, cpu, 0);
@@ -113,7 +115,8 @@ fn scan<'a, D: TxDevice>(shared: &Shared<'a, D>, cpu: &mut Cpu<D>) -> Option<u32
 fn load_is_non_empty<'a, D: TxDevice>(shared: &Shared<'a, D>, cpu: &mut Cpu<D>) -> bool
     requires seat { IsSeatOf shared.now cpu.old }
     requires at { position cpu.old ≡ Test }
-    ensures loads { TakesNothing (if result then ClearMissed else Unlock) (λ s. s) (LoadsBitsBy result) cpu.old cpu.new }
+    ensures loads { TakesNothing (if result then ClearMissed else Unlock) (λ s. s)
+        (λ b a. (state : ℕ) × (result ≡ some_bit state) × MakesSteps (LoadState state ∷ []) b a) cpu.old cpu.new }
     ensures sole { IsSole (view cpu.old) → result ≡ false → solo (view cpu.new) ≡ cleared (solo (view cpu.old)) }
 {
     let state = shared.load_state(cpu);
@@ -124,7 +127,7 @@ fn load_is_non_empty<'a, D: TxDevice>(shared: &Shared<'a, D>, cpu: &mut Cpu<D>) 
 fn clear_non_empty<'a, D: TxDevice>(shared: &Shared<'a, D>, cpu: &mut Cpu<D>)
     requires seat { IsSeatOf shared.now cpu.old }
     requires at { position cpu.old ≡ ClearMissed }
-    ensures { TakesNothing (Scan 0 true) cleared ClearsBothBy cpu.old cpu.new }
+    ensures { TakesNothing (Scan 0 true) cleared (MakesSteps (ClearMissedStep ∷ ClearDraining ∷ [])) cpu.old cpu.new }
 {
     shared.clear_missed(cpu);
     shared.clear_draining(cpu);
@@ -136,7 +139,7 @@ fn dequeue_bands<'a, D: TxDevice>(shared: &Shared<'a, D>, cpu: &mut Cpu<D>) -> T
     requires seat { IsSeatOf shared.now cpu.old }
     requires at { position cpu.old ≡ Scan 0 false }
     requires serving { IsServing cpu.old }
-    ensures { DequeuesAs shared.now result (DequeuesBands (setup shared.now) result) cpu.old cpu.new }
+    ensures { DequeuesAs shared.now result (Looks result) (λ s. PfifoFastDequeue s result) cpu.old cpu.new }
 {
     if let Some(n) = scan(shared, cpu) {
         return Taken::Packet(n);

@@ -104,6 +104,8 @@ pub data Step : Type 0 where
   ZeroSlot : ℕ → ℕ → Step
   -- in the station that the seat carries the band's head and tail are set
   SetEnds : ℕ → ℕ → ℕ → Step
+  -- the station that it carries becomes this, by a call of its own, as of its device
+  SetStation : StationState → Step
   -- A FATE: this packet's is stored
   Settle : ℕ → Fate → Step
   -- A PURGE: the state is loaded, and found so: it begins, for this event, where the bands are these
@@ -230,6 +232,7 @@ step_leaves (HeadSlot band found) s = record s {
 }
 step_leaves (ZeroSlot band i) s = record s { view = zero_slot_view band s.view; steps = s.steps ⊳ store_slot_log s.view.share.about band i 0 }
 step_leaves (SetEnds band head tail) s = record s { station = option_map (λ st. with_ends st band head tail) s.station }
+step_leaves (SetStation st) s = record s { station = Some st }
 step_leaves (Settle n fate) s = record s {
   view = settle_view (carried_station s) (band_in s.view.share.about.infos n) n fate s.view;
   steps = s.steps ⊳ settle_log s.view.share.about n (word_of fate);

@@ -1,28 +1,29 @@
-use Rattle.std.proofs.Common.{rules, ap, ◌∙◌, List}
+use Rattle.std.proofs.Common.{rules, ap, ◌∙◌, Some}
+use Rattle.lq_device.specs.Station.{with_slot}
+use Rattle.lq_run.proofs.StepsThen.{makes_then}
 use Rattle.lq_model.specs.declared.machine.Position.{Position}
 use Rattle.lq_table.specs.Rule.{shown}
-use Rattle.lq_table.specs.Sees.{view, steps}
-use Rattle.lq_table.specs.Made.{Made, ◌⊳◌}
-use Rattle.lq_table.specs.States.{set_missed_log, set_bit_view}
+use Rattle.lq_table.specs.Sees.{view, carried}
 use Rattle.lq_table.specs.Views.{View, HolderPart}
 use Rattle.lq_qdisc.specs.Calls.{laid_aside}
+use Rattle.lq_qdisc.proofs.ListLemmas.{is_carried, station_changed}
 use Rattle.lq_qdisc.proofs.TakeLemmas.{carries_filled, carries_slot}
 use Rattle.lq_qdisc.proofs.direct.requeue_stopped.Goals as goal
 
 pub returns : goal.returns
-returns g c =
-    let stopped = c.maybe_clear_missed.ensures.stopped in
-    let m = c.set_missed.ensures.made in record {
-      kept = search rules;
-      serving = search rules;
-      at = search rules;
-      run = search rules;
-      fates = search rules;
-      holder = search rules;
-      past = search rules;
-      stopped = (stopped.0, c.set_missed.ensures.view ∙ ap (λ (v : View). set_bit_view v) (c.fill_requeue_slot.ensures.same.3 ∙ stopped.1), steps c.maybe_clear_missed.new.cpu, m.0, stopped.2, m.1 ∙ ap (λ (xs : List Made). xs ⊳ set_missed_log m.0) c.fill_requeue_slot.ensures.made);
-      sole = search rules;
-    }
+returns g c = record {
+  kept = search rules;
+  serving = search rules;
+  at = search rules;
+  run = search rules;
+  fates = search rules;
+  holder = search rules;
+  sole = search rules;
+  makes =
+      let m = c.maybe_clear_missed in let w = m.ensures.makes in let s = c.set_missed.ensures.makes in let st = shown (view c.args.cpu.now).holder in let is = c.requires.may.serving.0.1 in
+      let filled = station_changed (λ x. with_slot x (Some c.args.n)) (carried c.args.cpu.now) st m.new.cpu c.fill_requeue_slot.new.cpu (m.ensures.station.0 ∙ is) (is_carried c.args.cpu.now st is) c.fill_requeue_slot.ensures in
+      (w.0, s.0, w.1, makes_then w.2 (makes_then filled s.1));
+}
 
 pub maybe_clear_missed-requires-clause-slot : goal.maybe_clear_missed-requires-clause-slot
 maybe_clear_missed-requires-clause-slot g c _ _ = carries_slot c.args.cpu.now c.requires.may.serving

@@ -1,19 +1,20 @@
-use Rattle.std.proofs.Common.{◌≡◌, rules, Bool, true, List, ap, sym, ◌∙◌, subst, is_some, Option}
-use Rattle.lq_device.specs.Station.{HasAnswered, StationState}
+use Rattle.std.proofs.Common.{◌≡◌, rules, Bool, true, [], ◌∷◌, ap, sym, ◌∙◌, subst, is_some, Option, Some}
+use Rattle.lq_device.specs.Station.{HasAnswered, StationState, with_slot}
 use Rattle.lq_model.specs.Account.{Back}
-use Rattle.lq_model.specs.Words.{word_of}
+use Rattle.lq_model.specs.declared.fate.Fate.{Fate}
 use Rattle.lq_model.specs.declared.device.Tx.{Tx}
 use Rattle.lq_model.specs.declared.device.Tx.TheVariants.{Busy}
 use Rattle.lq_model.specs.declared.machine.Position.TheVariants.{Xmit}
-use Rattle.lq_table.specs.Made.{Made, ◌⊳◌}
-use Rattle.lq_table.specs.States.{set_missed_log, requeue_view, missed_to}
-use Rattle.lq_table.specs.Fates.{settle_log, fate_sent}
+use Rattle.lq_run.proofs.StepsThen.{makes_then}
+use Rattle.lq_table.specs.States.{requeue_view, missed_to}
+use Rattle.lq_table.specs.Fates.{fate_sent}
+use Rattle.lq_table.specs.Step.{MakesSteps, Requeue, SetStation, Settle}
 use Rattle.lq_table.specs.Rule.{shown}
-use Rattle.lq_table.specs.Sees.{view, setup, carried, packet_at, position, solo, heard, device_to}
+use Rattle.lq_table.specs.Sees.{view, carried, packet_at, position, solo, heard, device_to}
 use Rattle.lq_table.specs.Views.{View, HolderPart, Setup}
-use Rattle.lq_qdisc.specs.Direct.{IsSentAs}
-use Rattle.lq_qdisc.specs.Steps.{stops_stored}
-use Rattle.lq_qdisc.proofs.DirectLemmas.{accepts, busy_at, busy_is, called_at, kept_sent, sent_from, serves_sent}
+use Rattle.lq_qdisc.specs.StepLists.{IsAccepted, IsGivenBack, stop_steps}
+use Rattle.lq_qdisc.proofs.DirectLemmas.{IsSentAs, accepts, sent_settled, else_same, busy_at, busy_is, called_at, kept_sent, sent_from, serves_sent}
+use Rattle.lq_qdisc.proofs.ListLemmas.{is_carried, station_asked}
 use Rattle.lq_qdisc.proofs.TakeLemmas.{seat_same}
 use Rattle.lq_qdisc.proofs.direct.start_xmit.Goals as goal
 use Rattle.lq_qdisc.proofs.direct.start_xmit.Goals.{After-settle_sent, Then-is_refusal}
@@ -37,7 +38,9 @@ sent_at : (g : _) (c : After-settle_sent g) (direct : Bool)
 sent_at g c direct here =
     let h = c.ask_device-answer in let m = h.new.cpu in let called = (h.ensures.handed _ c.requires.may.serving.0.1).1 in
     sent_from c.args.shared.now c.args.cpu.now m c.settle_sent.new.cpu c.args.n c.args.queue h.result.0 c.requires.may.queue_is h.ensures.same.3
-    (sym c.is_refusal.ensures ∙ c.if-is_refusal.false) called c.settle_sent.ensures.sent direct here
+    (sym c.is_refusal.ensures ∙ c.if-is_refusal.false) called
+    (sent_settled c.args.shared.now c.args.n h.result.1 m c.settle_sent.new.cpu c.settle_sent.ensures (ap (λ (v : View). v.holder.hand) h.ensures.same.3 ∙ c.requires.may.hand) ((h.ensures.handed _ c.requires.may.serving.0.1).0 ∙ ap (λ (v : View). fate_sent v.holder.station) (sym h.ensures.same.3)))
+    direct here
 
 sent : (g : _) (c : After-settle_sent g) → IsSent g c c.requires.may.at.0
 sent g c = sent_at g c c.requires.may.at.0 c.requires.may.at.1
@@ -45,7 +48,7 @@ sent g c = sent_at g c c.requires.may.at.0 c.requires.may.at.1
 pub stop-requires-clause-seat : goal.stop-requires-clause-seat
 stop-requires-clause-seat g c κs within =
     let share = (sent g (goal.at.stop-requires-clause-seat g c).After-settle_sent).share in
-    let h = c.ask_device-answer.ensures.same.0 in let s = c.settle_sent.ensures.same.0 in
+    let h = c.ask_device-answer.ensures.same.0 in let s = c.settle_sent.ensures.seat in
     seat_same c.args.shared.now c.args.cpu.now c.settle_sent.new.cpu (s.0 ∙ h.0, s.1 ∙ h.1) share c.requires.seat
 
 pub requeue_busy-requires-clause-may : goal.requeue_busy-requires-clause-may
@@ -69,14 +72,17 @@ returns-then-is_refusal g c =
       run = search rules;
       empty = search rules;
       trail = search rules;
-      steps = (
-        busy_at c.args.n c.args.queue st (view c.args.cpu.now) (view c.requeue_busy.new.cpu) c.requires.may.hand called
-            (r.requeued ∙ ap (λ (v : View). requeue_view st v) same)
-            (r.step ∙ ap (λ (v : View). device_to st.device (heard Back (missed_to true (solo v)))) same)
-            c.requires.may.is_open,
-        r.made.0,
-        r.made.1 ∙ ap (λ (xs : List Made). xs ⊳ set_missed_log r.made.0) c.ask_device-answer.ensures.made,
-      );
+      came =
+          busy_at c.args.n c.args.queue st (view c.args.cpu.now) (view c.requeue_busy.new.cpu) c.requires.may.hand called
+          (r.requeued ∙ ap (λ (v : View). requeue_view st v) same)
+          (r.step ∙ ap (λ (v : View). device_to st.device (heard Back (missed_to true (solo v)))) same)
+          c.requires.may.is_open;
+      makes =
+          let h = c.ask_device-answer in let was = sym (is_carried c.args.cpu.now _ c.requires.may.serving.0.1) in (
+            SetStation st ∷ SetStation (with_slot st (Some c.args.n)) ∷ Requeue r.makes.0 ∷ [],
+            IsGivenBack (subst (λ (from : StationState). HasAnswered Busy c.args.queue c.args.n from st) was called),
+            makes_then (station_asked c.args.cpu.now h.new.cpu h.ensures.same h.ensures.made h.ensures.station) r.makes.1,
+          );
     }
 
 pub settle_sent-requires-clause-may : goal.settle_sent-requires-clause-may
@@ -102,20 +108,23 @@ stop-requires-clause-may g c κs within = record {
 
 pub returns : goal.returns
 returns g c = record {
-  kept = let s = sent g (goal.at.returns g c).After-settle_sent in let h = c.ask_device-answer in let stop = c.stop.ensures in kept_sent _ _ _ c.requires.may.at.0 _ c.args.cpu.now h.new.cpu c.settle_sent.new.cpu c.stop.new.cpu h.ensures.same.0 h.ensures.same.1 c.settle_sent.ensures.same stop.same s stop.stays;
-  serving = let s = sent g (goal.at.returns g c).After-settle_sent in let h = c.ask_device-answer in let stop = c.stop.ensures in serves_sent _ _ _ c.requires.may.at.0 c.args.cpu.now h.new.cpu c.settle_sent.new.cpu c.stop.new.cpu c.requires.may.serving h.ensures.same.2 h.ensures.station (h.ensures.handed _ c.requires.may.serving.0.1).1 c.settle_sent.ensures.same stop.same s stop.stays;
+  kept = let s = sent g (goal.at.returns g c).After-settle_sent in let h = c.ask_device-answer in let stop = c.stop.ensures in kept_sent _ _ _ c.requires.may.at.0 _ c.args.cpu.now h.new.cpu c.settle_sent.new.cpu c.stop.new.cpu h.ensures.same.0 h.ensures.same.1 (else_same c.settle_sent.ensures) stop.same s stop.stays;
+  serving = let s = sent g (goal.at.returns g c).After-settle_sent in let h = c.ask_device-answer in let stop = c.stop.ensures in serves_sent _ _ _ c.requires.may.at.0 c.args.cpu.now h.new.cpu c.settle_sent.new.cpu c.stop.new.cpu c.requires.may.serving h.ensures.same.2 h.ensures.station (h.ensures.handed _ c.requires.may.serving.0.1).1 (else_same c.settle_sent.ensures) stop.same s stop.stays;
   at = λ direct here. c.stop.ensures.at direct (sent_at g (goal.at.returns g c).After-settle_sent direct here).at;
   run = c.stop.ensures.stays.run ∙ (sent g (goal.at.returns g c).After-settle_sent).run;
   empty = λ _. let holder = c.stop.ensures.stays.holder ∙ (sent g (goal.at.returns g c).After-settle_sent).holder in (ap (λ (x : HolderPart). x.hand) holder, ap (λ (x : HolderPart). x.slot) holder ∙ c.requires.may.room.2);
   trail = c.stop.ensures.stays.trail ∙ (sent g (goal.at.returns g c).After-settle_sent).trail;
-  steps = let s = sent g (goal.at.returns g c).After-settle_sent in let stop = c.stop.ensures in
-      let h = c.ask_device-answer in let handed = h.ensures.handed _ c.requires.may.serving.0.1 in let k = setup c.args.shared.now in
-      let fate_is : h.result.1 ≡ fate_sent (view c.args.cpu.now).holder.station = handed.0 in (
-        accepts h.result.0 c.args.n c.args.queue c.args.shared.now.queues c.requires.may.at.0 _ (view c.args.cpu.now)
-            (view c.settle_sent.new.cpu) (view c.stop.new.cpu) (sym c.is_refusal.ensures ∙ c.if-is_refusal.false) handed.1
-            (ap (λ (x : Setup). x.queues) c.requires.seat.2) s stop.stays stop.past stop.step c.requires.may.is_open,
-        stop.made
-            ∙ ((λ j. stops_stored k h.result.0 c.args.queue (c.settle_sent.ensures.made j))
-            ∙ (λ j. stops_stored k h.result.0 c.args.queue (h.ensures.made j ⊳ settle_log k c.args.n (word_of (fate_is j))))),
+  came = let s = sent g (goal.at.returns g c).After-settle_sent in let stop = c.stop.ensures in
+      let h = c.ask_device-answer in let handed = h.ensures.handed _ c.requires.may.serving.0.1 in
+      accepts h.result.0 c.args.n c.args.queue c.args.shared.now.queues c.requires.may.at.0 _ (view c.args.cpu.now)
+      (view c.settle_sent.new.cpu) (view c.stop.new.cpu) (sym c.is_refusal.ensures ∙ c.if-is_refusal.false) handed.1
+      (ap (λ (x : Setup). x.queues) c.requires.seat.2) s stop.stays stop.past stop.step c.requires.may.is_open;
+  makes =
+      let h = c.ask_device-answer in let st = carried h.new.cpu in let b = c.args.cpu.now in let n = c.args.n in
+      let handed = h.ensures.handed _ c.requires.may.serving.0.1 in let was = sym (is_carried b _ c.requires.may.serving.0.1) in
+      let settled = subst (λ (f : Fate). MakesSteps (Settle n f ∷ []) h.new.cpu c.settle_sent.new.cpu) (handed.0 ∙ ap fate_sent was) c.settle_sent.ensures in (
+        SetStation st ∷ Settle n (fate_sent (carried b)) ∷ stop_steps h.result.0 c.args.queue c.args.shared.now.queues,
+        IsAccepted (sym c.is_refusal.ensures ∙ c.if-is_refusal.false) (subst (λ (from : StationState). HasAnswered h.result.0 c.args.queue n from st) was handed.1),
+        makes_then (makes_then (station_asked b h.new.cpu h.ensures.same h.ensures.made h.ensures.station) settled) c.stop.ensures.makes,
       );
 }

@@ -1,14 +1,13 @@
-use Rattle.std.proofs.Common.{rules, ◌≡◌, ℕ, ◌<◌, true, refl, sym, ap, ◌∙◌, subst, List, ◌∷◌, arith}
+use Rattle.std.proofs.Common.{rules, ◌≡◌, ℕ, suc, ◌+◌, ◌<◌, true, refl, sym, ap, ◌∙◌, subst, List, ◌∷◌, arith}
 use Rattle.lq_model.specs.Account.{Event, Stop}
 use Rattle.lq_model.specs.declared.machine.Position.TheVariants.{StoreXoff}
 use Rattle.lq_table.specs.Views.{View, HolderPart, Setup}
-use Rattle.lq_table.specs.Sees.{view, setup, steps, position, Solo, heard, solo}
-use Rattle.lq_table.specs.Made.{Made, ◌⊳◌}
-use Rattle.lq_table.specs.Stops.{store_xoff_log}
-use Rattle.lq_qdisc.specs.Direct.{hearing_hung, hung_below}
-use Rattle.lq_qdisc.specs.Steps.{hung_stored}
-use Rattle.lq_qdisc.proofs.StepLemmas.{hung_one_more}
-use Rattle.lq_qdisc.proofs.DirectLemmas.{stored_at, stored_stays, stays_then, hung_leads, if_below, hung_more, hearing_more}
+use Rattle.lq_table.specs.Sees.{view, position, Solo, heard, solo}
+use Rattle.lq_run.proofs.StepsThen.{makes_then}
+use Rattle.lq_table.specs.Step.{MakesSteps}
+use Rattle.lq_qdisc.specs.Direct.{hung_below}
+use Rattle.lq_qdisc.specs.StepLists.{hung_steps}
+use Rattle.lq_qdisc.proofs.DirectLemmas.{hearing_hung, stored_at, stored_stays, stays_then, hung_leads, if_below, hung_more, hearing_more}
 use Rattle.lq_qdisc.proofs.direct.store_hung.Goals as goal
 
 pub store_xoff-requires-clause-at : goal.store_xoff-requires-clause-at
@@ -29,7 +28,7 @@ loop-queue-preserved g c =
       stays = stays_then (view c.args.cpu.now) v w old.stays stays;
       heard = ap (λ (x : View). x.whole.state.past) is ∙ (ap (λ (past : List Event). Stop q 2 ∷ past) old.heard ∙ hung_more q _);
       step = c.store_xoff.ensures.step ∙ (ap (λ (s : Solo). heard (Stop q 2) s) old.step ∙ hearing_more q _);
-      made = c.store_xoff.ensures.made ∙ (ap (λ (xs : List Made). xs ⊳ store_xoff_log (setup c.args.shared.now) q 2) old.made ∙ hung_one_more (setup c.args.shared.now) q (steps c.args.cpu.now));
+      makes = let one : suc q ≡ q + 1 = omega arith in subst (λ (n : ℕ). MakesSteps (hung_steps n) c.args.cpu.now c.store_xoff.new.cpu) one (makes_then old.makes c.store_xoff.ensures.makes);
     }
 
 pub returns : goal.returns
@@ -41,6 +40,6 @@ returns g c = record {
       c.loop-queue.invariant.heard ∙ ap (λ (n : ℕ). hung_below n (view c.args.cpu.now).whole.state.past) all;
   step = let all : c.loop-queue.queue ≡ c.args.shared.now.queues = omega arith in
       c.loop-queue.invariant.step ∙ ap (λ (n : ℕ). hearing_hung n (solo (view c.args.cpu.now))) all;
-  made = let all : c.loop-queue.queue ≡ c.args.shared.now.queues = omega arith in
-      c.loop-queue.invariant.made ∙ ap (λ (n : ℕ). hung_stored (setup c.args.shared.now) n (steps c.args.cpu.now)) all;
+  makes = let all : c.loop-queue.queue ≡ c.args.shared.now.queues = omega arith in
+      subst (λ (n : ℕ). MakesSteps (hung_steps n) c.args.cpu.now c.loop-queue.cpu) all c.loop-queue.invariant.makes;
 }

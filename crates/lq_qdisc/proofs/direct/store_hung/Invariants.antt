@@ -1,10 +1,12 @@
 use Rattle.std.proofs.Common.{◌≡◌, Bool, true, if◌then◌else◌}
 use Rattle.std.specs.Prelude.{nat_lt}
 use Rattle.lq_model.specs.declared.machine.Position.TheVariants.{StoreXoff}
-use Rattle.lq_table.specs.Sees.{view, setup, steps, position, IsSeatOf, IsElseSame, solo}
-use Rattle.lq_qdisc.specs.Direct.{StaysAt, hearing_hung, hung_below, position_after}
+use Rattle.lq_table.specs.Sees.{view, position, IsSeatOf, IsElseSame, solo}
+use Rattle.lq_qdisc.specs.Direct.{StaysAt, hung_below, position_after}
 use Rattle.lq_qdisc.specs.declared.answers.Through.TheVariants.{Yes}
-use Rattle.lq_qdisc.specs.Steps.{hung_stored}
+use Rattle.lq_qdisc.specs.StepLists.{hung_steps}
+use Rattle.lq_table.specs.Step.{MakesSteps}
+use Rattle.lq_qdisc.proofs.DirectLemmas.{hearing_hung}
 use Rattle.lq_qdisc.proofs.direct.store_hung.Given as goal
 
 abbrev pub invariant-loop-queue : goal.invariant-loop-queue
@@ -15,5 +17,5 @@ invariant-loop-queue g l = record {
   stays : StaysAt (view l.fn.cpu) (view l.cpu);
   heard : (view l.cpu).whole.state.past ≡ hung_below l.queue (view l.fn.cpu).whole.state.past;
   step : solo (view l.cpu) ≡ hearing_hung l.queue (solo (view l.fn.cpu));
-  made : steps l.cpu ≡ hung_stored (setup l.shared) l.queue (steps l.fn.cpu);
+  makes : MakesSteps (hung_steps l.queue) l.fn.cpu l.cpu;
 }

@@ -1,7 +1,9 @@
 use Rattle.std.proofs.Common.{◌≡◌}
 use Rattle.lq_model.specs.declared.machine.Position.TheVariants.{Idle}
-use Rattle.lq_table.specs.Sees.{view, known, setup, position, IsSeatOf}
-use Rattle.lq_qdisc.specs.Sends.{IsCallKept, IsReadyToSend, IsStill, WakesBelow}
+use Rattle.lq_table.specs.Sees.{view, position, IsSeatOf}
+use Rattle.lq_qdisc.specs.Sends.{IsCallKept, IsReadyToSend, IsStill}
+use Rattle.lq_run.specs.Steps.{MakesStepsOf}
+use Rattle.lq_qdisc.specs.StepLists.{WakeEach}
 use Rattle.lq_qdisc.proofs.interrupts.irq.Given as goal
 
 abbrev pub invariant-loop-queue : goal.invariant-loop-queue
@@ -12,5 +14,5 @@ invariant-loop-queue g l = record {
   ready : IsReadyToSend l.cpu;
   still : IsStill (view l.fn.cpu) (view l.cpu);
   settled : (view l.cpu).settled ≡ (view l.fn.cpu).settled;
-  wakes : WakesBelow (setup l.shared) l.queue l.opened (known l.fn.cpu) (known l.cpu);
+  makes : MakesStepsOf (WakeEach l.queue l.opened) l.fn.cpu l.cpu;
 }

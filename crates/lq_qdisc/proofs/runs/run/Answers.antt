@@ -1,11 +1,17 @@
-use Rattle.std.proofs.Common.{rules, ◌≡◌, ℕ, ◌+◌, ap, sym, ◌∙◌, subst, arith, add-zero, Option, refl}
+use Rattle.std.proofs.Common.{rules, ◌≡◌, ℕ, ◌+◌, true, [], ◌∷◌, ◌++◌, ap, sym, ◌∙◌, subst, arith, add-zero, Option, Some, None, refl}
 use Rattle.std.specs.Prelude.{is_none, if◌then◌else◌}
+use Rattle.lq_ring.proofs.StepsThen.{makes_none, makes_then}
+use Rattle.lq_ring.specs.StepLists.{MakesStepsFrom}
+use Rattle.lq_table.specs.Moves.{pass_view}
+use Rattle.lq_table.specs.States.{missed_to}
+use Rattle.lq_table.specs.Step.{SetMissed, standing, steps_leave}
 use Rattle.lq_model.specs.declared.state.TheConstants.{QUOTA}
-use Rattle.lq_table.specs.Sees.{view, known, setup}
+use Rattle.lq_table.specs.Sees.{view, setup, solo}
 use Rattle.lq_table.specs.Moves.{IsKnownSlot}
 use Rattle.lq_table.specs.Views.{View}
-use Rattle.lq_qdisc.specs.Steps.{RunsBy, SendsBy}
-use Rattle.lq_qdisc.proofs.StepLemmas.{sends_more_by}
+use Rattle.lq_qdisc.specs.StepLists.{EndsEarly, ReachesQuota, Restart, QdiscRunLocked, SendEach, SentMore, SentNone}
+use Rattle.lq_qdisc.proofs.ListLemmas.{from_there}
+use Rattle.lq_qdisc.proofs.ViewRelations.{Runs}
 use Rattle.lq_qdisc.proofs.ViewLemmas.{runs_view}
 use Rattle.lq_qdisc.proofs.TakeLemmas.{carries_slot, kept_moved, kept_then, seat_in, serving_same}
 use Rattle.lq_qdisc.proofs.RunLemmas.{count, fates_then, laid_at_quota, over_at_quota, set_at_quota}
@@ -26,66 +32,70 @@ loop-sent-preserved g c =
       slot = subst (λ (o : Option ℕ). IsKnownSlot (setup c.args.shared.now) o) (sym more.2) tt;
       trail = c.restart.ensures.trail ∙ old.trail;
       fates = fates_then (view c.args.cpu.now) (view m) (view a) old.fates c.restart.ensures.fates;
-      sent = sends_more_by (setup c.args.shared.now) s (known c.args.cpu.now) (known m) (known a) old.sent c.in_default.ensures.sent;
+      makes = let more_ = c.in_default.ensures.makes in (old.makes.0 ++ more_.0, SentMore old.makes.1 (from_there (λ z. Restart (setup c.args.shared.now) z None) old.makes.2 more_.1), makes_then old.makes.2 more_.2);
       accepted = (let e : count (view a) ≡ count (view m) + 1 = c.in_default.ensures.accepted in let f : count (view m) ≡ count (view c.args.cpu.now) + s = old.accepted in omega arith);
+    }
+
+pub loop-sent-init : goal.loop-sent-init
+loop-sent-init g c =
+    let sent_ : MakesStepsFrom (λ s. SendEach (setup c.args.shared.now) s 0) c.args.cpu.now c.args.cpu.now = ([], SentNone, makes_none c.args.cpu.now) in record {
+      seat = search rules;
+      kept = search rules;
+      serving = search rules;
+      at = search rules;
+      run = search rules;
+      hand = search rules;
+      slot = search rules;
+      trail = search rules;
+      fates = search rules;
+      makes = sent_;
+      accepted = search rules;
     }
 
 pub returns-in-Some : goal.returns-in-Some
 returns-in-Some g c =
-    let ran_ : RunsBy (setup c.args.shared.now) (record { end = c.in-Some.end; sent = c.loop-sent.sent }) (known c.args.cpu.now) (known c.restart.new.cpu) =
-    let old = c.loop-sent.invariant in record {
-      last = known c.loop-sent.cpu;
-      sent = old.sent;
-      share = old.kept.share;
-      ends = c.in-Some.ensures.sent;
-      within = omega arith;
-      quota = (λ e. absurd (c.in-Some.ensures.quota e), λ e. absurd (omega arith));
-    } in record {
+    let old = c.loop-sent.invariant in let k = setup c.args.shared.now in let ran : Ran = record { end = c.in-Some.end; sent = c.loop-sent.sent } in let last = c.in-Some.ensures.makes in
+    let makes_ : MakesStepsFrom (λ s. QdiscRunLocked k s ran) c.args.cpu.now c.restart.new.cpu =
+    (old.makes.0 ++ last.0, EndsEarly c.loop-sent-test.true old.makes.1 (from_there (λ z. Restart k z (Some c.in-Some.end)) old.makes.2 last.1), makes_then old.makes.2 last.2) in record {
       kept = search rules;
       serving = search rules;
       at = search rules;
       trail = search rules;
       fates = fates_then (view c.args.cpu.now) (view c.loop-sent.cpu) (view c.restart.new.cpu) c.loop-sent.invariant.fates c.restart.ensures.fates;
-      ran = ran_;
+      makes = makes_;
       accepted =
           c.restart.ensures.accepted ∙ (ap (λ r. count (view c.loop-sent.cpu) + (if is_none r then 1 else 0)) c.in-Some.is ∙ (add-zero _ ∙ c.loop-sent.invariant.accepted));
       alone = λ knows sender active.
-          let k = setup c.args.shared.now in let ran : Ran = record { end = c.in-Some.end; sent = c.loop-sent.sent } in
           runs_alone k c.args.shared.now.infos.now (view c.args.cpu.now) c.requires.seat.2 sender active (λ other. accounts_slot (view c.args.cpu.now) (knows other)) ran (view c.restart.new.cpu)
-          (runs_view k ran (known c.args.cpu.now) (known c.restart.new.cpu) ran_);
+          (subst (λ (v : View). Runs k.infos ran (view c.args.cpu.now) v) (sym makes_.2.knows) (runs_view makes_.1));
     }
 
 pub returns : goal.returns
 returns g c =
-    let ran_ : RunsBy (setup c.args.shared.now) (record { end = Quota; sent = QUOTA }) (known c.args.cpu.now) (known c.set_missed.new.cpu) =
-    let old = c.loop-sent.invariant in let m = c.loop-sent.cpu in let set = c.set_missed.ensures in
-    let all : c.loop-sent.sent ≡ QUOTA = omega arith in record {
-      last = known m;
-      sent = subst (λ (n : ℕ). SendsBy (setup c.args.shared.now) n (known c.args.cpu.now) (known m)) all old.sent;
-      share = old.kept.share;
-      ends = (set.view ∙ set_at_quota (view m) old.at (old.run ∙ all), set.step ∙ laid_at_quota (view m) _ old.at (old.run ∙ all), set.made.0, set.made.1);
-      within = omega arith;
-      quota = (λ _. refl, λ _. refl);
-    } in record {
+    let old = c.loop-sent.invariant in let set = c.set_missed.ensures in let k = setup c.args.shared.now in let b = c.args.cpu.now in let m = c.loop-sent.cpu in let ran : Ran = record { end = Quota; sent = QUOTA } in
+    let all : c.loop-sent.sent ≡ QUOTA = omega arith in let steps_ = makes_then old.makes.2 set.makes.1 in
+    let before : view m ≡ (steps_leave old.makes.0 (standing b)).view = old.makes.2.knows in
+    let makes_ : MakesStepsFrom (λ s. QdiscRunLocked k s ran) b c.set_missed.new.cpu = (
+      old.makes.0 ++ SetMissed set.makes.0 ∷ [],
+      ReachesQuota set.makes.0 (subst (λ (n : ℕ). SendEach k (standing b) n old.makes.0) all old.makes.1)
+          (sym steps_.knows ∙ (set.view ∙ (set_at_quota (view m) old.at (old.run ∙ all) ∙ ap (λ (v : View). pass_view v) before)))
+          (ap solo (sym steps_.knows) ∙ (set.step ∙ (laid_at_quota (view m) _ old.at (old.run ∙ all) ∙ ap (λ (v : View). missed_to true (solo v)) before))),
+      steps_,
+    ) in record {
       kept =
-          let old = c.loop-sent.invariant in let all : c.loop-sent.sent ≡ QUOTA = omega arith in let set = c.set_missed.ensures in
           let e = over_at_quota (view c.loop-sent.cpu) (view c.set_missed.new.cpu) set.view old.at (old.run ∙ all) in
           kept_then old.kept (kept_moved c.loop-sent.cpu c.set_missed.new.cpu _ _ _ _ set.same.0 set.same.2 e refl);
       serving =
-          let old = c.loop-sent.invariant in let all : c.loop-sent.sent ≡ QUOTA = omega arith in let set = c.set_missed.ensures in
           let e = over_at_quota (view c.loop-sent.cpu) (view c.set_missed.new.cpu) set.view old.at (old.run ∙ all) in
           serving_same c.loop-sent.cpu c.set_missed.new.cpu set.same.3 set.same.1 (ap (λ (v : View). v.holder) e) (ap (λ (v : View). v.locks) e) old.serving;
-      at =
-          let old = c.loop-sent.invariant in let all : c.loop-sent.sent ≡ QUOTA = omega arith in
-          ap (λ (v : View). v.place.position) (over_at_quota (view c.loop-sent.cpu) (view c.set_missed.new.cpu) c.set_missed.ensures.view old.at (old.run ∙ all));
+      at = ap (λ (v : View). v.place.position) (over_at_quota (view c.loop-sent.cpu) (view c.set_missed.new.cpu) c.set_missed.ensures.view old.at (old.run ∙ all));
       trail = search rules;
       fates = search rules;
-      ran = ran_;
+      makes = makes_;
       accepted = search rules;
       alone = λ knows sender active.
-          let k = setup c.args.shared.now in let ran : Ran = record { end = Quota; sent = QUOTA } in
-          runs_alone k c.args.shared.now.infos.now (view c.args.cpu.now) c.requires.seat.2 sender active (λ other. accounts_slot (view c.args.cpu.now) (knows other)) ran (view c.set_missed.new.cpu)
-          (runs_view k ran (known c.args.cpu.now) (known c.set_missed.new.cpu) ran_);
+          runs_alone k c.args.shared.now.infos.now (view b) c.requires.seat.2 sender active (λ other. accounts_slot (view b) (knows other)) ran (view c.set_missed.new.cpu)
+          (subst (λ (v : View). Runs k.infos ran (view b) v) (sym makes_.2.knows) (runs_view makes_.1));
     }
 
 pub set_missed-requires-clause-slot : goal.set_missed-requires-clause-slot

@@ -1,8 +1,9 @@
 use Rattle.std.proofs.Common.{◌≡◌, ◌+◌, None, length}
-use Rattle.lq_table.specs.Sees.{view, known, setup, position, IsSeatOf}
+use Rattle.lq_table.specs.Sees.{view, setup, position, IsSeatOf}
 use Rattle.lq_qdisc.specs.Calls.{KeepsFates, IsKeptInRun, IsServing, IsSlotOf}
 use Rattle.lq_qdisc.specs.Direct.{position_in_run}
-use Rattle.lq_qdisc.specs.Steps.{SendsBy}
+use Rattle.lq_ring.specs.StepLists.{MakesStepsFrom}
+use Rattle.lq_qdisc.specs.StepLists.{SendEach}
 use Rattle.lq_qdisc.proofs.runs.run.Given as goal
 
 abbrev pub invariant-loop-sent : goal.invariant-loop-sent
@@ -16,6 +17,6 @@ invariant-loop-sent g l = record {
   slot : IsSlotOf l.shared l.cpu;
   trail : (view l.cpu).trail ≡ (view l.fn.cpu).trail;
   fates : KeepsFates (view l.fn.cpu) (view l.cpu);
-  sent : SendsBy (setup l.shared) l.sent (known l.fn.cpu) (known l.cpu);
+  makes : MakesStepsFrom (λ s. SendEach (setup l.shared) s l.sent) l.fn.cpu l.cpu;
   accepted : length (view l.cpu).holder.station.device.accepted ≡ length (view l.fn.cpu).holder.station.device.accepted + l.sent;
 }

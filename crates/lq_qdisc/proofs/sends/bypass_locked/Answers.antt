@@ -1,10 +1,10 @@
-use Rattle.std.proofs.Common.{◌≡◌, rules, Bool, true, false, if◌then◌else◌, inl, inr, refl, sym, ap, ◌∙◌, subst}
-use Rattle.lq_model.specs.Account.{Direct}
-use Rattle.lq_model.specs.Plan.{queue_in}
-use Rattle.lq_table.specs.Sees.{view, known, setup, heard, solo}
-use Rattle.lq_table.specs.States.{some_bit}
-use Rattle.lq_qdisc.specs.Steps.{DirectsBy, EnqueuesBy, gone}
-use Rattle.lq_table.specs.Views.{View, Known}
+use Rattle.std.proofs.Common.{rules, ◌∷◌, sym, ap, ◌∙◌}
+use Rattle.lq_ring.proofs.StepsThen.{makes_then}
+use Rattle.lq_table.specs.Sees.{view, setup}
+use Rattle.lq_table.specs.Step.{Recheck}
+use Rattle.lq_table.specs.Views.{View}
+use Rattle.lq_qdisc.specs.StepLists.{BypassLocked, EnqueueAndRunLocked, Passes, Waits, XmitBypass}
+use Rattle.lq_qdisc.proofs.ListLemmas.{from_there}
 use Rattle.lq_qdisc.proofs.SendLemmas.{IsLooked, KeepsCall, brings_looked_by, keeps_call, looked_from}
 use Rattle.lq_qdisc.proofs.TakeLemmas.{serving_same}
 use Rattle.lq_qdisc.proofs.sends.bypass_locked.Goals as goal
@@ -15,7 +15,7 @@ held : (g : _) (c : Then-is_non_empty g)
     → IsLooked c.args.shared.now c.args.n c.recheck-state.result c.args.cpu.now c.recheck-state.new.cpu
 held g c =
     let l = c.recheck-state.ensures in let e = l.waits (sym c.is_non_empty.ensures ∙ c.if-is_non_empty.true) in
-    looked_from c.args.shared.now c.args.n _ c.args.cpu.now c.recheck-state.new.cpu l.same e l.made c.requires.seat c.requires.may.brings
+    looked_from c.args.shared.now c.args.n _ c.args.cpu.now c.recheck-state.new.cpu l.same e c.requires.seat c.requires.may.brings
 
 -- and where nothing is, so that the packet goes past the bands
 past : (g : _) (c : Else-is_non_empty g) → KeepsCall c.args.shared.now c.args.cpu.now c.recheck-state.new.cpu
@@ -45,44 +45,21 @@ xmit_bypass-requires-clause-seat g c _ _ = (past g (goal.at.xmit_bypass-requires
 
 pub returns-then-is_non_empty : goal.returns-then-is_non_empty
 returns-then-is_non_empty g c =
-    let k = setup c.args.shared.now in let state = c.recheck-state.result in let s = c.enqueue_and_run_locked.ensures.steps in
-    let on : some_bit state ≡ true = sym c.is_non_empty.ensures ∙ c.if-is_non_empty.true in
+    let k = setup c.args.shared.now in let n = c.args.n in let r = c.recheck-state in let e = c.enqueue_and_run_locked in let m = e.ensures.makes in
     let held_ = held g (goal.at.returns-then-is_non_empty g c).Then-is_non_empty in
-    brings_looked_by c.args.shared.now c.args.n state c.enqueue_and_run_locked.result c.args.cpu.now c.recheck-state.new.cpu c.enqueue_and_run_locked.new.cpu held_ c.enqueue_and_run_locked.ensures
-    (inl (record {
-      state = state;
-      waits = on;
-      sees = c.recheck-state.ensures.sole;
-      put = s.0;
-      enqueued = subst (λ (x : Known). EnqueuesBy k c.args.n c.enqueue_and_run_locked.result x s.0) held_.all s.1;
-      served = s.2;
-    }))
+    brings_looked_by {to = λ s. BypassLocked k n s e.result} c.args.shared.now n r.result e.result c.args.cpu.now r.new.cpu e.new.cpu held_ e.ensures
+    (Recheck n r.result ∷ m.0, Waits (sym c.is_non_empty.ensures ∙ c.if-is_non_empty.true) (from_there (EnqueueAndRunLocked k n e.result) r.ensures.makes m.1), makes_then r.ensures.makes m.2)
 
 pub returns : goal.returns
 returns g c =
-    let k = setup c.args.shared.now in let state = c.recheck-state.result in let n = c.args.n in let v = view c.args.cpu.now in
-    let l = c.recheck-state.ensures in let m = known c.recheck-state.new.cpu in let x = c.xmit_bypass.ensures in let s = x.steps in
-    let clear : some_bit state ≡ false = sym c.is_non_empty.ensures ∙ c.if-is_non_empty.false in
-    let e : m ≡ gone n state (known c.args.cpu.now) = λ j. record { view = l.direct clear j; steps = l.made j } in
+    let k = setup c.args.shared.now in let n = c.args.n in let r = c.recheck-state in let x = c.xmit_bypass.ensures in
     let call = past g (goal.at.returns g c).Else-is_non_empty in record {
       kept = call.kept _ x.kept;
       fates = call.fates (view c.xmit_bypass.new.cpu) x.fates;
       at = x.at;
       free = x.free;
       came = search rules;
-      steps = inr (
-        refl,
-        record {
-          state = state;
-          clear = clear;
-          sees = l.sole;
-          step = ap solo (sym (l.direct clear)) ∙ (l.step ∙ ap (λ (b : Bool). if b then solo v else heard (Direct n) (solo v)) clear);
-          handed = s.0;
-          after = s.1;
-          direct = subst (λ (x : Known). DirectsBy k s.0 n (queue_in k.infos n) x s.1) e s.2;
-          follows = s.3;
-        },
-      );
+      makes = (Recheck n r.result ∷ x.makes.0, Passes (sym c.is_non_empty.ensures ∙ c.if-is_non_empty.false) (from_there (XmitBypass k n) r.ensures.makes x.makes.1), makes_then r.ensures.makes x.makes.2);
     }
 
 pub xmit_bypass-requires-clause-may : goal.xmit_bypass-requires-clause-may

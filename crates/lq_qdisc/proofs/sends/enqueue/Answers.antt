@@ -1,16 +1,20 @@
-use Rattle.std.proofs.Common.{rules, ◌≡◌, ℕ, ◌+◌, ◌<◌, List, length, get_or, sym, ap, ◌∙◌, subst}
+use Rattle.std.proofs.Common.{rules, ◌≡◌, ℕ, ◌+◌, ◌<◌, List, [], ◌∷◌, ◌++◌, Ok, Err, length, get_or, sym, ap, ◌∙◌, subst}
 use Rattle.std.specs.Option.{option_map_or}
 use Rattle.std.specs.Prelude.{Option}
 use Rattle.std.proofs.lemmas.Option.{slice_get-get_or}
 use Rattle.lq_model.specs.Plan.{band_in}
 use Rattle.lq_model.specs.declared.fate.Info.{Info}
-use Rattle.lq_table.specs.Sees.{view, known, setup, solo}
+use Rattle.lq_table.specs.Sees.{view, solo}
 use Rattle.lq_table.specs.Producers.{SeesEnd}
 use Rattle.lq_table.specs.Fates.{settle_view_owed}
 use Rattle.lq_table.specs.Views.{View}
-use Rattle.lq_qdisc.specs.Sends.{Enqueues}
+use Rattle.lq_qdisc.specs.Outcomes.{Enqueues}
 use Rattle.lq_qdisc.specs.declared.answers.Sending.TheVariants as sending
-use Rattle.lq_ring.specs.Steps.{FindsFull, Puts}
+use Rattle.lq_model.specs.declared.fate.Fate.TheVariants as fate
+use Rattle.lq_run.proofs.StepsThen.{makes_then}
+use Rattle.lq_ring.specs.StepLists.{Produce}
+use Rattle.lq_table.specs.Step.{Settle}
+use Rattle.lq_qdisc.specs.StepLists.{DropsFull, PutsIn}
 use Rattle.lq_qdisc.proofs.sends.enqueue.Goals as goal
 
 -- what was read of a packet is its band
@@ -18,28 +22,37 @@ band_read : (infos read : List Info) (n : ℕ) (d : Info) → read ≡ infos →
 band_read infos read n d e within = ap (λ (xs : List Info). (get_or xs n d).band) e ∙ sym (ap (λ (o : Option Info). option_map_or (λ (info : Info). info.band) o 0) (slice_get-get_or infos n d within))
 
 pub settle-requires-clause-may : goal.settle-requires-clause-may
-settle-requires-clause-may g c _ _ = ap (λ (v : View). v.packets.owed) c.in-Err.ensures.puts.0
+settle-requires-clause-may g c _ _ = ap (λ (v : View). v.packets.owed) c.in-Err.ensures.knows
 
 pub returns-in-Ok : goal.returns-in-Ok
 returns-in-Ok g c = record {
   same = search rules;
   at = search rules;
-  put =
-      let e = c.in-Ok.ensures in let old = known c.args.cpu.now in let new = known c.produce.new.cpu in
-      subst (λ (b : ℕ). Enqueues c.args.n b sending.Queued old.view new.view × Puts (setup c.args.shared.now) b c.args.n old new)
-      (band_read c.args.shared.now.infos.now c.infos.result.now c.args.n _ c.infos.ensures c.requires.may.1.brings.0) ((e.puts.0, e.sole, e.step), e.puts);
+  came =
+      let e = c.in-Ok.ensures in
+      subst (λ (b : ℕ). Enqueues c.args.n b sending.Queued (view c.args.cpu.now) (view c.produce.new.cpu))
+      (band_read c.args.shared.now.infos.now c.infos.result.now c.args.n _ c.infos.ensures c.requires.may.1.brings.0) (e.knows, e.sole, e.step);
+  makes =
+      let m = c.in-Ok.ensures.makes in
+      (m.0, PutsIn (subst (λ (b : ℕ). Produce b c.args.n (Ok tt) m.0) (band_read c.args.shared.now.infos.now c.infos.result.now c.args.n _ c.infos.ensures c.requires.may.1.brings.0) m.1), m.2);
 }
 
 pub returns-in-Err : goal.returns-in-Err
 returns-in-Err g c = record {
   same = search rules;
   at = search rules;
-  put =
-      let e = c.in-Err.ensures in let s = c.settle.ensures in let old = known c.args.cpu.now in let full = known c.produce.new.cpu in let k = setup c.args.shared.now in let seen = c.in-Err.full.seen in
-      let settled : view c.settle.new.cpu ≡ settle_view_owed full.view = s.settled in let step : solo (view c.settle.new.cpu) ≡ solo full.view = s.step in
-      let all = subst (λ (b : ℕ). FindsFull k b c.args.n seen old full × SeesEnd b old.view (seen + 1))
-      (band_read c.args.shared.now.infos.now c.infos.result.now c.args.n _ c.infos.ensures c.requires.may.1.brings.0) (e.puts, e.sole) in
-      ((settled ∙ ap settle_view_owed e.puts.0, all.1, step ∙ e.step), full, all.0, s.made);
+  came =
+      let e = c.in-Err.ensures in let s = c.settle.ensures in let full = view c.produce.new.cpu in let seen = c.in-Err.full.seen in
+      let settled : view c.settle.new.cpu ≡ settle_view_owed full = s.settled in let step : solo (view c.settle.new.cpu) ≡ solo full = s.step in
+      let sees = subst (λ (b : ℕ). SeesEnd b (view c.args.cpu.now) (seen + 1))
+      (band_read c.args.shared.now.infos.now c.infos.result.now c.args.n _ c.infos.ensures c.requires.may.1.brings.0) e.sole in
+      (settled ∙ ap settle_view_owed e.knows, sees, step ∙ e.step);
+  makes =
+      let m = c.in-Err.ensures.makes in let full = c.in-Err.full in (
+        m.0 ++ Settle c.args.n (fate.Full full.seen) ∷ [],
+        DropsFull (subst (λ (b : ℕ). Produce b c.args.n (Err full) m.0) (band_read c.args.shared.now.infos.now c.infos.result.now c.args.n _ c.infos.ensures c.requires.may.1.brings.0) m.1),
+        makes_then m.2 c.settle.ensures.makes,
+      );
 }
 
 pub produce-requires-clause-may : goal.produce-requires-clause-may

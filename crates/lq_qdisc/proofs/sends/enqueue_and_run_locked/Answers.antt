@@ -1,8 +1,10 @@
 use Rattle.std.proofs.Common.{rules, true}
 use Rattle.lq_model.specs.Plan.{band_in}
-use Rattle.lq_table.specs.Sees.{view, known, setup}
+use Rattle.lq_table.specs.Sees.{view, setup}
 use Rattle.lq_qdisc.proofs.RunLemmas.{fates_then}
-use Rattle.lq_qdisc.proofs.ViewLemmas.{enqueues_view}
+use Rattle.lq_qdisc.specs.Outcomes.{Enqueues}
+use Rattle.lq_qdisc.specs.StepLists.{RunToEnd}
+use Rattle.lq_qdisc.proofs.ListLemmas.{comes_to, then_makes}
 use Rattle.lq_qdisc.proofs.SendLemmas.{put_fates}
 use Rattle.lq_qdisc.proofs.sends.enqueue_and_run_locked.Goals as goal
 
@@ -13,9 +15,11 @@ pub returns : goal.returns
 returns g c =
     let infos = c.args.shared.now.infos.now in let put = view c.enqueue-sending.new.cpu in record {
       kept = search rules;
-      fates = fates_then (view c.args.cpu.now) put (view c.run_to_end.new.cpu) (put_fates c.args.n (band_in infos c.args.n) c.enqueue-sending.result (view c.args.cpu.now) put (enqueues_view (setup c.args.shared.now) c.args.n c.enqueue-sending.result (known c.args.cpu.now) (known c.enqueue-sending.new.cpu) c.enqueue-sending.ensures.put)) c.run_to_end.ensures.fates;
+      fates = fates_then (view c.args.cpu.now) put (view c.run_to_end.new.cpu) (put_fates c.args.n (band_in infos c.args.n) c.enqueue-sending.result (view c.args.cpu.now) put c.enqueue-sending.ensures.came) c.run_to_end.ensures.fates;
       at = search rules;
       free = search rules;
       came = search rules;
-      steps = (known c.enqueue-sending.new.cpu, c.enqueue-sending.ensures.put, c.run_to_end.ensures.steps);
+      makes =
+          let k = setup c.args.shared.now in let e = c.enqueue-sending in
+          then_makes {two = RunToEnd k} c.args.cpu.now e.new.cpu c.run_to_end.new.cpu (comes_to (Enqueues c.args.n (band_in infos c.args.n) e.result) c.args.cpu.now e.new.cpu e.ensures.makes e.ensures.came) c.run_to_end.ensures.makes;
     }

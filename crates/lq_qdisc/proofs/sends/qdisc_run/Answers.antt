@@ -1,5 +1,7 @@
 use Rattle.std.proofs.Common.{rules, inl, inr, ◌∙◌}
-use Rattle.lq_table.specs.Sees.{view, known}
+use Rattle.lq_table.specs.Sees.{view, setup}
+use Rattle.lq_qdisc.specs.StepLists.{RunToEnd}
+use Rattle.lq_qdisc.proofs.ListLemmas.{then_makes}
 use Rattle.lq_qdisc.proofs.RunLemmas.{fates_same}
 use Rattle.lq_qdisc.proofs.SendLemmas.{LeavesTheRest, serves_then}
 use Rattle.lq_qdisc.proofs.TakeLemmas.{seat_same}
@@ -11,7 +13,7 @@ returns-then-begin g c =
     let b = c.begin.ensures in let k = b.kept.0 in
     let calm : LeavesTheRest c.args.cpu.now c.begin.new.cpu = record { seat = k.0; share = k.1; packets = k.2; control = k.4; turns = k.7; trail = k.9; told = k.5; settled = k.8 } in
     serves_then c.args.cpu.now c.begin.new.cpu c.run_to_end.new.cpu calm c.run_to_end.ensures
-    (inr (known c.begin.new.cpu, gets_lock c.args.cpu.now c.begin.new.cpu c.begin.result c.if-begin.true b.kept.0 b.kept.1 (b.got c.if-begin.true).0 b.sole b.begins, c.run_to_end.ensures.steps))
+    (let m = then_makes {two = RunToEnd (setup c.args.shared.now)} c.args.cpu.now c.begin.new.cpu c.run_to_end.new.cpu (gets_lock c.args.cpu.now c.begin.new.cpu c.begin.result c.if-begin.true b.kept.0 b.kept.1 (b.got c.if-begin.true).0 b.sole b.makes) c.run_to_end.ensures.makes in (m.0, inr m.1, m.2))
 
 pub returns-else-begin : goal.returns-else-begin
 returns-else-begin g c = let b = c.begin.ensures in let k = b.kept.0 in record {
@@ -20,7 +22,7 @@ returns-else-begin g c = let b = c.begin.ensures in let k = b.kept.0 in record {
   at = search rules;
   free = search rules;
   came = record { share = k.1; packets = k.2; turns = k.7; trail = k.9 };
-  steps = inl (misses c.args.cpu.now c.begin.new.cpu c.begin.result c.if-begin.false b.kept.0 b.kept.1 (b.missed c.if-begin.false).0 b.sole b.begins);
+  makes = let m = misses c.args.cpu.now c.begin.new.cpu c.begin.result c.if-begin.false b.kept.0 b.kept.1 (b.missed c.if-begin.false).0 b.sole b.makes in (m.0, inl m.1, m.2);
 }
 
 pub run_to_end-requires-clause-seat : goal.run_to_end-requires-clause-seat

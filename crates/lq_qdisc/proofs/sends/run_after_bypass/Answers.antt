@@ -1,20 +1,25 @@
-use Rattle.std.proofs.Common.{◌≡◌, rules, true, inl, sym, ap, ◌∙◌, subst}
-use Rattle.lq_table.specs.Sees.{known, setup, solo}
-use Rattle.lq_table.specs.Views.{View, Known}
+use Rattle.std.proofs.Common.{◌≡◌, ◌≢◌, rules, true, refl, List, ◌∷◌, sym, ap, ◌∙◌, subst}
+use Rattle.lq_ring.proofs.StepsThen.{makes_then}
+use Rattle.lq_ring.specs.StepLists.{MakesStepsFrom}
+use Rattle.lq_table.specs.Sees.{setup}
+use Rattle.lq_table.specs.Step.{LoadState, Standing, Step}
+use Rattle.lq_table.specs.Views.{Setup, View}
 use Rattle.lq_table.specs.States.{some_bit}
-use Rattle.lq_qdisc.specs.Steps.{RunAfterBypass, RunsToEndBy, with_state_loaded}
+use Rattle.lq_qdisc.specs.StepLists.{EndsAfter, EndsAtOnce, Release, RunAfterBypass, RunToEnd, ServesAfter}
+use Rattle.lq_qdisc.proofs.LockLemmas.{releases}
+use Rattle.lq_qdisc.proofs.ListLemmas.{from_there}
 use Rattle.lq_qdisc.specs.declared.answers.Through.{Through}
-use Rattle.lq_qdisc.specs.declared.answers.Through.TheVariants.{Yes}
+use Rattle.lq_qdisc.specs.declared.answers.Through.TheVariants.{Back, Yes}
 use Rattle.lq_qdisc.proofs.SendLemmas.{LeavesTheRest, serves_then}
 use Rattle.lq_qdisc.proofs.TakeLemmas.{seat_same, serving_same}
 use Rattle.lq_qdisc.proofs.sends.run_after_bypass.Goals as goal
+use Rattle.lq_qdisc.proofs.sends.run_after_bypass.Goals.{else-eq-via-then-eq+else-is_non_empty, else-eq-via-else-eq}
 
 pub returns-then-is_non_empty : goal.returns-then-is_non_empty
 returns-then-is_non_empty g c =
     let k = setup c.args.shared.now in let state = c.load_state.result in let l = c.load_state.ensures in let v = l.view in
     let is : c.args.through ≡ Yes = (search rules) in
     let some_ : some_bit state ≡ true = sym c.is_non_empty.ensures ∙ c.if-is_non_empty.true in
-    let e : known c.load_state.new.cpu ≡ with_state_loaded state (known c.args.cpu.now) = λ j. record { view = l.view j; steps = l.made j } in
     let calm : LeavesTheRest c.args.cpu.now c.load_state.new.cpu = record {
       seat = l.same.0;
       share = ap (λ (x : View). x.share) v;
@@ -26,8 +31,8 @@ returns-then-is_non_empty g c =
       settled = ap (λ (x : View). x.settled) v;
     } in
     serves_then c.args.cpu.now c.load_state.new.cpu c.run_to_end.new.cpu calm c.run_to_end.ensures
-    (subst (λ (t : Through). RunAfterBypass k t (known c.args.cpu.now) (known c.run_to_end.new.cpu)) (sym is)
-    (state, l.sole, ap solo (sym l.view) ∙ l.step, inl (some_, subst (λ (x : Known). RunsToEndBy k x (known c.run_to_end.new.cpu)) e c.run_to_end.ensures.steps)))
+    (subst (λ (t : Through). MakesStepsFrom (λ s. RunAfterBypass k s t) c.args.cpu.now c.run_to_end.new.cpu) (sym is)
+    (let m = c.run_to_end.ensures.makes in (LoadState state ∷ m.0, ServesAfter some_ (from_there (RunToEnd k) l.makes m.1), makes_then l.makes m.2)))
 
 pub run_to_end-requires-clause-seat : goal.run_to_end-requires-clause-seat
 run_to_end-requires-clause-seat g c _ _ = let l = c.load_state.ensures in seat_same c.args.shared.now c.args.cpu.now c.load_state.new.cpu l.same.0 (ap (λ (v : View). v.share) l.view) c.requires.seat
@@ -42,3 +47,22 @@ run_to_end-requires-clause-may g c _ _ = let l = c.load_state.ensures in record 
   };
   begun = search rules;
 }
+
+-- a packet that wasn't accepted
+ends_back : {k : Setup} {before : Standing} {xs : List Step} (t : Through) → t ≢ Yes → Release before xs → RunAfterBypass k before t xs
+ends_back Yes other r = absurd (other refl)
+ends_back (Back reason) other r = EndsAtOnce r
+
+pub returns-else-eq : goal.returns-else-eq
+returns-else-eq g c =
+    let k = setup c.args.shared.now in let b = c.args.cpu.now in let a = c.end.new.cpu in let kept = c.end.ensures.kept in
+    let ends : MakesStepsFrom Release c.else-eq.cpu a = releases c.else-eq.cpu a kept.0 kept.1 c.end.ensures.sole c.end.ensures.makes in
+    let makes_ : MakesStepsFrom (λ s. RunAfterBypass k s c.args.through) b a = elim c.else-eq.branch [
+      | else-eq-via-then-eq+else-is_non_empty w ↦
+          let l = w.load_state in let r = subst (λ z. MakesStepsFrom Release z a) w.cpu-is ends in let is : c.args.through ≡ Yes = (search rules) in
+          subst (λ (t : Through). MakesStepsFrom (λ s. RunAfterBypass k s t) b a) (sym is)
+          (LoadState l.result ∷ r.0, EndsAfter (sym w.is_non_empty.ensures ∙ w.if-is_non_empty.false) (from_there Release l.ensures.makes r.1), makes_then l.ensures.makes r.2)
+      | else-eq-via-else-eq w ↦
+          let r = subst (λ z. MakesStepsFrom Release z a) w.cpu-is ends in let other : c.args.through ≢ Yes = (search rules) in
+          (r.0, ends_back c.args.through other r.1, r.2)
+    ] in record { kept = search rules; fates = search rules; at = search rules; free = search rules; came = search rules; makes = makes_ }

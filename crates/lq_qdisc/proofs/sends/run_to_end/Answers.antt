@@ -1,5 +1,8 @@
 use Rattle.std.proofs.Common.{rules}
-use Rattle.lq_table.specs.Sees.{known}
+use Rattle.lq_table.specs.Sees.{setup}
+use Rattle.lq_qdisc.specs.StepLists.{QdiscRunLocked}
+use Rattle.lq_qdisc.proofs.ListLemmas.{then_makes}
+use Rattle.lq_qdisc.proofs.LockLemmas.{releases}
 use Rattle.lq_qdisc.proofs.sends.run_to_end.Goals as goal
 
 pub returns : goal.returns
@@ -9,11 +12,6 @@ returns g c = let kept = c.end.ensures.kept in record {
   at = search rules;
   free = search rules;
   came = search rules;
-  steps = record {
-    ran = c.run.result;
-    last = known c.run.new.cpu;
-    runs = c.run.ensures.ran;
-    share = c.run.ensures.kept.share;
-    ended = (record { calm = record { share = kept.0.1; state = kept.1; settled = kept.0.8 }; sole = c.end.ensures.sole }, c.end.ensures.ends);
-  };
+  makes = let m = then_makes {one = λ s. QdiscRunLocked (setup c.args.shared.now) s c.run.result} c.args.cpu.now c.run.new.cpu c.end.new.cpu c.run.ensures.makes (releases c.run.new.cpu c.end.new.cpu kept.0 kept.1 c.end.ensures.sole c.end.ensures.makes) in
+      (m.0, (c.run.result, m.1), m.2);
 }

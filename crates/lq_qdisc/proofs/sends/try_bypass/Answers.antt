@@ -1,5 +1,7 @@
 use Rattle.std.proofs.Common.{inl, inr}
-use Rattle.lq_table.specs.Sees.{known}
+use Rattle.lq_table.specs.Sees.{setup}
+use Rattle.lq_qdisc.specs.StepLists.{BypassLocked, EnqueueAndRun}
+use Rattle.lq_qdisc.proofs.ListLemmas.{then_makes}
 use Rattle.lq_qdisc.proofs.SendLemmas.{LeavesTheRest, brings_then}
 use Rattle.lq_qdisc.proofs.TakeLemmas.{seat_same}
 use Rattle.lq_qdisc.proofs.LockLemmas.{gets_lock, misses}
@@ -10,14 +12,14 @@ returns-then-begin g c =
     let b = c.begin.ensures in let k = b.kept.0 in let r = c.bypass_locked in
     let calm : LeavesTheRest c.args.cpu.now c.begin.new.cpu = record { seat = k.0; share = k.1; packets = k.2; control = k.4; turns = k.7; trail = k.9; told = k.5; settled = k.8 } in
     brings_then c.args.shared.now.infos.now c.args.n r.result c.args.cpu.now c.begin.new.cpu r.new.cpu calm r.ensures
-    (inr (known c.begin.new.cpu, gets_lock c.args.cpu.now c.begin.new.cpu c.begin.result c.if-begin.true b.kept.0 b.kept.1 (b.got c.if-begin.true).0 b.sole b.begins, r.ensures.steps))
+    (let m = then_makes {two = λ s. BypassLocked (setup c.args.shared.now) c.args.n s r.result} c.args.cpu.now c.begin.new.cpu r.new.cpu (gets_lock c.args.cpu.now c.begin.new.cpu c.begin.result c.if-begin.true b.kept.0 b.kept.1 (b.got c.if-begin.true).0 b.sole b.makes) r.ensures.makes in (m.0, inr m.1, m.2))
 
 pub returns-else-begin : goal.returns-else-begin
 returns-else-begin g c =
     let b = c.begin.ensures in let k = b.kept.0 in let r = c.enqueue_and_run in
     let calm : LeavesTheRest c.args.cpu.now c.begin.new.cpu = record { seat = k.0; share = k.1; packets = k.2; control = k.4; turns = k.7; trail = k.9; told = k.5; settled = k.8 } in
     brings_then c.args.shared.now.infos.now c.args.n r.result c.args.cpu.now c.begin.new.cpu r.new.cpu calm r.ensures
-    (inl (known c.begin.new.cpu, misses c.args.cpu.now c.begin.new.cpu c.begin.result c.if-begin.false b.kept.0 b.kept.1 (b.missed c.if-begin.false).0 b.sole b.begins, r.ensures.steps))
+    (let m = then_makes {two = EnqueueAndRun (setup c.args.shared.now) c.args.n r.result} c.args.cpu.now c.begin.new.cpu r.new.cpu (misses c.args.cpu.now c.begin.new.cpu c.begin.result c.if-begin.false b.kept.0 b.kept.1 (b.missed c.if-begin.false).0 b.sole b.makes) r.ensures.makes in (m.0, inl m.1, m.2))
 
 pub bypass_locked-requires-clause-seat : goal.bypass_locked-requires-clause-seat
 bypass_locked-requires-clause-seat g c _ _ = let k = c.begin.ensures.kept.0 in seat_same c.args.shared.now c.args.cpu.now c.begin.new.cpu k.0 k.1 c.requires.seat

@@ -1,7 +1,9 @@
 use Rattle.std.proofs.Common.{rules, true}
 use Rattle.lq_model.specs.Plan.{queue_in}
-use Rattle.lq_table.specs.Sees.{view, known, setup}
-use Rattle.lq_qdisc.proofs.ViewLemmas.{directs_view}
+use Rattle.lq_table.specs.Sees.{view, setup}
+use Rattle.lq_qdisc.specs.Direct.{Directs}
+use Rattle.lq_qdisc.specs.StepLists.{RunAfterBypass}
+use Rattle.lq_qdisc.proofs.ListLemmas.{comes_to, then_makes}
 use Rattle.lq_qdisc.proofs.RunLemmas.{directs_fates, fates_then}
 use Rattle.lq_qdisc.proofs.sends.xmit_bypass.Goals as goal
 
@@ -12,9 +14,12 @@ pub returns : goal.returns
 returns g c =
     let infos = c.args.shared.now.infos.now in let handed = view c.direct_xmit-through.new.cpu in record {
       kept = search rules;
-      fates = fates_then (view c.args.cpu.now) handed (view c.run_after_bypass.new.cpu) (directs_fates c.direct_xmit-through.result c.args.n (queue_in infos c.args.n) (view c.args.cpu.now) handed (directs_view (setup c.args.shared.now) c.direct_xmit-through.result c.args.n (queue_in infos c.args.n) (known c.args.cpu.now) (known c.direct_xmit-through.new.cpu) c.direct_xmit-through.ensures.steps)) c.run_after_bypass.ensures.fates;
+      fates = fates_then (view c.args.cpu.now) handed (view c.run_after_bypass.new.cpu) (directs_fates c.direct_xmit-through.result c.args.n (queue_in infos c.args.n) (view c.args.cpu.now) handed c.direct_xmit-through.ensures.came) c.run_after_bypass.ensures.fates;
       at = search rules;
       free = search rules;
       came = search rules;
-      steps = (c.direct_xmit-through.result, known c.direct_xmit-through.new.cpu, c.direct_xmit-through.ensures.steps, c.run_after_bypass.ensures.steps);
+      makes =
+          let k = setup c.args.shared.now in let t = c.direct_xmit-through.result in let d = c.direct_xmit-through in
+          let m = then_makes {two = λ s. RunAfterBypass k s t} c.args.cpu.now d.new.cpu c.run_after_bypass.new.cpu (comes_to (Directs t c.args.n (queue_in infos c.args.n)) c.args.cpu.now d.new.cpu d.ensures.makes d.ensures.came) c.run_after_bypass.ensures.makes in
+          (m.0, (t, m.1), m.2);
     }

@@ -1,14 +1,17 @@
-use Rattle.std.proofs.Common.{◌≡◌, ℕ, arith, rules, true, false, not, sym, ap, ◌∙◌, [], ◌∷◌, ◌&&◌, subst, List}
-use Rattle.lq_table.specs.Sees.{view, known, setup, packet_at}
-use Rattle.lq_table.specs.States.{some_bit, check_view_refused}
-use Rattle.lq_table.specs.Made.{Made, ◌⊳◌}
-use Rattle.lq_table.specs.Fates.{settle_log, settle_view_owed}
-use Rattle.lq_model.specs.Words.{word_of}
-use Rattle.lq_qdisc.specs.Steps.{EnqueueAndRun, TryBypass}
+use Rattle.std.proofs.Common.{◌≡◌, ℕ, arith, rules, true, false, not, sym, ap, ◌∙◌, [], ◌∷◌, ◌&&◌, subst, ◌-◌, ◌/◌}
+use Rattle.lq_ring.proofs.StepsThen.{makes_then}
+use Rattle.lq_table.specs.Sees.{view, setup, packet_at}
+use Rattle.lq_table.specs.States.{some_bit}
+use Rattle.lq_table.specs.Step.{Check, MakesSteps, Settle}
+use Rattle.lq_table.specs.Fates.{settle_view_owed}
 use Rattle.lq_model.specs.declared.fate.Fate.TheVariants.{Refused}
-use Rattle.lq_table.specs.Views.{Setup, View, Known}
+use Rattle.lq_table.specs.Views.{Setup, View}
+use Rattle.lq_qdisc.specs.StepLists.{EnqueueAndRun, IsDown, MayNotPass, MayPass, TryBypass, XmitSkb}
+use Rattle.lq_ring.specs.StepLists.{MakesStepsFrom}
+use Rattle.lq_qdisc.specs.declared.answers.Sending.{Sending}
+use Rattle.lq_qdisc.specs.declared.answers.Sending.TheVariants as sending
+use Rattle.lq_qdisc.proofs.ListLemmas.{from_there}
 use Rattle.lq_table.specs.Moves.{is_set}
-use Rattle.std.proofs.lemmas.Bool.{true≢false}
 use Rattle.lq_qdisc.proofs.SendLemmas.{IsLooked, brings_looked_by, checked_leads, looked_from}
 use Rattle.lq_qdisc.proofs.sends.xmit_skb.Goals as goal
 use Rattle.lq_qdisc.proofs.sends.xmit_skb.Goals.{Else-is_deactivated}
@@ -18,7 +21,7 @@ use Rattle.lq_qdisc.proofs.sends.xmit_skb.Goals.{else-bypass-via-else-bypass, el
 active : (g : _) (c : Else-is_deactivated g) → IsLooked c.args.shared.now c.args.n c.check-state.result c.args.cpu.now c.check-state.new.cpu
 active g c =
     let l = c.check-state.ensures in let e = l.active (sym c.is_deactivated.ensures ∙ c.if-is_deactivated.false) in
-    looked_from c.args.shared.now c.args.n _ c.args.cpu.now c.check-state.new.cpu l.same e l.made c.requires.seat c.requires.may.brings
+    looked_from c.args.shared.now c.args.n _ c.args.cpu.now c.check-state.new.cpu l.same e c.requires.seat c.requires.may.brings
 
 pub try_bypass-requires-clause-seat : goal.try_bypass-requires-clause-seat
 try_bypass-requires-clause-seat g c _ _ = (active g (goal.at.try_bypass-requires-clause-seat g c).Else-is_deactivated).call.seat
@@ -47,30 +50,17 @@ returns-then-is_deactivated g c =
     let k = setup c.args.shared.now in let state = c.check-state.result in let n = c.args.n in let v = view c.args.cpu.now in
     let l = c.check-state.ensures in let r = c.refuse.ensures.event in
     let on : is_set 2 state ≡ true = sym c.is_deactivated.ensures ∙ c.if-is_deactivated.true in let s = l.refused on in
-    let same : s.0 ≡ r.0 = (let a = s.2 in let b = s.4 in let d = r.2 in let e = r.3 in omega arith) in
     let settled = ap (λ (v : View). v.settled) c.refuse.ensures.settled ∙ ap (λ (v : View). (settle_view_owed v).settled) s.5 in record {
       kept = search rules;
       fates = ((n, Refused s.0) ∷ [], settled);
       at = search rules;
       free = search rules;
       came = search rules;
-      steps = record {
-        state = state;
-        sees = l.sole;
-        first = l.first;
-        refused = λ _. (
-          r.0,
-          r.4,
-          (
-            on,
-            (r.1, r.2, r.3),
-            c.refuse.ensures.settled ∙ (ap (λ (x : View). settle_view_owed x) s.5 ∙ ap (λ (event : ℕ). settle_view_owed (check_view_refused n event state v)) same),
-          ),
-          r.5 ∙ ap (λ (xs : List Made). xs ⊳ settle_log k n (word_of (Refused r.0))) l.made,
-        );
-        past = λ off. absurd (true≢false (sym on ∙ off));
-        through = λ off. absurd (true≢false (sym on ∙ off));
-      };
+      makes =
+          let event : r.0 ≡ state / 256 - 1 = (let d = r.2 in let e = r.3 in omega arith) in let b = c.args.cpu.now in let w = c.refuse.new.cpu in
+          let refuses = subst (λ (e : ℕ). MakesSteps (Settle n (Refused e) ∷ []) c.check-state.new.cpu w) event r.5 in
+          subst (λ (answer : Sending). MakesStepsFrom (λ z. XmitSkb k n z answer) b w) (sym (r.4 ∙ ap (λ (e : ℕ). sending.Refused e) event))
+          (Check n state ∷ Settle n (Refused (state / 256 - 1)) ∷ [], IsDown on, makes_then c.check-state.ensures.makes refuses);
     }
 
 pub returns-then-not-is_non_empty : goal.returns-then-not-is_non_empty
@@ -80,15 +70,10 @@ returns-then-not-is_non_empty g c =
     let bypass : c.args.shared.now.bypass ≡ true = sym c.bypass.ensures ∙ c.if-bypass.true in
     let clear : some_bit state ≡ false = sym c.is_non_empty.ensures ∙ c.if-not-is_non_empty.true in
     let may : c.args.shared.now.bypass && not (some_bit state) ≡ true = (λ j. bypass j && not (clear j)) in
-    let known_ = active g (goal.at.returns-then-not-is_non_empty g c).Else-is_deactivated in let e = known_.all in let tried = c.try_bypass in
-    brings_looked_by c.args.shared.now c.args.n state tried.result c.args.cpu.now c.check-state.new.cpu tried.new.cpu known_ tried.ensures (record {
-      state = state;
-      sees = l.sole;
-      first = l.first;
-      refused = λ on. absurd (true≢false (sym on ∙ off));
-      past = λ _ _. subst (λ (x : Known). TryBypass k c.args.n tried.result x (known tried.new.cpu)) e tried.ensures.steps;
-      through = λ _ not_. absurd (true≢false (sym may ∙ not_));
-    })
+    let known_ = active g (goal.at.returns-then-not-is_non_empty g c).Else-is_deactivated in let tried = c.try_bypass in
+    let m = tried.ensures.makes in
+    brings_looked_by {to = λ s. XmitSkb k c.args.n s tried.result} c.args.shared.now c.args.n state tried.result c.args.cpu.now c.check-state.new.cpu tried.new.cpu known_ tried.ensures
+    (Check c.args.n state ∷ m.0, MayPass off may (from_there (TryBypass k c.args.n tried.result) l.makes m.1), makes_then l.makes m.2)
 
 pub returns : goal.returns
 returns g c =
@@ -99,15 +84,10 @@ returns g c =
           (λ j. (sym c.bypass.ensures ∙ w.if-bypass.true) j && not ((sym w.is_non_empty.ensures ∙ w.if-not-is_non_empty.false) j))
       | else-bypass-via-else-bypass w ↦ (λ j. (sym c.bypass.ensures ∙ w.if-bypass.false) j && not (some_bit state))
     ] in
-    let known_ = active g (goal.at.returns g c).Else-is_deactivated in let e = known_.all in let s = c.enqueue_and_run in
-    brings_looked_by c.args.shared.now c.args.n state s.result c.args.cpu.now c.check-state.new.cpu s.new.cpu known_ s.ensures (record {
-      state = state;
-      sees = l.sole;
-      first = l.first;
-      refused = λ on. absurd (true≢false (sym on ∙ off));
-      past = λ _ may. absurd (true≢false (sym may ∙ may_not));
-      through = λ _ _. subst (λ (x : Known). EnqueueAndRun k c.args.n s.result x (known s.new.cpu)) e s.ensures.steps;
-    })
+    let known_ = active g (goal.at.returns g c).Else-is_deactivated in let s = c.enqueue_and_run in
+    let m = s.ensures.makes in
+    brings_looked_by {to = λ z. XmitSkb k c.args.n z s.result} c.args.shared.now c.args.n state s.result c.args.cpu.now c.check-state.new.cpu s.new.cpu known_ s.ensures
+    (Check c.args.n state ∷ m.0, MayNotPass off may_not (from_there (EnqueueAndRun k c.args.n s.result) l.makes m.1), makes_then l.makes m.2)
 
 pub try_bypass-requires-clause-may : goal.try_bypass-requires-clause-may
 try_bypass-requires-clause-may g c _ _ =

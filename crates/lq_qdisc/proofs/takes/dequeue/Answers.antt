@@ -1,7 +1,7 @@
-use Rattle.std.proofs.Common.{rules, ℕ, sym, ◌∙◌, subst, Option, inl, arith}
-use Rattle.lq_table.specs.Sees.{view, known, setup}
+use Rattle.std.proofs.Common.{rules, ℕ, sym, ◌∙◌, subst, Option, arith}
+use Rattle.lq_table.specs.Sees.{view, setup}
 use Rattle.lq_table.specs.Moves.{IsKnownSlot}
-use Rattle.lq_qdisc.specs.Steps.{DequeuesFrom}
+use Rattle.lq_qdisc.specs.StepLists.{LooksAtBands}
 use Rattle.lq_qdisc.proofs.TakeLemmas.{looks_dequeue}
 use Rattle.lq_qdisc.proofs.takes.dequeue.Goals as goal
 
@@ -18,15 +18,8 @@ returns-in-Some g c = record {
   at = search rules;
   fates = search rules;
   packet = search rules;
-  steps = (
-    (
-        record {
-          comes_to = c.dequeue_requeued.ensures.steps.0;
-          by = subst (λ (o : Option ℕ). DequeuesFrom (setup c.args.shared.now) o c.dequeue_requeued.result (known c.args.cpu.now) (known c.dequeue_requeued.new.cpu)) (sym (sym c.requeued.ensures ∙ c.in-Some.is)) c.dequeue_requeued.ensures.steps.1;
-        }
-        ),
-    search rules,
-  );
+  came = c.dequeue_requeued.ensures.came;
+  makes = c.dequeue_requeued.ensures.makes;
 }
 
 pub returns-then-queues-gt1 : goal.returns-then-queues-gt1
@@ -37,15 +30,14 @@ returns-then-queues-gt1 g c = record {
   at = search rules;
   fates = search rules;
   packet = search rules;
-  steps = (
-    (
-        let k = setup c.args.shared.now in let none_ = sym c.requeued.ensures ∙ c.in_default.is in let more = c.if-queues-gt1.true in let is = c.queues.ensures in record {
-          comes_to = looks_dequeue k.infos c.dequeue_bands.result (view c.args.cpu.now) (view c.dequeue_bands.new.cpu) none_ c.dequeue_bands.ensures.steps.0;
-          by = subst (λ (o : Option ℕ). DequeuesFrom k o c.dequeue_bands.result (known c.args.cpu.now) (known c.dequeue_bands.new.cpu)) (sym none_) (inl (λ one. absurd (omega (arith, more, is, one)), c.dequeue_bands.ensures.steps.1));
-        }
-        ),
+  came = (
+    looks_dequeue c.args.shared.now.infos.now c.dequeue_bands.result (view c.args.cpu.now) (view c.dequeue_bands.new.cpu) (sym c.requeued.ensures ∙ c.in_default.is) c.dequeue_bands.ensures.came,
+    search rules,
     search rules,
   );
+  makes =
+      let more = c.if-queues-gt1.true in let is = c.queues.ensures in let m = c.dequeue_bands.ensures.makes in
+      (m.0, LooksAtBands (sym c.requeued.ensures ∙ c.in_default.is) (λ one. absurd (omega (arith, more, is, one))) m.1, m.2);
 }
 
 pub returns : goal.returns
@@ -56,13 +48,6 @@ returns g c = record {
   at = search rules;
   fates = search rules;
   packet = search rules;
-  steps = (
-    (
-        let none_ = sym c.requeued.ensures ∙ c.in_default.is in record {
-          comes_to = c.dequeue_open.ensures.steps.0;
-          by = subst (λ (o : Option ℕ). DequeuesFrom (setup c.args.shared.now) o c.dequeue_open.result (known c.args.cpu.now) (known c.dequeue_open.new.cpu)) (sym none_) c.dequeue_open.ensures.steps.1;
-        }
-        ),
-    search rules,
-  );
+  came = c.dequeue_open.ensures.came;
+  makes = c.dequeue_open.ensures.makes;
 }

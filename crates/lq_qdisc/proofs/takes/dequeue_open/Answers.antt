@@ -1,16 +1,15 @@
-use Rattle.std.proofs.Common.{◌≡◌, ℕ, List, Option, None, refl, sym, rules, ap, ◌∙◌, subst, inl, inr, arith}
+use Rattle.std.proofs.Common.{◌≡◌, ℕ, [], ◌∷◌, Option, None, refl, sym, rules, ap, ◌∙◌, subst, arith}
 use Rattle.std.specs.Option.{option_map_or}
 use Rattle.lq_model.specs.Plan.{queue_in}
 use Rattle.lq_model.specs.Positions.{holds_lock}
-use Rattle.lq_table.specs.Views.{Setup, View, Known}
-use Rattle.lq_table.specs.Made.{Made, ◌⊳◌}
-use Rattle.lq_table.specs.Stops.{load_xoff_log, load_xoff_view}
-use Rattle.lq_table.specs.Sees.{view, known, steps, setup}
-use Rattle.lq_table.specs.Moves.{pass_view}
-use Rattle.lq_table.specs.States.{set_bit_view}
+use Rattle.lq_table.specs.Views.{Setup, View}
+use Rattle.lq_table.specs.Sees.{view, setup}
 use Rattle.lq_qdisc.specs.Calls.{FindsStopped, laid_aside}
 use Rattle.lq_qdisc.proofs.TakeLemmas.{carries_slot, carries_still, finds_stopped, kept_moved, kept_then, looks_dequeue, looks_from, open_for, opened_at_dequeue, serving_same, stop_is, stopped_at_dequeue}
-use Rattle.lq_qdisc.specs.Steps.{ClearsMaybe, LooksThrough, found_open}
+use Rattle.lq_run.proofs.StepsThen.{makes_then}
+use Rattle.lq_table.specs.Step.{LoadXoff, MakesSteps}
+use Rattle.lq_qdisc.specs.StepLists.{FindsClosed, FindsOpen, FindsStop, PfifoFastDequeue}
+use Rattle.lq_qdisc.proofs.ListLemmas.{from_there}
 use Rattle.lq_model.specs.declared.machine.Blocked.TheVariants.{NoneTaken}
 use Rattle.lq_qdisc.proofs.takes.dequeue_open.Goals as goal
 
@@ -33,27 +32,25 @@ returns g c = record {
   at = search rules;
   fates = search rules;
   packet = search rules;
-  steps = (
+  came = (
     (
         let v = view c.args.cpu.now in let m = view c.load_xoff.new.cpu in let w = view c.dequeue_bands.new.cpu in
         let e = opened_at_dequeue c.load_xoff.result None v m c.load_xoff.ensures.view c.requires.may.at c.requires.may.empty c.if-load_xoff-ne0.false in
-        looks_dequeue c.args.shared.now.infos.now c.dequeue_bands.result v w c.requires.may.empty (looks_from c.dequeue_bands.result _ v m w e c.dequeue_bands.ensures.steps.0)
-        ),
-    (
-        let k = setup c.args.shared.now in let most = c.requires.may.one in let some_ = c.args.shared.now.sized.4 in let zero_ = c.if-load_xoff-ne0.false in
-        let one : k.queues ≡ 1 = omega arith in
-        let e : known c.load_xoff.new.cpu ≡ found_open k (known c.args.cpu.now) = λ j. record {
-          view = (c.load_xoff.ensures.view ∙ ap (λ (x : ℕ). load_xoff_view x (view c.args.cpu.now)) zero_) j;
-          steps = (c.load_xoff.ensures.made ∙ ap (λ (x : ℕ). steps c.args.cpu.now ⊳ load_xoff_log k 0 x) zero_) j;
-        } in inr (one, inl (subst (λ (x : Known). LooksThrough k c.dequeue_bands.result x (known c.dequeue_bands.new.cpu)) e c.dequeue_bands.ensures.steps.1))
+        looks_dequeue c.args.shared.now.infos.now c.dequeue_bands.result v w c.requires.may.empty (looks_from c.dequeue_bands.result _ v m w e c.dequeue_bands.ensures.came)
         ),
     (
         λ one alone.
         let s = c.load_xoff.ensures.sole in let holds = ap holds_lock c.requires.may.at in
         let stop = sym (stop_is 0 c.load_xoff.result (view c.args.cpu.now) s alone holds c.requires.may.serving.3) ∙ c.if-load_xoff-ne0.false in
-        (s.1 alone holds, s.2 alone holds, open_for c.dequeue_bands.result _ (view c.load_xoff.new.cpu) (view c.dequeue_bands.new.cpu) c.dequeue_bands.ensures.steps.0 stop)
+        (s.1 alone holds, s.2 alone holds, open_for c.dequeue_bands.result _ (view c.load_xoff.new.cpu) (view c.dequeue_bands.new.cpu) c.dequeue_bands.ensures.came stop)
         ),
+    search rules,
   );
+  makes =
+      let k = setup c.args.shared.now in let most = c.requires.may.one in let some_ = c.args.shared.now.sized.4 in let answer = c.dequeue_bands.result in
+      let one : k.queues ≡ 1 = omega arith in let m = c.dequeue_bands.ensures.makes in
+      let loads = subst (λ (found : ℕ). MakesSteps (LoadXoff 0 found ∷ []) c.args.cpu.now c.load_xoff.new.cpu) c.if-load_xoff-ne0.false c.load_xoff.ensures.makes in
+      (LoadXoff 0 0 ∷ m.0, FindsOpen c.requires.may.empty one (from_there (λ s. PfifoFastDequeue s answer) loads m.1), makes_then loads m.2);
 }
 
 pub returns-then-load_xoff-ne0 : goal.returns-then-load_xoff-ne0
@@ -69,26 +66,27 @@ returns-then-load_xoff-ne0 g c = record {
   at = search rules;
   fates = search rules;
   packet = search rules;
-  steps = (
+  came = (
     (
         let v = view c.args.cpu.now in let m = view c.load_xoff.new.cpu in let w = view c.maybe_clear_missed.new.cpu in let x = c.load_xoff.result in let l = c.load_xoff.ensures in let n = c.maybe_clear_missed.ensures in
-        let e = stopped_at_dequeue x None v m l.view c.requires.may.at c.requires.may.empty c.if-load_xoff-ne0.true in let is = n.stopped.1 ∙ ap (λ (y : View). set_bit_view (load_xoff_view n.stopped.0 (pass_view y))) l.view in
+        let e = stopped_at_dequeue x None v m l.view c.requires.may.at c.requires.may.empty c.if-load_xoff-ne0.true in
         let most = c.requires.may.one in let queues = ap (λ (k : Setup). k.queues) c.requires.seat.2 in (
           λ more. absurd (omega arith),
           subst (λ (o : Option ℕ). FindsStopped (option_map_or (queue_in c.args.shared.now.infos.now) o 0) v w) (sym c.requires.may.empty)
-              (finds_stopped 0 x n.stopped.0 _ v m w c.if-load_xoff-ne0.true e is n.heard n.holder n.sole (λ alone. stop_is 0 x v l.sole alone (ap holds_lock c.requires.may.at) c.requires.may.serving.3)),
+              (finds_stopped 0 x _ v m w c.if-load_xoff-ne0.true e n.holder n.sole (λ alone. stop_is 0 x v l.sole alone (ap holds_lock c.requires.may.at) c.requires.may.serving.3)),
         )
-        ),
-    (
-        let k = setup c.args.shared.now in let s = c.maybe_clear_missed.ensures.stopped in let most = c.requires.may.one in let some_ = c.args.shared.now.sized.4 in
-        let one : k.queues ≡ 1 = omega arith in inr (one, inr (refl, (c.load_xoff.result, s.0, c.if-load_xoff-ne0.true, s.1 ∙ ap (λ (v : View). set_bit_view (load_xoff_view s.0 (pass_view v))) c.load_xoff.ensures.view, subst (λ (xs : List Made). ClearsMaybe k 0 s.0 xs (steps c.maybe_clear_missed.new.cpu)) c.load_xoff.ensures.made s.2)))
         ),
     (
         λ one alone.
         let s = c.load_xoff.ensures.sole in let holds = ap holds_lock c.requires.may.at in
         (s.1 alone holds, s.2 alone holds, λ open_. c.if-load_xoff-ne0.true (stop_is 0 c.load_xoff.result (view c.args.cpu.now) s alone holds c.requires.may.serving.3 ∙ open_))
         ),
+    search rules,
   );
+  makes =
+      let m = c.maybe_clear_missed.ensures.makes in let most = c.requires.may.one in let some_ = c.args.shared.now.sized.4 in
+      let one : c.args.shared.now.queues ≡ 1 = omega arith in
+      (LoadXoff 0 c.load_xoff.result ∷ m.0, FindsClosed c.requires.may.empty one (FindsStop c.if-load_xoff-ne0.true m.1), makes_then c.load_xoff.ensures.makes m.2);
 }
 
 pub load_xoff-requires-clause-slot : goal.load_xoff-requires-clause-slot

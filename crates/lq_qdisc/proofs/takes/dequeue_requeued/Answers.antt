@@ -1,18 +1,19 @@
-use Rattle.std.proofs.Common.{◌≡◌, ℕ, List, Option, None, Some, arith, is_some, refl, rules, sym, ap, ◌∙◌, subst, inl, inr}
+use Rattle.std.proofs.Common.{◌≡◌, ℕ, [], ◌∷◌, Option, None, Some, arith, is_some, refl, rules, sym, ap, ◌∙◌, subst}
 use Rattle.std.specs.Option.{option_map_or}
 use Rattle.std.specs.Prelude.{MatchOption, slice_index}
 use Rattle.lq_model.specs.Positions.{holds_lock}
 use Rattle.lq_model.specs.declared.machine.Seat.{Seat}
 use Rattle.lq_table.specs.Rule.{shown}
 use Rattle.lq_table.specs.Views.{HolderPart, Setup, View}
-use Rattle.lq_table.specs.Made.{Made, ◌⊳◌}
-use Rattle.lq_table.specs.Stops.{load_xoff_log, load_xoff_view, picking}
-use Rattle.lq_table.specs.Sees.{view, known, steps, setup, account_of, solo}
-use Rattle.lq_table.specs.Moves.{pass_view}
-use Rattle.lq_table.specs.States.{set_bit_view}
+use Rattle.lq_table.specs.Stops.{picking}
+use Rattle.lq_table.specs.Sees.{view, carried, account_of, solo}
 use Rattle.lq_qdisc.specs.Calls.{FindsPacket, FindsStopped, Picks, laid_aside}
 use Rattle.lq_qdisc.proofs.TakeLemmas.{carries_slot, carries_still, finds_stopped, kept_moved, kept_then, opened_at_dequeue, serving_same, serving_with, stop_is, stopped_at_dequeue}
-use Rattle.lq_qdisc.specs.Steps.{ClearsMaybe, FindsStopWord}
+use Rattle.lq_run.proofs.StepsThen.{makes_then}
+use Rattle.lq_device.specs.Station.{with_slot}
+use Rattle.lq_table.specs.Step.{LoadXoff, MakesSteps, SetStation}
+use Rattle.lq_qdisc.specs.StepLists.{FindsStop, FindsXoff, KeepsRequeued, TakesRequeued}
+use Rattle.lq_qdisc.proofs.ListLemmas.{is_carried, station_changed}
 use Rattle.lq_model.specs.Plan.{queue_in}
 use Rattle.lq_model.specs.declared.machine.Blocked.TheVariants.{NoneTaken}
 use Rattle.lq_qdisc.proofs.takes.dequeue_requeued.Goals as goal
@@ -34,22 +35,14 @@ returns-then-load_xoff-ne0 g c = record {
   at = search rules;
   fates = search rules;
   packet = search rules;
-  steps = (
+  came = (
     (
         let v = view c.args.cpu.now in let m = view c.load_xoff.new.cpu in let w = view c.maybe_clear_missed.new.cpu in let x = c.load_xoff.result in let l = c.load_xoff.ensures in let a = c.maybe_clear_missed.ensures in
-        let e = stopped_at_dequeue x (Some c.args.n) v m l.view c.requires.at c.requires.slot.0 c.if-load_xoff-ne0.true in let is = a.stopped.1 ∙ ap (λ (y : View). set_bit_view (load_xoff_view a.stopped.0 (pass_view y))) l.view in
+        let e = stopped_at_dequeue x (Some c.args.n) v m l.view c.requires.at c.requires.slot.0 c.if-load_xoff-ne0.true in
         let queue = c.queue_of-queue.ensures ∙ ap (λ (o : Option ℕ). option_map_or (queue_in c.args.shared.now.infos.now) o 0) (sym c.requires.slot.0) in (
           λ _. ap is_some c.requires.slot.0,
           subst (λ (q : ℕ). FindsStopped q v w) queue
-              (finds_stopped c.queue_of-queue.result x a.stopped.0 _ v m w c.if-load_xoff-ne0.true e is a.heard a.holder a.sole (λ alone. stop_is c.queue_of-queue.result x v l.sole alone (ap holds_lock c.requires.at) c.requires.serving.3)),
-        )
-        ),
-    (
-        let k = setup c.args.shared.now in let s = c.maybe_clear_missed.ensures.stopped in let q = c.queue_of-queue.result in
-        inr (
-          refl,
-          subst (λ (queue : ℕ). FindsStopWord k queue (known c.args.cpu.now) (known c.maybe_clear_missed.new.cpu)) c.queue_of-queue.ensures
-              (c.load_xoff.result, s.0, c.if-load_xoff-ne0.true, s.1 ∙ ap (λ (v : View). set_bit_view (load_xoff_view s.0 (pass_view v))) c.load_xoff.ensures.view, subst (λ (xs : List Made). ClearsMaybe k q s.0 xs (steps c.maybe_clear_missed.new.cpu)) c.load_xoff.ensures.made s.2),
+              (finds_stopped c.queue_of-queue.result x _ v m w c.if-load_xoff-ne0.true e a.holder a.sole (λ alone. stop_is c.queue_of-queue.result x v l.sole alone (ap holds_lock c.requires.at) c.requires.serving.3)),
         )
         ),
     (
@@ -58,7 +51,14 @@ returns-then-load_xoff-ne0 g c = record {
         let queue : c.queue_of-queue.result ≡ 0 = (let a = c.queue_of-queue.ensures in let b = c.requires.slot.1.1 in let d = ap (λ (k : Setup). k.queues) c.requires.seat.2 in omega arith) in
         (s.1 alone holds, s.2 alone holds, λ open_. c.if-load_xoff-ne0.true (stop_is c.queue_of-queue.result c.load_xoff.result v s alone holds c.requires.serving.3 ∙ (ap (slice_index (account_of v).stops) queue ∙ open_)))
         ),
+    search rules,
   );
+  makes =
+      let m = c.maybe_clear_missed.ensures.makes in let q = c.queue_of-queue.result in (
+        LoadXoff q c.load_xoff.result ∷ m.0,
+        KeepsRequeued c.requires.slot.0 (subst (λ (queue : ℕ). FindsXoff queue (LoadXoff q c.load_xoff.result ∷ m.0)) c.queue_of-queue.ensures (FindsStop c.if-load_xoff-ne0.true m.1)),
+        makes_then c.load_xoff.ensures.makes m.2,
+      );
 }
 
 pub returns : goal.returns
@@ -77,7 +77,7 @@ returns g c = record {
   at = search rules;
   fates = search rules;
   packet = search rules;
-  steps = (
+  came = (
     (
         let v = view c.args.cpu.now in let w = view c.take_requeued.new.cpu in let n = c.args.n in
         let e = c.take_requeued.ensures.same.3 ∙ opened_at_dequeue c.load_xoff.result (Some n) v (view c.load_xoff.new.cpu) c.load_xoff.ensures.view c.requires.at c.requires.slot.0 c.if-load_xoff-ne0.false in
@@ -85,20 +85,18 @@ returns g c = record {
         (refl, record { is = e ∙ ap (λ (s : Seat). picking (Some n) (record v { place = s })) (sym (ap (λ (x : View). x.place) e)); step = ap solo e })
         ),
     (
-        let k = setup c.args.shared.now in let zero_ = c.if-load_xoff-ne0.false in let t = c.take_requeued.ensures in
-        inl (
-          refl,
-          t.same.3 ∙ (c.load_xoff.ensures.view ∙ ap (λ (x : ℕ). load_xoff_view x (view c.args.cpu.now)) zero_),
-          t.made ∙ (c.load_xoff.ensures.made ∙ (λ j. steps c.args.cpu.now ⊳ load_xoff_log k (c.queue_of-queue.ensures j) (zero_ j))),
-        )
-        ),
-    (
         λ one alone.
         let s = c.load_xoff.ensures.sole in let holds = ap holds_lock c.requires.at in let v = view c.args.cpu.now in
         let queue : c.queue_of-queue.result ≡ 0 = (let a = c.queue_of-queue.ensures in let b = c.requires.slot.1.1 in let d = ap (λ (k : Setup). k.queues) c.requires.seat.2 in omega arith) in
         (s.1 alone holds, s.2 alone holds, ap (slice_index (account_of v).stops) (sym queue) ∙ (sym (stop_is c.queue_of-queue.result c.load_xoff.result v s alone holds c.requires.serving.3) ∙ c.if-load_xoff-ne0.false))
         ),
+    search rules,
   );
+  makes =
+      let b = c.args.cpu.now in let m = c.load_xoff.new.cpu in let n = c.args.n in let st = shown (view b).holder in
+      let loads = subst (λ (queue : ℕ). MakesSteps (LoadXoff queue 0 ∷ []) b m) c.queue_of-queue.ensures (subst (λ (found : ℕ). MakesSteps (LoadXoff c.queue_of-queue.result found ∷ []) b m) c.if-load_xoff-ne0.false c.load_xoff.ensures.makes) in
+      let takes = station_changed (λ x. with_slot x None) (carried b) st m c.take_requeued.new.cpu (c.load_xoff.ensures.same.1 ∙ c.requires.serving.0.1) (is_carried b st c.requires.serving.0.1) c.take_requeued.ensures in
+      (LoadXoff (queue_in c.args.shared.now.infos.now n) 0 ∷ SetStation (with_slot (carried b) None) ∷ [], TakesRequeued c.requires.slot.0, makes_then loads takes);
 }
 
 pub load_xoff-requires-clause-slot : goal.load_xoff-requires-clause-slot

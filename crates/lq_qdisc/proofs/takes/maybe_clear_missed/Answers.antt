@@ -1,20 +1,13 @@
-use Rattle.std.proofs.Common.{rules, ◌≡◌, List, inl, inr, sym, ap, ◌∙◌}
-use Rattle.lq_table.specs.Made.{Made, ◌⊳◌}
-use Rattle.lq_table.specs.States.{clear_missed_log, set_draining_log, set_missed_log}
-use Rattle.lq_table.specs.Stops.{load_xoff_log, load_xoff_view}
+use Rattle.std.proofs.Common.{rules, ℕ, [], ◌∷◌, sym, ap, ◌∙◌, subst}
+use Rattle.lq_run.proofs.StepsThen.{makes_then}
+use Rattle.lq_table.specs.Step.{ClearMissed, LoadXoff, MakesSteps, SetDraining, SetMissed}
+use Rattle.lq_table.specs.Stops.{load_xoff_view}
 use Rattle.lq_table.specs.Views.{View}
-use Rattle.lq_table.specs.Sees.{view, setup, steps}
+use Rattle.lq_table.specs.Sees.{view}
+use Rattle.lq_qdisc.specs.StepLists.{FindsOpened, FindsShut}
 use Rattle.lq_qdisc.proofs.TakeLemmas.{LeavesBlocked, blocked_slot, carries_still, leaves_blocked, stop_loaded_again}
 use Rattle.lq_qdisc.proofs.takes.maybe_clear_missed.Goals as goal
-use Rattle.lq_qdisc.proofs.takes.maybe_clear_missed.Goals.{After-load_xoff, After-set_draining, After-set_missed}
-
--- the steps that were made when the stop word was loaded again
-loaded : (g : _) (c : After-load_xoff g)
-    → steps c.load_xoff.new.cpu
-    ≡ (steps c.args.cpu.now ⊳ clear_missed_log) ⊳ load_xoff_log (setup c.args.shared.now) c.args.queue c.load_xoff.result
-loaded g c =
-    let load = λ (made : List Made). made ⊳ load_xoff_log (setup c.args.shared.now) c.args.queue c.load_xoff.result in
-    c.load_xoff.ensures.made ∙ ap load c.clear_missed.ensures.made
+use Rattle.lq_qdisc.proofs.takes.maybe_clear_missed.Goals.{After-set_draining, After-set_missed}
 
 -- what is known where the queue was found open then, and MISSED set
 opened : (g : _) (c : After-set_missed g) → LeavesBlocked c.load_xoff.result c.args.cpu.now c.set_missed.new.cpu
@@ -35,16 +28,15 @@ returns-then-load_xoff-eq0 g c = record {
   station = search rules;
   at = (opened g c).at;
   holder = (opened g c).holder;
-  heard = (opened g c).heard;
   fates = (opened g c).fates;
-  stopped =
-      let before = loaded g (goal.at.returns-then-load_xoff-eq0 g c).After-load_xoff in
-      let made = c.set_missed.ensures.made in let all = made.1 ∙ ap (λ (past : List Made). past ⊳ set_missed_log made.0) before in
-      (c.load_xoff.result, (opened g c).is, inl (c.if-load_xoff-eq0.true, made.0, all));
   sole = λ alone closed.
       let at_ = c.requires.at in let a = c.clear_missed.ensures in let l = c.load_xoff.ensures in
       let stop = stop_loaded_again c.args.queue _ at_.0 (view c.args.cpu.now) _ a.view at_.1 l.sole alone c.requires.shut in
       absurd (closed (sym stop ∙ c.if-load_xoff-eq0.true));
+  makes =
+      let s = c.set_missed.ensures.makes in
+      let l = subst (λ (found : ℕ). MakesSteps (LoadXoff c.args.queue found ∷ []) c.clear_missed.new.cpu c.load_xoff.new.cpu) c.if-load_xoff-eq0.true c.load_xoff.ensures.makes in
+      (ClearMissed ∷ LoadXoff c.args.queue 0 ∷ SetMissed s.0 ∷ [], FindsOpened, makes_then (makes_then c.clear_missed.ensures.makes l) s.1);
 }
 
 pub returns-else-load_xoff-eq0 : goal.returns-else-load_xoff-eq0
@@ -54,13 +46,11 @@ returns-else-load_xoff-eq0 g c = record {
   station = search rules;
   at = (stopped g c).at;
   holder = (stopped g c).holder;
-  heard = (stopped g c).heard;
   fates = (stopped g c).fates;
-  stopped =
-      let before = loaded g (goal.at.returns-else-load_xoff-eq0 g c).After-load_xoff in
-      let made = c.set_draining.ensures.made in let all = made.1 ∙ ap (λ (past : List Made). past ⊳ set_draining_log made.0) before in
-      (c.load_xoff.result, (stopped g c).is, inr (c.if-load_xoff-eq0.false, made.0, all));
   sole = search rules;
+  makes =
+      let s = c.set_draining.ensures.makes in
+      (ClearMissed ∷ LoadXoff c.args.queue c.load_xoff.result ∷ SetDraining s.0 ∷ [], FindsShut c.if-load_xoff-eq0.false, makes_then (makes_then c.clear_missed.ensures.makes c.load_xoff.ensures.makes) s.1);
 }
 
 -- the requeue slot is as it was

@@ -1,8 +1,9 @@
 use Rattle.std.proofs.Common.{◌≡◌, Bool}
 use Rattle.lq_model.specs.declared.machine.Position.TheVariants.{Scan}
-use Rattle.lq_table.specs.Sees.{view, known, setup, position, IsSeatOf, IsSole, account_of, solo}
+use Rattle.lq_table.specs.Sees.{view, position, IsSeatOf, IsSole, account_of, solo}
 use Rattle.lq_qdisc.specs.Calls.{IsKeptInRun, IsServing, IsSettledSame, AreNone, found_empty, looking_at}
-use Rattle.lq_qdisc.specs.Steps.{EmptyBelow}
+use Rattle.lq_ring.specs.StepLists.{MakesStepsFrom}
+use Rattle.lq_qdisc.specs.StepLists.{EmptyBelow}
 use Rattle.lq_qdisc.proofs.takes.scan.Given as goal
 
 abbrev pub invariant-loop-band : goal.invariant-loop-band
@@ -17,5 +18,5 @@ invariant-loop-band g l = record {
   holder : (view l.cpu).holder ≡ (view l.fn.cpu).holder;
   step : solo (view l.cpu) ≡ solo (view l.fn.cpu);
   sole : IsSole (view l.fn.cpu) → AreNone (account_of (view l.fn.cpu)) l.band;
-  made : EmptyBelow (setup l.shared) l.band (known l.fn.cpu) (known l.cpu);
+  makes : MakesStepsFrom (λ s. EmptyBelow s l.band) l.fn.cpu l.cpu;
 }

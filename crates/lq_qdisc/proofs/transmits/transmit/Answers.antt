@@ -1,18 +1,26 @@
-use Rattle.std.proofs.Common.{rules, ◌≡◌, ap, ◌∙◌, subst, List}
-use Rattle.lq_model.specs.Plan.{owner_in, rank_in}
-use Rattle.lq_table.specs.Views.{View, Setup, Known}
-use Rattle.lq_table.specs.Made.{Made, ◌⊳◌}
-use Rattle.lq_table.specs.Inside.{enter_log, enter_view}
-use Rattle.lq_table.specs.Turns.{give_turn_log, give_turn_view}
-use Rattle.lq_table.specs.Sees.{view, known, setup, solo}
-use Rattle.lq_qdisc.proofs.ViewRelations.{Goes}
+use Rattle.std.proofs.Common.{rules, ◌≡◌, ℕ, [], ◌∷◌, ◌++◌, sym, ap, ◌∙◌, subst}
+use Rattle.lq_ring.proofs.StepsThen.{makes_then}
+use Rattle.lq_table.specs.Views.{View, Setup}
+use Rattle.lq_table.specs.Inside.{enter_view}
+use Rattle.lq_table.specs.Step.{Enter, GiveTurn, Leave, MakesSteps, TakeTurn, due_word}
+use Rattle.lq_table.specs.Sees.{view, setup, solo}
+use Rattle.lq_table.specs.declared.shared.Cpu.{Cpu}
+use Rattle.lq_ring.specs.StepLists.{MakesStepsFrom}
+use Rattle.lq_qdisc.specs.declared.answers.Sending.{Sending}
+use Rattle.lq_qdisc.proofs.ViewRelations.{Goes, transmitting}
 use Rattle.lq_qdisc.specs.Sends.{HasCome}
-use Rattle.lq_qdisc.specs.Steps.{XmitSkb, transmit_begun}
+use Rattle.lq_qdisc.specs.StepLists.{InTurn, QueueXmit, XmitSkb}
+use Rattle.lq_qdisc.proofs.ListLemmas.{from_there, leads}
 use Rattle.lq_qdisc.proofs.TransmitLemmas.{transmits_as}
 use Rattle.lq_qdisc.proofs.FirstLemmas.{refused_first}
 use Rattle.lq_qdisc.proofs.AloneCalls.{transmit_alone}
 use Rattle.lq_qdisc.proofs.ViewLemmas.{goes_view}
 use Rattle.lq_qdisc.proofs.transmits.transmit.Goals as goal
+
+-- what it comes to between its two steps on the calls inside
+goes : {D : Type 0} (k : Setup) (n : ℕ) (answer : Sending) (v : View) (m a : Cpu D) → view m ≡ transmitting k.infos n v → MakesStepsFrom (λ s. XmitSkb k n s answer) m a → Goes k.infos k.bypass n answer (transmitting k.infos n v) (view a)
+goes k n answer v m a is made =
+    subst (λ (u : View). Goes k.infos k.bypass n answer u (view a)) is (subst (λ (w : View). Goes k.infos k.bypass n answer (view m) w) (sym made.2.knows) (goes_view made.1 made.2.told))
 
 pub returns : goal.returns
 returns g c = record {
@@ -21,33 +29,28 @@ returns g c = record {
   at = search rules;
   ready = search rules;
   in_turn = λ turn.
-      let k = setup c.args.shared.now in let n = c.args.n in let answer = c.xmit_skb-sending.result in let v = view c.args.cpu.now in let owner = owner_in k.infos n in let rank = rank_in k.infos n in
-      let v_is = c.enter.ensures.view ∙ ap (λ (x : View). enter_view x) c.in_default.ensures.turn.1 in let s_is = c.enter.ensures.made ∙ ap (λ (xs : List Made). xs ⊳ enter_log) c.in_default.ensures.made in
-      let e : known c.enter.new.cpu ≡ transmit_begun n k (known c.args.cpu.now) = λ j. record { view = v_is j; steps = s_is j } in
-      let goes = subst (λ (x : Known). XmitSkb k n answer x (known c.xmit_skb-sending.new.cpu)) e c.xmit_skb-sending.ensures.steps in
-      let t = transmits_as k.infos k.bypass n answer v (view c.xmit_skb-sending.new.cpu) (view c.leave.new.cpu) (view c.give_turn.new.cpu)
-      (subst (λ (x : View). HasCome k.infos n answer x (view c.xmit_skb-sending.new.cpu)) v_is c.xmit_skb-sending.ensures.came)
-      (goes_view k n answer (transmit_begun n k (known c.args.cpu.now)) (known c.xmit_skb-sending.new.cpu) goes) c.leave.ensures.view c.leave.ensures.step c.give_turn.ensures.given in
-      let given_is = c.give_turn.ensures.given ∙ ap (λ (x : View). give_turn_view owner rank x) c.leave.ensures.view in
-      let made_is = c.give_turn.ensures.made ∙ ap (λ (xs : List Made). xs ⊳ give_turn_log owner rank) c.leave.ensures.made in record {
-        came = t.came;
-        turns = t.turns;
-        trail = t.trail;
-        last = known c.xmit_skb-sending.new.cpu;
-        goes = goes;
-        ends = λ j. record { view = given_is j; steps = made_is j };
-        step = ap (λ (x : View). solo x) c.give_turn.ensures.given ∙ c.leave.ensures.step;
+      let k = setup c.args.shared.now in let n = c.args.n in let answer = c.xmit_skb-sending.result in let b = c.args.cpu.now in let v = view b in let x = c.xmit_skb-sending.ensures in let left = c.leave.ensures in
+      let v_is = c.enter.ensures.view ∙ ap (λ (z : View). enter_view z) c.in_default.ensures.turn.1 in let taken = c.in_default.ensures.makes in
+      let t = transmits_as k.infos n answer v (view c.xmit_skb-sending.new.cpu) (view c.leave.new.cpu) (view c.give_turn.new.cpu)
+      (subst (λ (z : View). HasCome k.infos n answer z (view c.xmit_skb-sending.new.cpu)) v_is x.came) left.view c.give_turn.ensures.given in
+      let begins = makes_then (subst (λ (found : ℕ). MakesSteps (TakeTurn n found ∷ []) b c.take_turn.new.cpu) taken.1 taken.2) c.enter.ensures.makes in record {
+        came = x.came.came;
+        turns = t.0;
+        trail = t.1;
+        by = leads (QueueXmit k n answer) b c.give_turn.new.cpu (
+          TakeTurn n (due_word v n) ∷ Enter ∷ x.makes.0 ++ Leave ∷ GiveTurn n ∷ [],
+          InTurn (from_there (λ z. XmitSkb k n z answer) begins x.makes.1),
+          makes_then begins (makes_then x.makes.2 (makes_then left.makes c.give_turn.ensures.makes)),
+        );
       };
   first = λ turn first event.
-      let k = setup c.args.shared.now in let n = c.args.n in let answer = c.xmit_skb-sending.result in
-      refused_first k.infos k.bypass n answer (view c.args.cpu.now) (view c.xmit_skb-sending.new.cpu)
-      (subst (λ (v : View). Goes k.infos k.bypass n answer v (view c.xmit_skb-sending.new.cpu)) (c.enter.ensures.view ∙ ap (λ (v : View). enter_view v) c.in_default.ensures.turn.1)
-      (goes_view k n answer (known c.enter.new.cpu) (known c.xmit_skb-sending.new.cpu) c.xmit_skb-sending.ensures.steps)) first event;
+      let k = setup c.args.shared.now in
+      refused_first k.infos k.bypass c.args.n c.xmit_skb-sending.result (view c.args.cpu.now) (view c.xmit_skb-sending.new.cpu)
+      (goes k c.args.n c.xmit_skb-sending.result (view c.args.cpu.now) c.enter.new.cpu c.xmit_skb-sending.new.cpu (c.enter.ensures.view ∙ ap (λ (v : View). enter_view v) c.in_default.ensures.turn.1) c.xmit_skb-sending.ensures.makes) first event;
   alone = λ turn low.
-      let k = setup c.args.shared.now in let n = c.args.n in let answer = c.xmit_skb-sending.result in
-      transmit_alone k k.infos n k.bypass answer (view c.args.cpu.now) (view c.give_turn.new.cpu) c.requires.seat.2 (ap (λ (x : Setup). x.bypass) c.requires.seat.2) (view c.xmit_skb-sending.new.cpu)
-      (subst (λ (v : View). Goes k.infos k.bypass n answer v (view c.xmit_skb-sending.new.cpu)) (c.enter.ensures.view ∙ ap (λ (v : View). enter_view v) c.in_default.ensures.turn.1)
-      (goes_view k n answer (known c.enter.new.cpu) (known c.xmit_skb-sending.new.cpu) c.xmit_skb-sending.ensures.steps))
+      let k = setup c.args.shared.now in
+      transmit_alone k k.infos c.args.n k.bypass c.xmit_skb-sending.result (view c.args.cpu.now) (view c.give_turn.new.cpu) c.requires.seat.2 (ap (λ (x : Setup). x.bypass) c.requires.seat.2) (view c.xmit_skb-sending.new.cpu)
+      (goes k c.args.n c.xmit_skb-sending.result (view c.args.cpu.now) c.enter.new.cpu c.xmit_skb-sending.new.cpu (c.enter.ensures.view ∙ ap (λ (v : View). enter_view v) c.in_default.ensures.turn.1) c.xmit_skb-sending.ensures.makes)
       (ap (λ (v : View). solo v) c.give_turn.ensures.given ∙ c.leave.ensures.step) low;
   out_of_turn = search rules;
 }
