@@ -1,7 +1,8 @@
 -- What the relations of control's calls come to: what is kept, which events came, which fates were stored, and how many.
 use Rattle.std.proofs.Common.{◌≡◌, ◌<◌, ◌-◌, ℕ, zero, suc, Bool, drop, true, false, List, [], ◌∷◌, ◌++◌, length, Option, Some, None, refl, sym, ap, ◌∙◌, subst, arith}
+use Rattle.std.proofs.lemmas.Bool.{false≢true}
 use Rattle.std.proofs.lemmas.List.{append_assoc}
-use Rattle.std.specs.Prelude.{if◌then◌else◌}
+use Rattle.std.specs.Prelude.{if◌then◌else◌, ◌==◌}
 use Rattle.std.specs.Option.{option_map, option_to_list}
 use Rattle.lq_model.specs.Account.{Account, Event, Down, Purge as PurgeEvent, Resize, Swap, Up, held, held_in}
 use Rattle.lq_model.specs.Band.{Band, held_of}
@@ -12,22 +13,27 @@ use Rattle.lq_model.specs.declared.fate.Cause.TheVariants as cause
 use Rattle.lq_model.specs.declared.fate.Fate.{Fate}
 use Rattle.lq_model.specs.declared.fate.Fate.TheVariants as fate
 use Rattle.lq_band_laws.specs.Three.{Three, at}
-use Rattle.lq_run.specs.Tries.{EndsRun, TriedAs, scheduled_where}
+use Rattle.lq_run.specs.Steps.{Got, Held, Lost, TryRunLock}
+use Rattle.lq_run.specs.Tries.{EndsRun, scheduled_where}
 use Rattle.lq_ring.specs.Fates.{fates_onto}
 use Rattle.lq_ring.specs.Resized.{all_lost}
-use Rattle.lq_table.specs.Controls.{open_xoff_view}
+use Rattle.lq_device.specs.Station.{with_device}
+use Rattle.lq_table.specs.Controls.{GoesAway, open_xoff_view}
 use Rattle.lq_table.specs.Purges.{reset_missed_view, first_purge}
-use Rattle.lq_table.specs.Rule.{HasServed, account, latest_unit, units_of}
+use Rattle.lq_table.specs.Rule.{HasServed, account, latest_unit, units_of, shown}
 use Rattle.lq_table.specs.Sees.{IsAccounts, IsSole, account_of}
 use Rattle.lq_table.specs.Moves.{and_settled, is_set}
-use Rattle.lq_table.specs.Locks.{try_lock_view_in_call, try_lock_view_in_control, unlock_view, unlock_view_in_call, unlock_view_in_control}
+use Rattle.lq_table.specs.Locks.{look_lock_view, try_lock_view, try_lock_view_in_call, try_lock_view_in_control, unlock_view, unlock_view_in_call, unlock_view_in_control}
+use Rattle.lq_table.specs.Step.{BeginControl, BeginPurge, MoveStation, OpenXoff, SetDeactivated, SetStation, Standing, Step, SwapDevice, Unlock, step_leaves, steps_leave, steps_tell}
 use Rattle.lq_table.specs.States.{load_state_view}
 use Rattle.lq_table.specs.Fates.{settle_view_owed}
 use Rattle.lq_table.specs.Views.{FirstPart, HolderPart, Left, PacketPart, Setup, SharePart, View, no_packets, Known}
 use Rattle.lq_qdisc.specs.Calls.{KeepsFates}
+use Rattle.lq_qdisc.specs.StepLists.{LeadsBy}
 use Rattle.lq_control.specs.Control.{IsKeptByControl, IsPurgeDone, IsPurged, IsServed, KeepsDevice, all_purged}
 use Rattle.lq_control.specs.Comes.{LeavesPurged, Shrinks, SwapsFor}
-use Rattle.lq_control.specs.Steps.{ChangesLength, Deactivates, DeactivatesWhole, Downs, ResizesLive, Swaps, SwapsDevice, FindsCalls, PurgesBy, PurgesHeld, PurgesSlot, Rounds, TakesLock, TriesLock, WaitsForCalls, WaitsUntilClear, held as tried, inside, locked, none_yet, not_looked, not_tried, scheduled, served, with_control_begun, with_deactivated_set, with_device_swapped, with_purge_begun, with_queues_opened}
+use Rattle.lq_control.specs.Steps.{Again, CallInside, ChangesLength, Clear, Deactivates, DeactivatesWhole, Downs, LockHeld, LookClear, LookInside, NoCall, NotYet, PurgesBy, PurgesHeld, PurgesSlot, ResizesLive, Rounds, Scheduled, Swaps, SwapsDevice, TakeLock, Taken, Wait, WaitsUntilClear, known_after, looked, none_yet, open_steps, served}
+use Rattle.lq_control.proofs.StepLemmas.{leaves_then, tells_then}
 use Rattle.lq_control.proofs.Purge.{count_all, emptied, left1, purge1, purge2, left2, purged_of}
 use Rattle.lq_control.proofs.Served.{served_none, served_then}
 
@@ -71,27 +77,74 @@ calm_if : (b : Bool) (v x y : View) → IsCalmly v x → IsCalmly v y → IsCalm
 calm_if true v x y one other = one
 calm_if false v x y one other = other
 
-calls_calm : (old new : Known) → FindsCalls old new → IsCalmly old.view new.view
-calls_calm old new not_looked = calm_same old.view
-calls_calm old new (inside last found h some) = calm_then old.view last.view _ (calls_calm old last h) (record { share = refl; packets = refl; turns = refl; first = refl; origin = refl; gone = refl; told = refl; state = refl; settled = refl; trail = refl })
+-- what of this list is such keeps, its steps keep of a seat that carries anything
+of_calm : {such : List Step → Type 0} (old new : Known) → ((xs : List Step) → such xs → (s : Standing) → IsCalmly s.view (steps_leave xs s).view) → LeadsBy (λ s. such) old new → IsCalmly old.view new.view
+of_calm old new calm h = subst (λ (z : View × View). IsCalmly z.0 z.1) (λ j. (h.3 j, sym h.5 j)) (calm h.1 h.2 h.0)
 
-waits_calm : (old new : Known) → WaitsForCalls old new → IsCalmly old.view new.view
-waits_calm old new w = calm_by old.view _ new.view (calm_then old.view w.0.view _ (calls_calm old w.0 w.1) (record { share = refl; packets = refl; turns = refl; first = refl; origin = refl; gone = refl; told = refl; state = refl; settled = refl; trail = refl })) (ap (λ (x : Known). x.view) w.2)
+wait_calm : {look : Bool → List Step → Type 0} → ((answer : Bool) (xs : List Step) → look answer xs → (s : Standing) → IsCalmly s.view (steps_leave xs s).view)
+    → (answer : Bool) (xs : List Step) → Wait look answer xs → (s : Standing) → IsCalmly s.view (steps_leave xs s).view
+wait_calm calm answer xs NotYet s = calm_same s.view
+wait_calm calm got xs (Again {answer} {before} {last} w l) s =
+    let m : Standing = steps_leave before s in
+    subst (λ (z : Standing). IsCalmly s.view z.view) (sym (leaves_then before last s)) (calm_then s.view m.view (steps_leave last m).view (wait_calm calm false before w s) (calm answer last l m))
 
-got_calm : (v w : View) → TriedAs true v w → IsCalmly v w
-got_calm v w t = calm_by v _ w (calm_if (is_control v.place.position) v (try_lock_view_in_control t.0 v) (try_lock_view_in_call t.0 v)
+inside_calm : (answer : Bool) (xs : List Step) → LookInside answer xs → (s : Standing) → IsCalmly s.view (steps_leave xs s).view
+inside_calm answer xs (CallInside {found} some) s = record { share = refl; packets = refl; turns = refl; first = refl; origin = refl; gone = refl; told = refl; state = refl; settled = refl; trail = refl }
+inside_calm answer xs NoCall s = record { share = refl; packets = refl; turns = refl; first = refl; origin = refl; gone = refl; told = refl; state = refl; settled = refl; trail = refl }
+
+held_calm : (v : View) → IsCalmly v (look_lock_view v)
+held_calm v = record { share = refl; packets = refl; turns = refl; first = refl; origin = refl; gone = refl; told = refl; state = refl; settled = refl; trail = refl }
+
+got_calm : (d : HolderPart) (v : View) → IsCalmly v (try_lock_view d v)
+got_calm d v = calm_if (is_control v.place.position) v (try_lock_view_in_control d v) (try_lock_view_in_call d v)
     (record { share = refl; packets = refl; turns = refl; first = refl; origin = refl; gone = refl; told = refl; state = refl; settled = refl; trail = refl })
-    (record { share = refl; packets = refl; turns = refl; first = refl; origin = refl; gone = refl; told = refl; state = refl; settled = refl; trail = refl })) t.1
+    (record { share = refl; packets = refl; turns = refl; first = refl; origin = refl; gone = refl; told = refl; state = refl; settled = refl; trail = refl })
 
-held_calm : (v w : View) → TriedAs false v w → IsCalmly v w
-held_calm v w t = calm_by v _ w (record { share = refl; packets = refl; turns = refl; first = refl; origin = refl; gone = refl; told = refl; state = refl; settled = refl; trail = refl }) t
+try_calm : (answer : Bool) (xs : List Step) → TryRunLock answer xs → (s : Standing) → IsCalmly s.view (steps_leave xs s).view
+try_calm answer xs (Held {found} some) s = calm_if (found == 0) s.view s.view (look_lock_view s.view) (calm_same s.view) (held_calm s.view)
+try_calm answer xs Lost s = held_calm s.view
+try_calm answer xs (Got {d}) s = got_calm d s.view
 
-tries_calm : (old new : Known) → TriesLock old new → IsCalmly old.view new.view
-tries_calm old new not_tried = calm_same old.view
-tries_calm old new (tried last next h once) = calm_then old.view last.view next.view (tries_calm old last h) (held_calm last.view next.view once.0)
+take_calm : (xs : List Step) → TakeLock xs → (s : Standing) → IsCalmly s.view (steps_leave xs s).view
+take_calm xs (Taken {tries} w) s = subst (λ (z : Standing). IsCalmly s.view z.view) (sym (leaves_then tries (MoveStation ∷ []) s)) (wait_calm try_calm true tries w s)
 
-pub takes_calm : (old new : Known) → TakesLock old new → IsCalmly old.view new.view
-takes_calm old new t = calm_then old.view t.last.view new.view (tries_calm old t.last t.tries) (got_calm t.last.view new.view t.gets.0)
+waits_calm : (old new : Known) → LeadsBy (λ s. Wait LookInside true) old new → IsCalmly old.view new.view
+waits_calm old new = of_calm old new (wait_calm inside_calm true)
+
+pub takes_calm : (old new : Known) → LeadsBy (λ s. TakeLock) old new → IsCalmly old.view new.view
+takes_calm old new = of_calm old new take_calm
+
+sole_calm : (v w : View) → IsCalmly v w → IsSole v → IsSole w
+sole_calm v w c sole = (ap (λ (s : SharePart). s.shares) c.share ∙ sole.0, c.told ∙ sole.1)
+
+-- who gets the lock finds the units that its trail tells, where it is the first seat, and what its account says, where it has the table alone
+abbrev FindsTold : View → View → Type 0
+FindsTold v w = (v.control.first ≡ true → w.holder.units ≡ units_of v.trail) × (IsSole v → IsAccounts w)
+
+holder_if : (b : Bool) (d : HolderPart) (x y : View) → x.holder ≡ d → y.holder ≡ d → (if b then x else y).holder ≡ d
+holder_if true d x y one other = one
+holder_if false d x y one other = other
+
+try_told : (answer : Bool) (xs : List Step) → answer ≡ true → TryRunLock answer xs → (s : Standing) → steps_tell xs s → FindsTold s.view (steps_leave xs s).view
+try_told answer xs is (Held some) s t = absurd (false≢true is)
+try_told answer xs is Lost s t = absurd (false≢true is)
+try_told answer xs is (Got {d}) s t =
+    let v : View = s.view in let h = holder_if (is_control v.place.position) d (try_lock_view_in_control d v) (try_lock_view_in_call d v) refl refl in
+    let tells = t.1.0 in (λ first. ap (λ (x : HolderPart). x.units) h ∙ tells.6 first, λ sole. (tells.7 sole).2)
+
+wait_told : (answer : Bool) (xs : List Step) → answer ≡ true → Wait TryRunLock answer xs → (s : Standing) → steps_tell xs s → FindsTold s.view (steps_leave xs s).view
+wait_told answer xs is NotYet s t = absurd (false≢true is)
+wait_told got xs is (Again {answer} {before} {last} w l) s t =
+    let m : Standing = steps_leave before s in let calm = wait_calm try_calm false before w s in let told = try_told answer last is l m (tells_then before last s t).1 in
+    subst (λ (z : Standing). FindsTold s.view z.view) (sym (leaves_then before last s)) (λ first. told.0 (calm.first ∙ first) ∙ ap units_of calm.trail, λ sole. told.1 (sole_calm s.view m.view calm sole))
+
+take_told : (xs : List Step) → TakeLock xs → (s : Standing) → steps_tell xs s → FindsTold s.view (steps_leave xs s).view
+take_told xs (Taken {tries} w) s t =
+    let move : List Step = MoveStation ∷ [] in
+    subst (λ (z : Standing). FindsTold s.view z.view) (sym (leaves_then tries move s)) (wait_told true tries refl w s (tells_then tries move s t).0)
+
+takes_told : (old new : Known) → LeadsBy (λ s. TakeLock) old new → FindsTold old.view new.view
+takes_told old new h = subst (λ (z : View × View). FindsTold z.0 z.1) (λ j. (h.3 j, sym h.5 j)) (take_told h.1 h.2 h.0 h.7)
 
 released_calm : (v w : View) → w ≡ (if is_control v.place.position then unlock_view_in_control v else unlock_view_in_call v) → IsCalmly v w
 released_calm v w e = calm_by v _ w (calm_if (is_control v.place.position) v (unlock_view_in_control v) (unlock_view_in_call v)
@@ -105,11 +158,10 @@ rounds_served k old new none_yet = served_none old.view old.view refl
 rounds_served k old new (served last next found h raised one) =
     served_then old.view next.view _ (served_then old.view last.view next.view (rounds_served k old last h) one.served)
     (record { kept = record { share = refl; turns = refl; first = refl; told = refl }; control = refl; trail = refl; fates = ([], refl) })
-rounds_served k old new (locked last found h low some) = rounds_served k old last h
-rounds_served k old new (scheduled last state h low set) = rounds_served k old last h
+rounds_served k old new (looked last next h f) = served_then old.view last.view next.view (rounds_served k old last h) (served_none last.view next.view f.same)
 
 pub waits_served : (k : Setup) (old new : Known) → WaitsUntilClear k old new → IsServed old.view new.view
-waits_served k old new w = served_then old.view w.0.view new.view (rounds_served k old w.0 w.1) (served_none w.0.view new.view (ap (λ (x : Known). x.view) w.2.is))
+waits_served k old new w = served_then old.view w.0.view new.view (rounds_served k old w.0 w.1) (served_none w.0.view new.view w.2.same)
 
 -- PURGES
 
@@ -130,10 +182,11 @@ purges_done k by bands s count old new owed purge left h =
       omega arith,
     )
 
-pub purges_all : (k : Setup) (by : Cause) (count : ℕ) (old new : Known) → old.view.packets.owed ≡ None → (p : PurgesBy k by count old new)
-    → IsPurged by (all_purged old.view.holder.slot p.bands) old.view new.view × (count ≡ length (all_purged old.view.holder.slot p.bands))
-purges_all k by count old new none_owed p =
-    let begun : Known = with_purge_begun by p.bands p.state old in let done = purges_done k by p.bands old.view.holder.slot count begun new refl refl refl p.purges in
+pub purges_all : (k : Setup) (event count : ℕ) (old new : Known) → old.view.packets.owed ≡ None → (p : PurgesBy k (BeginPurge event) (cause.Event event) count old new)
+    → IsPurged (cause.Event event) (all_purged old.view.holder.slot p.bands) old.view new.view × (count ≡ length (all_purged old.view.holder.slot p.bands))
+purges_all k event count old new none_owed p =
+    let by : Cause = cause.Event event in let begun : Known = known_after (BeginPurge event p.bands p.state ∷ []) old in
+    let done = purges_done k by p.bands old.view.holder.slot count begun new refl refl refl p.purges in
     (purged_of by p.bands (all_purged old.view.holder.slot p.bands) old.view begun.view new.view none_owed refl done.0, done.1)
 
 -- DEACTIVATIONS
@@ -149,9 +202,6 @@ leaves_more more events event count v w x l k trail fates = record {
   all = l.all;
 }
 
-sole_calm : (v w : View) → IsCalmly v w → IsSole v → IsSole w
-sole_calm v w c sole = (ap (λ (s : SharePart). s.shares) c.share ∙ sole.0, c.told ∙ sole.1)
-
 account_calm : (v w : View) → IsCalmly v w → account_of w ≡ account_of v
 account_calm v w c = λ j. account (c.share j).about (c.state j)
 
@@ -160,7 +210,7 @@ all_held slot bands a same each = λ j. option_to_list (same j) ++ (held_of (eac
 
 module _ (k : Setup) (event count : ℕ) (old new : Known) (bare : old.view.packets ≡ no_packets) (d : Deactivates k event count old new) where
   abbrev begun : Known
-  begun = with_deactivated_set event d.was old
+  begun = known_after (SetDeactivated event d.was ∷ []) old
 
   waited : IsCalmly begun.view d.calm.view
   waited = waits_calm begun d.calm d.waits
@@ -172,14 +222,14 @@ module _ (k : Setup) (event count : ℕ) (old new : Known) (bare : old.view.pack
   lost = all_purged d.locked.view.holder.slot d.purges.bands
 
   purged_all : IsPurged (cause.Event event) lost d.locked.view d.purged.view × (count ≡ length lost)
-  purged_all = purges_all k (cause.Event event) count d.locked d.purged (ap (λ (p : PacketPart). p.owed) (taken.packets ∙ bare)) d.purges
+  purged_all = purges_all k event count d.locked d.purged (ap (λ (p : PacketPart). p.owed) (taken.packets ∙ bare)) d.purges
 
   over : IsCalmly d.purged.view new.view
   over = released_calm d.purged.view new.view (ap (λ (x : Known). x.view) d.released)
 
   is_all : IsSole old.view → lost ≡ held (account_of old.view)
   is_all sole =
-      let now = account_calm begun.view d.locked.view taken in let known : IsAccounts d.locked.view = d.takes.accounts (sole_calm begun.view d.calm.view waited sole) in
+      let now = account_calm begun.view d.locked.view taken in let known : IsAccounts d.locked.view = (takes_told d.calm d.locked d.takes).1 (sole_calm begun.view d.calm.view waited sole) in
       all_held d.locked.view.holder.slot d.purges.bands (account_of begun.view) (ap (λ (h : HolderPart). h.slot) known ∙ ap (λ (a : Account). a.slot) now)
       (λ b below. d.purges.knows (sole_calm begun.view d.locked.view taken sole) b below ∙ ap (λ (a : Account). a.bands b) now)
 
@@ -222,13 +272,18 @@ downs_leaves k event count old new bare (clear, found, whole, e) =
       record { origin = ap (λ (x : View). x.control.origin) is ∙ l.1.origin; gone = ap (λ (x : View). x.control.gone) is ∙ l.1.gone },
     )
 
+clear_told : (answer : Bool) (xs : List Step) → answer ≡ true → LookClear answer xs → (s : Standing) → steps_tell xs s → IsSole s.view → s.view.whole.qdisc.sched ≡ false
+clear_told answer xs is (LockHeld some) s t sole = absurd (false≢true is)
+clear_told answer xs is (Scheduled set) s t sole = absurd (false≢true is)
+clear_told answer xs is (Clear clear) s t sole = let tells = t.1.0 in sym (tells.1 sole).scheduled ∙ clear
+
 -- the seat isn't raised after it, and one that has the table alone found SCHED clear
 pub downs_clear : (k : Setup) (event count : ℕ) (old new : Known) → Downs k event count old new → (new.view.place.raised ≡ false) × (IsSole new.view → new.view.whole.qdisc.sched ≡ false)
 downs_clear k event count old new (clear, found, (free, d, (last, rounds, f)), e) =
-    let is = ap (λ (x : Known). x.view) e in let at = ap (λ (x : Known). x.view) f.is in (
+    let is = ap (λ (x : Known). x.view) e in let at = f.same in let l = f.looks in (
       ap (λ (x : View). x.place.raised) is ∙ (ap (λ (x : View). x.place.raised) at ∙ f.low),
       λ sole. ap (λ (x : View). x.whole.qdisc.sched) is ∙ (ap (λ (x : View). x.whole.qdisc.sched) at
-          ∙ (sym (f.sees (subst IsSole at (subst IsSole is sole))).scheduled ∙ f.clear)),
+          ∙ subst (λ (v : View). IsSole v → v.whole.qdisc.sched ≡ false) l.3 (clear_told true l.1 refl l.2 l.0 l.7) (subst IsSole at (subst IsSole is sole))),
     )
 
 -- a length is changed
@@ -245,7 +300,7 @@ ends_calm old new (state, was, view, steps) =
 
 pub resizes_shrinks : (k : Setup) (event len count : ℕ) (old new : Known) → ResizesLive k event len count old new → Shrinks len event count old.view new.view
 resizes_shrinks k event len count old new (found, taken_at, resized, takes, r, ends) =
-    let begun : Known = with_control_begun found old in let a : IsCalmly begun.view taken_at.view = takes_calm begun taken_at takes in let z = ends_calm resized new ends.1 in
+    let begun : Known = known_after (BeginControl found ∷ []) old in let a : IsCalmly begun.view taken_at.view = takes_calm begun taken_at takes in let z = ends_calm resized new ends.1 in
     let band = λ (sole : IsSole old.view) (b : ℕ) (h : b < 3). r.is_known.1 (sole_calm begun.view taken_at.view a sole) b h ∙ ap (λ (x : Account). held_in x b) (account_calm begun.view taken_at.view a) in record {
       kept = record {
         share = z.share ∙ (ap (λ (x : View). x.share) r.is ∙ a.share);
@@ -290,47 +345,74 @@ changes_leaves k event len count old new bare (clear, changed, whole, (taken_at,
 
 -- the device is swapped
 
-opened_part : {X : Type 0} (part : View → X) → ((n : ℕ) (v : View) → part (open_xoff_view n v) ≡ part v) → (k : Setup) (more : ℕ) (old : Known) → part (with_queues_opened k more old).view ≡ part old.view
-opened_part part kept k zero old = refl
-opened_part part kept k (suc more) old = kept (suc more) (with_queues_opened k more old).view ∙ opened_part part kept k more old
+opened_part : {X : Type 0} (part : View → X) → ((n : ℕ) (v : View) → part (open_xoff_view n v) ≡ part v) → (more : ℕ) (s : Standing) → part (steps_leave (open_steps more) s).view ≡ part s.view
+opened_part part kept zero s = refl
+opened_part part kept (suc more) s =
+    ap (λ (z : Standing). part z.view) (leaves_then (open_steps more) (OpenXoff (suc more) ∷ []) s) ∙ (kept (suc more) (steps_leave (open_steps more) s).view ∙ opened_part part kept more s)
 
 module _ (k : Setup) (unit : ℕ) (came went : DeviceState) (old new : Known) (x : SwapsDevice k unit came went old new) where
-  abbrev placed : Known
-  placed = with_device_swapped k unit came x.locked
+  abbrev more : ℕ
+  more = k.queues - 1
 
-  abbrev opened : Known
-  opened = with_queues_opened k (k.queues - 1) placed
+  abbrev last : List Step
+  last = MoveStation ∷ Unlock ∷ []
 
-  had : IsCalmly old.view x.locked.view
-  had = takes_calm old x.locked x.takes
+  -- what the seat has with the device that came
+  abbrev changed : Standing
+  changed = step_leaves (SetStation (with_device (shown x.swaps.0.view.holder) unit came)) x.swaps.0
+
+  abbrev placed : Standing
+  placed = step_leaves SwapDevice changed
+
+  abbrev opened : Standing
+  opened = steps_leave (open_steps more) placed
+
+  -- the lock is got, and released
+  had : {X : Type 0} (part : View → X) → part x.locked.view ≡ part old.view → part changed.view ≡ part old.view
+  had part e = ap part x.swaps.3 ∙ e
+
+  calm : IsCalmly old.view x.locked.view
+  calm = takes_calm old x.locked x.takes
 
   given : IsCalmly opened.view new.view
-  given = released_calm opened.view new.view (ap (λ (y : Known). y.view) x.is)
+  given = released_calm opened.view new.view (x.swaps.5
+      ∙ (ap (λ (xs : List Step). (steps_leave xs x.swaps.0).view) x.swaps.2 ∙ ap (λ (z : Standing). z.view) (leaves_then (open_steps more) last placed)))
+
+  away : GoesAway changed.view
+  away = (subst (λ (xs : List Step). steps_tell xs x.swaps.0) x.swaps.2 x.swaps.7).1.0
 
   swap_keeps : IsKeptByControl old.view new.view
   swap_keeps = record {
-    share = given.share ∙ (opened_part (λ v. v.share) (λ n v. refl) k (k.queues - 1) placed ∙ had.share);
-    turns = given.turns ∙ (opened_part (λ v. v.turns) (λ n v. refl) k (k.queues - 1) placed ∙ had.turns);
-    first = given.first ∙ (opened_part (λ v. v.control.first) (λ n v. refl) k (k.queues - 1) placed ∙ had.first);
-    told = given.told ∙ (opened_part (λ v. v.whole.told) (λ n v. refl) k (k.queues - 1) placed ∙ had.told);
+    share = given.share ∙ (opened_part (λ v. v.share) (λ n v. refl) more placed ∙ had (λ v. v.share) calm.share);
+    turns = given.turns ∙ (opened_part (λ v. v.turns) (λ n v. refl) more placed ∙ had (λ v. v.turns) calm.turns);
+    first = given.first ∙ (opened_part (λ v. v.control.first) (λ n v. refl) more placed ∙ had (λ v. v.control.first) calm.first);
+    told = given.told ∙ (opened_part (λ v. v.whole.told) (λ n v. refl) more placed ∙ had (λ v. v.whole.told) calm.told);
   }
 
   swap_trail : new.view.trail ≡ Swap unit ∷ old.view.trail
-  swap_trail = given.trail ∙ (opened_part (λ v. v.trail) (λ n v. refl) k (k.queues - 1) placed ∙ ap (λ (es : List Event). Swap unit ∷ es) had.trail)
+  swap_trail = given.trail ∙ (opened_part (λ v. v.trail) (λ n v. refl) more placed
+      ∙ ap (λ (es : List Event). Swap unit ∷ es) (had (λ v. v.trail) calm.trail))
 
   swap_settled : new.view.settled ≡ old.view.settled
-  swap_settled = given.settled ∙ (opened_part (λ v. v.settled) (λ n v. refl) k (k.queues - 1) placed ∙ had.settled)
+  swap_settled = given.settled ∙ (opened_part (λ v. v.settled) (λ n v. refl) more placed ∙ had (λ v. v.settled) calm.settled)
 
   swap_came : new.view.control.origin ≡ came
-  swap_came = given.origin ∙ opened_part (λ v. v.control.origin) (λ n v. refl) k (k.queues - 1) placed
+  swap_came = given.origin ∙ opened_part (λ v. v.control.origin) (λ n v. refl) more placed
+
+  -- as it was when the lock was got
+  holder : changed.view.holder ≡ x.locked.view.holder
+  holder = ap (λ (v : View). v.holder) x.swaps.3
 
   swap_gone : old.view.control.first ≡ true → new.view.control.gone ≡ (latest_unit old.view.share.about.station (units_of old.view.trail), went.accepted) ∷ old.view.control.gone
-  swap_gone first = given.gone ∙ (opened_part (λ v. v.control.gone) (λ n v. refl) k (k.queues - 1) placed
-      ∙ (λ j. ((x.away.1 ∙ (λ i. latest_unit (had.share i).about.station (x.takes.units first i))) j, (sym x.goes j).accepted) ∷ had.gone j))
+  swap_gone first = given.gone ∙ (opened_part (λ v. v.control.gone) (λ n v. refl) more placed
+      ∙ (λ j. (
+        (away.1 ∙ (λ i. latest_unit (had (λ v. v.share) calm.share i).about.station ((ap (λ (h : HolderPart). h.units) holder ∙ (takes_told old x.locked x.takes).0 first) i))) j,
+        ((ap (λ (h : HolderPart). h.station.device) holder ∙ sym x.goes) j).accepted,
+      ) ∷ had (λ v. v.control.gone) calm.gone j))
 
   swap_served : HasServed old.view.share.about.infos old.view.share.about.station old.view.control.origin went
-  swap_served = subst (λ (d : DeviceState). HasServed old.view.share.about.infos old.view.share.about.station old.view.control.origin d) (sym x.goes)
-      (subst (λ (z : SharePart × DeviceState). HasServed z.0.about.infos z.0.about.station z.1 x.locked.view.holder.station.device) (λ j. (had.share j, had.origin j)) x.away.0)
+  swap_served = subst (λ (z : SharePart × DeviceState × DeviceState). HasServed z.0.about.infos z.0.about.station z.1 z.2)
+      (λ j. (had (λ v. v.share) calm.share j, had (λ v. v.control.origin) calm.origin j, (ap (λ (h : HolderPart). h.station.device) holder ∙ sym x.goes) j)) away.0
 
 pub swaps_leaves : (k : Setup) (event unit : ℕ) (came went : DeviceState) (old new : Known) → old.view.packets ≡ no_packets → Swaps k event unit came went old new
     → (count : ℕ) × LeavesPurged (Up ∷ Swap unit ∷ PurgeEvent (cause.Event event) ∷ Down event ∷ []) event count old.view new.view

@@ -1,22 +1,20 @@
 -- What a look at a station's words leaves of a seat that has the table alone, and tells it.
-use Rattle.std.proofs.Common.{◌≡◌, inl, inr, ℕ, ◌<◌, Bool, true, false, None, refl, sym, ap, ◌∙◌, subst}
+use Rattle.std.proofs.Common.{◌≡◌, inl, inr, ℕ, ◌<◌, Bool, true, false, None, [], ◌∷◌, refl, sym, ap, ◌∙◌, subst}
 use Rattle.std.specs.Prelude.{not, ◌&&◌, ◌==◌}
 use Rattle.lq_model.specs.declared.machine.Position.TheVariants.{Control}
 use Rattle.lq_model.specs.Control.{found_inside}
 use Rattle.lq_table.specs.AtRest.{IsSoleAtRest, KnowsRest}
 use Rattle.lq_table.specs.Inside.{load_inside_view}
-use Rattle.lq_table.specs.Made.{◌⊳◌}
-use Rattle.lq_table.specs.Locks.{load_lock_log}
-use Rattle.lq_table.specs.States.{load_state_log, SeesState, load_state_view}
-use Rattle.lq_table.specs.Sees.{view, known, position, IsElseSame, IsSole, account_of}
+use Rattle.lq_table.specs.States.{SeesState, load_state_view}
+use Rattle.lq_table.specs.Step.{LoadLock, LoadState, MakesSteps}
+use Rattle.lq_table.specs.Sees.{view, position, IsElseSame, IsSole, account_of}
 use Rattle.lq_table.specs.Moves.{at_rest, is_set}
 use Rattle.lq_table.specs.Views.{View, Setup}
 use Rattle.lq_table.specs.declared.shared.Cpu.{Cpu}
 use Rattle.lq_control.specs.Finish.{AreKept, AreStopsBelow, Hangs, IsActiveOrPurged, IsLook, IsOver}
 use Rattle.lq_control.specs.EndSteps.{are_quiet}
 use Rattle.lq_control.specs.Seats.{IsFirstReadyAt}
-use Rattle.lq_control.specs.Steps.{with_words_loaded}
-use Rattle.lq_control.proofs.EndStepLemmas.{looked_from}
+use Rattle.lq_run.proofs.StepsThen.{makes_then}
 use Rattle.lq_control.proofs.FinishSteps.{control_looked, hangs, is_up, kept_of, look_none, over_down}
 
 -- LOOKS
@@ -74,19 +72,19 @@ pub record Told (k : Setup) (state : ℕ) (v : View) : Type 0 where
 module _ {D : Type 0} where
   pub record LooksAt (k : Setup) (lock state : ℕ) (b a : Cpu D) : Type 0 where
     pub same : IsLooked b a
-    pub from : known a ≡ with_words_loaded lock state (known b)
+    pub makes : MakesSteps (LoadLock lock ∷ LoadState state ∷ []) b a
     pub told : Told k state (view a)
     pub kept : AreKept k (view a)
 
   pub looks_at : (k : Setup) (lock state : ℕ) (b l a : Cpu D) → (view b).share.about ≡ k → IsFirstReadyAt (Control false) b → IsSole (view b) × IsActiveOrPurged (view b)
-      → IsElseSame b l → view l ≡ view b → (IsSoleAtRest (view b) → KnowsRest (view b)) → (known l).steps ≡ (known b).steps ⊳ load_lock_log lock
-      → IsElseSame l a → view a ≡ load_state_view state (view l) → (IsSole (view l) → SeesState (view l) state) → (known a).steps ≡ (known l).steps ⊳ load_state_log state
+      → IsElseSame b l → view l ≡ view b → (IsSoleAtRest (view b) → KnowsRest (view b)) → MakesSteps (LoadLock lock ∷ []) b l
+      → IsElseSame l a → view a ≡ load_state_view state (view l) → (IsSole (view l) → SeesState (view l) state) → MakesSteps (LoadState state ∷ []) l a
       → LooksAt k lock state b a
   looks_at k lock state b l a about at sole same lock_view alone lock_made same2 state_view sees made =
       let still : view a ≡ view b = state_view ∙ (control_looked state false (view l) (ap (λ (x : View). x.place.position) lock_view ∙ at.0) ∙ lock_view) in
       let rest : KnowsRest (view b) = alone (sole.0, ap at_rest at.0, at.2.1, at.2.2) in record {
         same = looked_then b l a (looked_still b l (same, lock_view)) (looked_still l a (same2, still ∙ sym lock_view));
-        from = looked_from lock state (known b) (known l) (known a) lock_made still made;
+        makes = makes_then lock_made made;
         told = subst (Told k state) (sym still) (record {
           about = about;
           first = at.1;

@@ -1,26 +1,22 @@
 -- What the end of a station does: the steps in the order in which they are made, and what the seat knows after them, with the values that
 -- they found.
-use Rattle.std.specs.Prelude.{◌≡◌, ◌≢◌, ◌⊎◌, ◌*◌, ◌<◌, ◌≤◌, ℕ, zero, suc, Bool, true, false, not, ◌&&◌, ◌==◌, length}
+use Rattle.std.specs.Prelude.{◌≡◌, ◌≢◌, ◌⊎◌, ◌*◌, ◌<◌, ◌≤◌, ℕ, zero, suc, Bool, true, false, not, ◌&&◌, ◌==◌, List, [], ◌∷◌, ◌++◌, length}
 use Rattle.lq_model.specs.Plan.{owner_in, rank_in, station_in}
 use Rattle.lq_model.specs.declared.fate.Cause.TheVariants as cause
 use Rattle.lq_qdisc.specs.Sends.{WakesBelow}
-use Rattle.lq_qdisc.specs.Steps.{ReleasesBy, TransmitsBy, with_state_loaded}
+use Rattle.lq_qdisc.specs.StepLists.{LeadsBy}
+use Rattle.lq_qdisc.specs.Steps.{ReleasesBy, TransmitsBy}
 use Rattle.lq_qdisc.specs.declared.answers.Sending.{Sending}
 use Rattle.lq_table.specs.Views.{Setup, Known}
 use Rattle.lq_table.specs.Moves.{is_set}
-use Rattle.lq_table.specs.Stops.{load_xoff_view, load_xoff_log}
-use Rattle.lq_table.specs.Made.{◌⊳◌}
-use Rattle.lq_table.specs.Turns.{load_turn_log}
+use Rattle.lq_table.specs.Step.{BeginControl, BeginHungPurge, EndControl, LoadInside, LoadLock, LoadState, LoadTurn, LoadXoff, Step}
 use Rattle.lq_control.specs.Control.{IsServed}
 use Rattle.lq_control.specs.Finish.{AreAllDone, IsSent, PurgesHung}
-use Rattle.lq_control.specs.Steps.{DrainsBy, PurgesBy, TakesLock, with_control_begun, with_control_ended, with_inside_loaded, with_words_loaded}
+use Rattle.lq_control.specs.Steps.{DrainsBy, LookInside, PurgesBy, TakeLock, Wait, known_after}
 use Rattle.lq_control.specs.declared.finishes.Seen.{Seen}
 use Rattle.lq_control.specs.declared.finishes.Seen.TheVariants as seen
 
 -- WHAT IS LEFT
-
-abbrev pub with_turn_loaded : ℕ → ℕ → Known → Known
-with_turn_loaded owner found k = record { view = k.view; steps = k.steps ⊳ load_turn_log owner found }
 
 -- where its owner's turn word is at most twice the packet's rank it was left: it is transmitted, and soft interrupts are done
 abbrev pub SendsLeft : Setup → ℕ → ℕ → Known → Known → Type 0
@@ -32,7 +28,7 @@ SendsLeft k n turn old new =
 abbrev pub SendsIfLeft : Setup → ℕ → Known → Known → Type 0
 SendsIfLeft k n old new =
     ((station_in k.infos n ≢ k.station) × (new ≡ old))
-    ⊎ ((station_in k.infos n ≡ k.station) × (turn : ℕ) × SendsLeft k n turn (with_turn_loaded (owner_in k.infos n) turn old) new)
+    ⊎ ((station_in k.infos n ≡ k.station) × (turn : ℕ) × SendsLeft k n turn (known_after (LoadTurn (owner_in k.infos n) turn ∷ []) old) new)
 
 -- the first so many packets, in ascending order
 abbrev pub SendsLeftBelow : Setup → ℕ → Known → Known → Type 0
@@ -48,40 +44,36 @@ pub record SendsAllLeft (k : Setup) (old new : Known) : Type 0 where
 
 -- A LOOK AT THE WORDS
 
-abbrev pub with_stop_loaded : Setup → ℕ → ℕ → Known → Known
-with_stop_loaded k queue found old = record { view = load_xoff_view found old.view; steps = old.steps ⊳ load_xoff_log k queue found }
-
 -- the stop words of the first so many queues are loaded, in ascending order, and each is this one
-abbrev pub stops_loaded : Setup → ℕ → ℕ → Known → Known
-stops_loaded k word zero old = old
-stops_loaded k word (suc queue) old = with_stop_loaded k queue word (stops_loaded k word queue old)
+abbrev pub xoff_steps : ℕ → ℕ → List Step
+xoff_steps word zero = []
+xoff_steps word (suc queue) = xoff_steps word queue ++ LoadXoff queue word ∷ []
 
--- whether each queue has this stop word: they are loaded up to the first that is another
-abbrev pub LoadsStops : Setup → ℕ → Bool → Known → Known → Type 0
-LoadsStops k word true old new = new ≡ stops_loaded k word k.queues old
-LoadsStops k word false old new = (queue found : ℕ) × (queue < k.queues) × (found ≢ word) × (new ≡ with_stop_loaded k queue found (stops_loaded k word queue old))
+-- whether each of so many queues has this stop word: they are loaded up to the first that is another
+pub data LoadStops (queues word : ℕ) : Bool → List Step → Type 0 where
+  EachIs : LoadStops queues word true (xoff_steps word queues)
+  OtherIs : {queue found : ℕ} → queue < queues → found ≢ word
+      → LoadStops queues word false (xoff_steps word queue ++ LoadXoff queue found ∷ [])
 
 -- its words are quiet so far: each queue is open, the run lock was free, and SCHED clear
 abbrev pub are_quiet : Bool → ℕ → ℕ → Bool
 are_quiet are_open lock state = are_open && ((lock == 0) && not (is_set 1 state))
 
--- where they aren't the station goes on; else the calls inside are loaded, and tell it
-abbrev pub LooksInside : Bool → Seen → Known → Known → Type 0
-LooksInside quiet answer old new =
-    ((quiet ≡ false) × (answer ≡ seen.Going) × (new ≡ old))
-    ⊎ ((quiet ≡ true) × (inside : ℕ) × (((inside ≡ 0) × (answer ≡ seen.Ended)) ⊎ ((inside ≢ 0) × (answer ≡ seen.Going))) × (new ≡ with_inside_loaded inside old))
-
--- of an active station the stop words are loaded: whether all are hung, and where they aren't, whether all are open
-abbrev pub LooksAtQueues : Setup → ℕ → ℕ → Seen → Known → Known → Type 0
-LooksAtQueues k lock state answer old new =
-    ((answer ≡ seen.Hung) × LoadsStops k 2 true old new)
-    ⊎ ((one two : Known) × (are_open : Bool) × LoadsStops k 2 false old one × LoadsStops k 0 are_open one two × LooksInside (are_quiet are_open lock state) answer two new)
-
--- the run lock is loaded, and then the state
-abbrev pub LooksBy : Setup → Seen → Known → Known → Type 0
-LooksBy k answer old new = (lock state : ℕ)
-    × (((is_set 2 state ≡ true) × (answer ≡ seen.Ended) × (new ≡ with_words_loaded lock state old))
-    ⊎ ((is_set 2 state ≡ false) × LooksAtQueues k lock state answer (with_words_loaded lock state old) new))
+-- The run lock is loaded, and then the state. Of an active station the stop words are: whether all are hung, and where they aren't, whether
+-- all are open. Where its words are quiet so far the calls inside tell whether it is at its end.
+pub data Look (queues : ℕ) : Seen → List Step → Type 0 where
+  Deactivated : {lock state : ℕ} → is_set 2 state ≡ true → Look queues seen.Ended (LoadLock lock ∷ LoadState state ∷ [])
+  AllHung : {lock state : ℕ} {stops : List Step} → is_set 2 state ≡ false → LoadStops queues 2 true stops
+      → Look queues seen.Hung (LoadLock lock ∷ LoadState state ∷ [] ++ stops)
+  NotQuiet : {lock state : ℕ} {are_open : Bool} {stops opens : List Step}
+      → is_set 2 state ≡ false → LoadStops queues 2 false stops → LoadStops queues 0 are_open opens → are_quiet are_open lock state ≡ false
+      → Look queues seen.Going (LoadLock lock ∷ LoadState state ∷ [] ++ stops ++ opens)
+  NotOver : {lock state : ℕ} {are_open : Bool} {stops opens inside : List Step}
+      → is_set 2 state ≡ false → LoadStops queues 2 false stops → LoadStops queues 0 are_open opens → are_quiet are_open lock state ≡ true
+      → LookInside false inside → Look queues seen.Going (LoadLock lock ∷ LoadState state ∷ [] ++ stops ++ opens ++ inside)
+  Over : {lock state : ℕ} {are_open : Bool} {stops opens inside : List Step}
+      → is_set 2 state ≡ false → LoadStops queues 2 false stops → LoadStops queues 0 are_open opens → are_quiet are_open lock state ≡ true
+      → LookInside true inside → Look queues seen.Ended (LoadLock lock ∷ LoadState state ∷ [] ++ stops ++ opens ++ inside)
 
 -- SERVED TO THE END
 
@@ -89,27 +81,24 @@ LooksBy k answer old new = (lock state : ℕ)
 pub data ServesOn (k : Setup) (old : Known) : Known → Type 0 where
   none_yet : ServesOn k old old
   one_more : (last looked woken next : Known) (begun left : ℕ) (opened : Bool) → ServesOn k old last
-      → LooksBy k seen.Going (with_control_begun begun last) looked → WakesBelow k k.queues opened (with_control_ended left looked) woken → DrainsBy k woken next → ServesOn k old next
+      → LeadsBy (λ s. Look k.queues seen.Going) (known_after (BeginControl begun ∷ []) last) looked
+      → WakesBelow k k.queues opened (known_after (EndControl left ∷ []) looked) woken → DrainsBy k woken next → ServesOn k old next
 
 -- up to a look that finds it otherwise; no event of control or the first sender came
 pub record ServesToEnd (k : Setup) (answer : Seen) (old new : Known) : Type 0 where
   pub last : Known
   pub begun : ℕ
   pub serves : ServesOn k old last
-  pub looks : LooksBy k answer (with_control_begun begun last) new
+  pub looks : LeadsBy (λ s. Look k.queues answer) (known_after (BeginControl begun ∷ []) last) new
   pub served : IsServed old.view new.view
 
 -- THE PURGE OF A HUNG STATION
 
--- the calls inside are loaded, and there are some; or there is none, and SCHED is set
-pub data FindsBusy (old : Known) : Known → Type 0 where
-  not_looked : FindsBusy old old
-  inside : (last : Known) (found : ℕ) → FindsBusy old last → found ≢ 0 → FindsBusy old (with_inside_loaded found last)
-  scheduled : (last : Known) (state : ℕ) → FindsBusy old last → is_set 1 state ≡ true → FindsBusy old (with_state_loaded state (with_inside_loaded 0 last))
-
--- and then there is none, and SCHED is clear
-abbrev pub WaitsUntilLeft : Known → Known → Type 0
-WaitsUntilLeft old new = (last : Known) × (state : ℕ) × FindsBusy old last × (is_set 1 state ≡ false) × (new ≡ with_state_loaded state (with_inside_loaded 0 last))
+-- whether no call is found inside, and SCHED clear after that
+pub data LookLeft : Bool → List Step → Type 0 where
+  StillInside : {inside : List Step} → LookInside false inside → LookLeft false inside
+  StillScheduled : {state : ℕ} → is_set 1 state ≡ true → LookLeft false (LoadInside 0 ∷ LoadState state ∷ [])
+  AllLeft : {state : ℕ} → is_set 1 state ≡ false → LookLeft true (LoadInside 0 ∷ LoadState state ∷ [])
 
 -- Under the run lock, with the unit of the station that came with that as the cause: so many packets are purged, which are all that were
 -- held.
@@ -117,9 +106,9 @@ pub record PurgesHungBy (k : Setup) (count : ℕ) (old new : Known) : Type 0 whe
   pub left : Known
   pub locked : Known
   pub purged : Known
-  pub waits : WaitsUntilLeft old left
-  pub takes : TakesLock left locked
-  pub purges : PurgesBy k (cause.Hung locked.view.holder.station.unit) count locked purged
+  pub waits : LeadsBy (λ s. Wait LookLeft true) old left
+  pub takes : LeadsBy (λ s. TakeLock) left locked
+  pub purges : PurgesBy k BeginHungPurge (cause.Hung locked.view.holder.station.unit) count locked purged
   pub releases : ReleasesBy purged new
   pub comes_to : PurgesHung count old.view new.view
 
@@ -131,7 +120,8 @@ EndsHung k count old new = (hung : Known) × ServesToEnd k seen.Hung old hung ×
 
 -- it is served until it is deactivated or its words are quiet, and the call of control is left: 0 is answered
 abbrev pub EndsQuiet : Setup → ℕ → Known → Known → Type 0
-EndsQuiet k count old new = (over : Known) × (found : ℕ) × ServesToEnd k seen.Ended old over × (count ≡ 0) × (new ≡ with_control_ended found over)
+EndsQuiet k count old new = (over : Known) × (found : ℕ) × ServesToEnd k seen.Ended old over × (count ≡ 0)
+    × (new ≡ known_after (EndControl found ∷ []) over)
 
 -- what is left is sent, and the station brought to its end
 abbrev pub FinishesBy : Setup → ℕ → Known → Known → Type 0

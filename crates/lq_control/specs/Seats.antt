@@ -6,7 +6,7 @@ use Rattle.lq_model.specs.declared.machine.Phase.{Phase}
 use Rattle.lq_model.specs.declared.machine.Position.{Position}
 use Rattle.lq_model.specs.declared.machine.Position.TheVariants.{Control}
 use Rattle.lq_table.specs.Rule.{shown}
-use Rattle.lq_table.specs.Sees.{view, known, position, slot, IsSameSeat}
+use Rattle.lq_table.specs.Sees.{view, position}
 use Rattle.lq_table.specs.declared.shared.Cpu.{Cpu}
 use Rattle.lq_table.specs.declared.shared.Shared.{Shared}
 use Rattle.lq_qdisc.specs.Sends.{IsReadyToSend}
@@ -20,10 +20,6 @@ module _ {D : Type 0} where
   -- a seat at this position, with nothing in hand, that knows the station as in this phase
   abbrev pub IsReadyAt : Position → Phase → Cpu D → Type 0
   IsReadyAt at phase c = (position c ≡ at) × IsReadyToSend c × IsIn phase (view c)
-
-  -- all but the station that it carries is as it was
-  abbrev pub ChangesOnlyStation : Cpu D → Cpu D → Type 0
-  ChangesOnlyStation b a = IsSameSeat b a × (a.indices ≡ b.indices) × (slot a ≡ slot b) × (known a ≡ known b)
 
 -- PURGES
 

@@ -1,10 +1,14 @@
 //! A station is activated and deactivated.
-ghost use Rattle.std.specs.Prelude.{◌≡◌, true};
+ghost use Rattle.std.specs.Prelude.{◌≡◌, ℕ, true, false};
 ghost use Rattle.lq_model.specs.declared.machine.Phase.TheVariants.{Active, Purged};
-ghost use Rattle.lq_model.specs.declared.machine.Position.TheVariants.{Idle};
-ghost use Rattle.lq_table.specs.Sees.{view, setup, position, IsSeatOf};
-ghost use Rattle.lq_control.specs.Control.{IsIn};
-ghost use Rattle.lq_control.specs.Calls.{ActivatesStation, DeactivatesStation, DownsStation, MayControl};
+ghost use Rattle.lq_model.specs.declared.machine.Position.TheVariants.{Control, Idle};
+ghost use Rattle.lq_model.specs.declared.plan.EventKind.TheVariants as kind;
+ghost use Rattle.lq_table.specs.Controls.{clear_deactivated_view};
+ghost use Rattle.lq_table.specs.Sees.{view, known, setup, position, IsSeatOf, IsElseSame, IsSole, solo};
+ghost use Rattle.lq_control.specs.Alone.{DoesEventAlone};
+ghost use Rattle.lq_control.specs.Control.{IsIn, deactivated_solo};
+ghost use Rattle.lq_control.specs.Calls.{ControlsStation, MayControl, deactivated_by};
+ghost use Rattle.lq_control.specs.Steps.{Deactivates, Downs, Ups};
 
 use crate::drains::wait_until_clear;
 use crate::purges::purge_all;
@@ -19,7 +23,10 @@ pub fn up<'a, D: TxDevice>(shared: &Shared<'a, D>, cpu: &mut Cpu<D>)
     requires seat { IsSeatOf shared.now cpu.old }
     requires at { (position cpu.old ≡ Idle) × ((view cpu.old).control.first ≡ true) }
     requires deactivated { IsIn Purged (view cpu.old) }
-    ensures { ActivatesStation (setup shared.now) cpu.old cpu.new }
+    ensures same { IsElseSame cpu.old cpu.new }
+    ensures opened { view cpu.new ≡ clear_deactivated_view (view cpu.old) }
+    ensures ups { Ups (known cpu.old) (known cpu.new) }
+    ensures alone { (event : ℕ) → DoesEventAlone (setup shared.now) event kind.Up (view cpu.old) (view cpu.new) }
 {
     shared.begin_control(cpu);
     shared.clear_deactivated(cpu);
@@ -37,7 +44,8 @@ pub fn down<'a, D: TxDevice, R: Wait>(
 ) -> u32
     requires seat { IsSeatOf shared.now cpu.old }
     requires may { MayControl Idle Active cpu.old }
-    ensures { DownsStation shared.now event result cpu.old cpu.new }
+    ensures { ControlsStation Idle Purged (deactivated_by event) (Downs (setup shared.now) event result)
+        (DoesEventAlone (setup shared.now) event kind.Down) cpu.old cpu.new }
 {
     let purged = deactivate(rt, shared, cpu, event);
     wait_until_clear(rt, shared, cpu);
@@ -54,7 +62,8 @@ pub(crate) fn deactivate<'a, D: TxDevice, R: Wait>(
 ) -> u32
     requires seat { IsSeatOf shared.now cpu.old }
     requires may { MayControl Idle Active cpu.old }
-    ensures { DeactivatesStation shared.now event result cpu.old cpu.new }
+    ensures { ControlsStation (Control false) Purged (deactivated_by event) (Deactivates (setup shared.now) event result)
+        (λ v w. IsSole v → solo w ≡ deactivated_solo event (solo v)) cpu.old cpu.new }
 {
     shared.set_deactivated(cpu, event);
     wait_for_calls(rt, shared, cpu);

@@ -1,10 +1,14 @@
 //! The soft interrupts of control's own seat.
-ghost use Rattle.std.specs.Prelude.{◌≡◌, false};
+ghost use Rattle.std.specs.Prelude.{◌≡◌, true, false, IsSome};
 ghost use Rattle.lq_model.specs.declared.machine.Position.TheVariants.{Idle, Control};
-ghost use Rattle.lq_table.specs.Sees.{view, position, IsSeatOf};
+ghost use Rattle.lq_table.specs.Sees.{view, known, setup, position, IsSeatOf, IsSameSeat, IsElseSame, IsSole, account_of, solo};
+ghost use Rattle.lq_run.specs.Steps.{MakesStepsOf};
 ghost use Rattle.lq_qdisc.specs.Sends.{IsReadyToSend};
+ghost use Rattle.lq_control.specs.Alone.{ServesAlone, unmarked};
+ghost use Rattle.lq_control.specs.Calls.{ServesInterrupts, UnmarksAlone};
+ghost use Rattle.lq_control.specs.Control.{IsServed, OwesNoInterrupt};
 ghost use Rattle.lq_control.specs.Seats.{IsFirstReadyAt};
-ghost use Rattle.lq_control.specs.Calls.{DrainsSeat, LooksClear, ServesOrLooksClear, WaitsForClear};
+ghost use Rattle.lq_control.specs.Steps.{DrainsBy, FindsClear, LookClear, Rounds, WaitsUntilClear};
 
 use crossbeam_utils::Backoff;
 use lq_device::TxDevice;
@@ -18,7 +22,7 @@ use std::sync::Wait;
 pub fn drain<'a, D: TxDevice, R: Wait>(rt: &R, shared: &Shared<'a, D>, cpu: &mut Cpu<D>)
     requires seat { IsSeatOf shared.now cpu.old }
     requires at { (position cpu.old ≡ Idle) × IsReadyToSend cpu.old }
-    ensures { DrainsSeat shared.now cpu.old cpu.new }
+    ensures { ServesInterrupts Idle (DrainsBy (setup shared.now)) (ServesAlone (setup shared.now)) cpu.old cpu.new }
 {
     for _ in rt.forever() {
         if !cpu.raised() {
@@ -33,7 +37,9 @@ pub fn drain<'a, D: TxDevice, R: Wait>(rt: &R, shared: &Shared<'a, D>, cpu: &mut
 fn is_clear<'a, D: TxDevice>(shared: &Shared<'a, D>, cpu: &mut Cpu<D>) -> bool
     requires seat { IsSeatOf shared.now cpu.old }
     requires at { (position cpu.old ≡ Control false) × ((view cpu.old).place.raised ≡ false) }
-    ensures { LooksClear shared.now result cpu.old cpu.new }
+    ensures makes { MakesStepsOf (LookClear result) cpu.old cpu.new }
+    ensures same { IsElseSame cpu.old cpu.new × (view cpu.new ≡ view cpu.old) }
+    ensures sole { IsSole (view cpu.old) → result ≡ true → (view cpu.old).whole.qdisc.sched ≡ false }
 {
     shared.load_lock(cpu) == 0 && shared.load_state(cpu) & SCHED == 0
 }
@@ -42,7 +48,13 @@ fn is_clear<'a, D: TxDevice>(shared: &Shared<'a, D>, cpu: &mut Cpu<D>) -> bool
 fn serve_or_look<'a, D: TxDevice>(shared: &Shared<'a, D>, cpu: &mut Cpu<D>) -> bool
     requires seat { IsSeatOf shared.now cpu.old }
     requires at { IsFirstReadyAt (Control false) cpu.old }
-    ensures { ServesOrLooksClear shared.now result cpu.old cpu.new }
+    ensures same { IsSameSeat cpu.old cpu.new }
+    ensures served { IsServed (view cpu.old) (view cpu.new) }
+    ensures at { (position cpu.new ≡ Control false) × IsReadyToSend cpu.new }
+    ensures clear { result ≡ true → OwesNoInterrupt (view cpu.new) }
+    ensures off { IsSole (view cpu.old) → IsSome (account_of (view cpu.old)).down → unmarked (solo (view cpu.new)) ≡ unmarked (solo (view cpu.old)) }
+    ensures found { result ≡ true → FindsClear true (known cpu.old) (known cpu.new) }
+    ensures again { result ≡ false → Rounds (setup shared.now) (known cpu.old) (known cpu.new) }
 {
     if cpu.raised() {
         softirq(shared, cpu);
@@ -61,7 +73,7 @@ pub(crate) fn wait_until_clear<'a, D: TxDevice, R: Wait>(
 )
     requires seat { IsSeatOf shared.now cpu.old }
     requires at { IsFirstReadyAt (Control false) cpu.old }
-    ensures { WaitsForClear shared.now cpu.old cpu.new }
+    ensures { ServesInterrupts (Control false) (WaitsUntilClear (setup shared.now)) UnmarksAlone cpu.old cpu.new }
 {
     let backoff = Backoff::new();
     for _ in rt.forever() {

@@ -1,14 +1,18 @@
 //! The end of a station, once all its seats are joined.
-ghost use Rattle.std.specs.Prelude.{◌≡◌, ◌<◌, None, true, false, length, if◌then◌else◌};
+ghost use Rattle.std.specs.Prelude.{◌≡◌, ◌<◌, ◌+◌, None, true, false, length, if◌then◌else◌};
 ghost use Rattle.lq_model.specs.declared.machine.Phase.TheVariants.{Active};
 ghost use Rattle.lq_model.specs.declared.machine.Position.TheVariants.{Idle, Control};
-ghost use Rattle.lq_table.specs.Sees.{view, known, setup, position, IsSeatOf, IsElseSame, IsSole};
+ghost use Rattle.lq_table.specs.Sees.{view, known, setup, position, IsSeatOf, IsSameSeat, IsElseSame, IsSole};
+ghost use Rattle.lq_run.specs.Steps.{MakesStepsOf};
+ghost use Rattle.lq_qdisc.specs.Sends.{IsCallKept, IsReadyToSend};
 ghost use Rattle.lq_control.specs.declared.finishes.Seen.TheVariants.{Hung, Ended};
 ghost use Rattle.lq_control.specs.Control.{IsIn};
-ghost use Rattle.lq_control.specs.EndSteps.{WaitsUntilLeft, are_quiet as quiet};
-ghost use Rattle.lq_control.specs.Finish.{IsLook, IsActiveOrPurged, Hangs};
-ghost use Rattle.lq_control.specs.Seats.{IsFirstReadyAt};
-ghost use Rattle.lq_control.specs.Calls.{BringsToEnd, LooksAtStopWords, LooksAtWords, LooksLeft, MayEndStation, MaySendLeft, PurgesHungStation, SendsEachLeft, SendsOneLeft, ServesUntil};
+ghost use Rattle.lq_control.specs.EndSteps.{FinishesBy, LoadStops, Look, LookLeft, PurgesHungBy, SendsAllLeft, SendsIfLeft, ServesToEnd, are_quiet as quiet};
+ghost use Rattle.lq_control.specs.Ending.{EndsAlike, FinishesAlone};
+ghost use Rattle.lq_control.specs.Finish.{AreAllDone, AreKept, AreStopsBelow, AreTurnsFrom, IsActiveOrPurged, IsFinished, IsLook, IsSent, Hangs, Shows};
+ghost use Rattle.lq_control.specs.Seats.{IsFirstReadyAt, IsReadyAt};
+ghost use Rattle.lq_control.specs.Steps.{Wait};
+ghost use Rattle.lq_control.specs.Calls.{MayEndStation, MaySendLeft};
 
 use crate::drains::drain;
 use crate::purges::purge_held;
@@ -37,7 +41,13 @@ fn send_left<'a, D: TxDevice, R: Wait>(rt: &R, shared: &Shared<'a, D>, cpu: &mut
     requires seat { IsSeatOf shared.now cpu.old }
     requires may { MaySendLeft (setup shared.now) n cpu.old }
     requires packet { n < length shared.now.infos.now }
-    ensures { SendsOneLeft (setup shared.now) n cpu.old cpu.new }
+    ensures kept { IsCallKept cpu.old cpu.new }
+    ensures at { (position cpu.new ≡ Idle) × IsReadyToSend cpu.new }
+    ensures raised { (view cpu.new).place.raised ≡ false }
+    ensures turns { AreTurnsFrom (setup shared.now) (n + 1) (view cpu.new).turns }
+    ensures sent { IsSent (setup shared.now) (view cpu.old) (view cpu.new) }
+    ensures done { AreAllDone (setup shared.now) (view cpu.old).turns → view cpu.new ≡ view cpu.old }
+    ensures sends { SendsIfLeft (setup shared.now) n (known cpu.old) (known cpu.new) }
 {
     let info = shared.infos()[n as usize];
     if info.station as u32 != shared.number() {
@@ -53,7 +63,10 @@ fn send_left<'a, D: TxDevice, R: Wait>(rt: &R, shared: &Shared<'a, D>, cpu: &mut
 fn send_all_left<'a, D: TxDevice, R: Wait>(rt: &R, shared: &Shared<'a, D>, cpu: &mut Cpu<D>)
     requires seat { IsSeatOf shared.now cpu.old }
     requires may { MaySendLeft (setup shared.now) 0 cpu.old }
-    ensures { SendsEachLeft (setup shared.now) cpu.old cpu.new }
+    ensures kept { IsCallKept cpu.old cpu.new }
+    ensures at { (position cpu.new ≡ Idle) × IsReadyToSend cpu.new }
+    ensures raised { (view cpu.new).place.raised ≡ false }
+    ensures sends { SendsAllLeft (setup shared.now) (known cpu.old) (known cpu.new) }
 {
     for n in 0..shared.infos().len() {
         send_left(rt, shared, cpu, n as u32);
@@ -65,7 +78,9 @@ fn are_stops<'a, D: TxDevice>(shared: &Shared<'a, D>, cpu: &mut Cpu<D>, word: u6
     requires seat { IsSeatOf shared.now cpu.old }
     requires at { position cpu.old ≡ Control false }
     requires station { cpu.old.station ≡ None }
-    ensures { LooksAtStopWords shared.now word result cpu.old cpu.new }
+    ensures makes { MakesStepsOf (LoadStops shared.now.queues word result) cpu.old cpu.new }
+    ensures same { IsElseSame cpu.old cpu.new × (view cpu.new ≡ view cpu.old) }
+    ensures sole { IsSole (view cpu.old) → (view cpu.old).whole.state.shut ≡ None → result ≡ true → AreStopsBelow shared.now.queues word (view cpu.old) }
 {
     for queue in 0..shared.queues() {
         if shared.load_xoff(cpu, queue) != word {
@@ -89,7 +104,10 @@ fn look<'a, D: TxDevice>(shared: &Shared<'a, D>, cpu: &mut Cpu<D>) -> Seen
     requires seat { IsSeatOf shared.now cpu.old }
     requires at { IsFirstReadyAt (Control false) cpu.old }
     requires sole { IsSole (view cpu.old) × IsActiveOrPurged (view cpu.old) }
-    ensures { LooksAtWords (setup shared.now) result cpu.old cpu.new }
+    ensures makes { MakesStepsOf (Look shared.now.queues result) cpu.old cpu.new }
+    ensures same { IsElseSame cpu.old cpu.new × IsLook (view cpu.old) (view cpu.new) }
+    ensures kept { AreKept (setup shared.now) (view cpu.new) }
+    ensures shows { Shows result (view cpu.new) }
 {
     let lock = shared.load_lock(cpu);
     let state = shared.load_state(cpu);
@@ -115,7 +133,12 @@ fn serve_to_end<'a, D: TxDevice, R: Wait>(rt: &R, shared: &Shared<'a, D>, cpu: &
     requires seat { IsSeatOf shared.now cpu.old }
     requires at { IsFirstReadyAt Idle cpu.old × ((view cpu.old).place.raised ≡ false) }
     requires sole { IsSole (view cpu.old) × IsActiveOrPurged (view cpu.old) }
-    ensures { ServesUntil (setup shared.now) (if result then Hung else Ended) cpu.old cpu.new }
+    ensures same { IsSameSeat cpu.old cpu.new }
+    ensures at { (position cpu.new ≡ Control false) × IsReadyToSend cpu.new × ((view cpu.new).place.raised ≡ false) }
+    ensures kept { AreKept (setup shared.now) (view cpu.new) }
+    ensures shows { Shows (if result then Hung else Ended) (view cpu.new) }
+    ensures alone { EndsAlike (setup shared.now) (view cpu.old) (view cpu.new) }
+    ensures serves { ServesToEnd (setup shared.now) (if result then Hung else Ended) (known cpu.old) (known cpu.new) }
 {
     let backoff = Backoff::new();
     for _ in rt.forever() {
@@ -137,7 +160,8 @@ fn is_left<'a, D: TxDevice>(shared: &Shared<'a, D>, cpu: &mut Cpu<D>) -> bool
     requires seat { IsSeatOf shared.now cpu.old }
     requires at { position cpu.old ≡ Control false }
     requires active { IsIn Active (view cpu.old) }
-    ensures { LooksLeft result cpu.old cpu.new }
+    ensures makes { MakesStepsOf (LookLeft result) cpu.old cpu.new }
+    ensures same { IsElseSame cpu.old cpu.new × IsLook (view cpu.old) (view cpu.new) }
 {
     shared.load_inside(cpu) == 0 && shared.load_state(cpu) & SCHED == 0
 }
@@ -147,8 +171,8 @@ fn wait_until_left<'a, D: TxDevice, R: Wait>(rt: &R, shared: &Shared<'a, D>, cpu
     requires seat { IsSeatOf shared.now cpu.old }
     requires at { position cpu.old ≡ Control false }
     requires active { IsIn Active (view cpu.old) }
+    ensures makes { MakesStepsOf (Wait LookLeft true) cpu.old cpu.new }
     ensures same { IsElseSame cpu.old cpu.new × IsLook (view cpu.old) (view cpu.new) }
-    ensures waits { WaitsUntilLeft (known cpu.old) (known cpu.new) }
 {
     let backoff = Backoff::new();
     for _ in rt.forever() {
@@ -167,7 +191,10 @@ fn purge_hung<'a, D: TxDevice, R: Wait>(rt: &R, shared: &Shared<'a, D>, cpu: &mu
     requires at { IsFirstReadyAt (Control false) cpu.old }
     requires sole { IsSole (view cpu.old) }
     requires hung { Hangs (view cpu.old) }
-    ensures { PurgesHungStation (setup shared.now) result cpu.old cpu.new }
+    ensures kept { IsCallKept cpu.old cpu.new }
+    ensures at { IsReadyAt Idle Active cpu.new }
+    ensures raised { (view cpu.new).place.raised ≡ (view cpu.old).place.raised }
+    ensures purges { PurgesHungBy (setup shared.now) result (known cpu.old) (known cpu.new) }
 {
     wait_until_left(rt, shared, cpu);
     take_lock(rt, shared, cpu);
@@ -185,7 +212,11 @@ fn purge_hung<'a, D: TxDevice, R: Wait>(rt: &R, shared: &Shared<'a, D>, cpu: &mu
 pub fn finish<'a, D: TxDevice, R: Wait>(rt: &R, shared: &Shared<'a, D>, cpu: &mut Cpu<D>) -> u32
     requires seat { IsSeatOf shared.now cpu.old }
     requires may { MayEndStation (setup shared.now) cpu.old }
-    ensures { BringsToEnd (setup shared.now) result cpu.old cpu.new }
+    ensures kept { IsCallKept cpu.old cpu.new }
+    ensures at { (position cpu.new ≡ Idle) × ((view cpu.new).place.raised ≡ false) × IsReadyToSend cpu.new }
+    ensures finished { IsFinished (setup shared.now) (view cpu.new) }
+    ensures alone { AreAllDone (setup shared.now) (view cpu.old).turns → FinishesAlone (setup shared.now) (view cpu.old) (view cpu.new) }
+    ensures finishes { FinishesBy (setup shared.now) result (known cpu.old) (known cpu.new) }
 {
     send_all_left(rt, shared, cpu);
     if serve_to_end(rt, shared, cpu) {

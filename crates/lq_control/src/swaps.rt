@@ -1,15 +1,18 @@
 //! The device of a station is swapped.
-ghost use Rattle.std.specs.Prelude.{◌≡◌, [], true, false, Some};
+ghost use Rattle.std.specs.Prelude.{◌≡◌, ◌-◌, [], true, false, Some, None, ◌∷◌};
 ghost use Rattle.lq_device.specs.Station.{with_device};
 ghost use Rattle.lq_model.specs.declared.machine.Phase.TheVariants.{Active, Purged};
 ghost use Rattle.lq_model.specs.declared.machine.Position.TheVariants.{Idle, Control};
-ghost use Rattle.lq_table.specs.Views.{HolderPart};
+ghost use Rattle.lq_table.specs.Views.{HolderPart, WholePart};
 ghost use Rattle.lq_table.specs.Rule.{shown};
 ghost use Rattle.lq_table.specs.Controls.{shut_after};
-ghost use Rattle.lq_table.specs.Sees.{view, position, IsSeatOf};
-ghost use Rattle.lq_control.specs.Control.{IsIn};
-ghost use Rattle.lq_control.specs.Seats.{ChangesOnlyStation};
-ghost use Rattle.lq_control.specs.Calls.{MaySwapAt, OpensQueues, SwapsHeldDevice, SwapsStation};
+ghost use Rattle.lq_table.specs.Sees.{view, position, IsSeatOf, IsElseSame, solo, setup, IsSole};
+ghost use Rattle.lq_control.specs.Control.{IsIn, all_opened, swapped_solo};
+ghost use Rattle.lq_control.specs.Calls.{MaySwapAt, SwapsUnderControl, deactivated_by};
+ghost use Rattle.lq_control.specs.Steps.{Swaps, SwapsDevice, open_steps};
+ghost use Rattle.lq_control.specs.Alone.{DoesSwapAlone};
+ghost use Rattle.lq_model.specs.Account.{Swap, Up};
+ghost use Rattle.lq_table.specs.Step.{MakesSteps, SetStation};
 
 use crate::activates::deactivate;
 use crate::drains::wait_until_clear;
@@ -22,9 +25,8 @@ use std::sync::Wait;
 fn change_device<D: TxDevice>(cpu: &mut Cpu<D>, unit: u32, device: D) -> D
     requires station { (h : HolderPart) × (cpu.old.station ≡ Some (shown h)) }
     requires device { ((D.state device).accepted ≡ []) × ((D.state device).hung ≡ false) }
-    ensures same { ChangesOnlyStation cpu.old cpu.new }
-    ensures changed { (h : HolderPart) → cpu.old.station ≡ Some (shown h)
-        → (cpu.new.station ≡ Some (with_device (shown h) unit (D.state device))) × (D.state result ≡ h.station.device) }
+    ensures makes { (h : HolderPart) → cpu.old.station ≡ Some (shown h) → MakesSteps (SetStation (with_device (shown h) unit (D.state device)) ∷ []) cpu.old cpu.new }
+    ensures went { (h : HolderPart) → cpu.old.station ≡ Some (shown h) → D.state result ≡ h.station.device }
 {
     cpu.station_mut().change(unit, device)
 }
@@ -34,7 +36,10 @@ fn open_queues<'a, D: TxDevice>(shared: &Shared<'a, D>, cpu: &mut Cpu<D>)
     requires seat { IsSeatOf shared.now cpu.old }
     requires at { (position cpu.old ≡ Control true) × IsIn Purged (view cpu.old) }
     requires shut { (view cpu.old).holder.shut ≡ shut_after 0 shared.now.queues }
-    ensures { OpensQueues shared.now cpu.old cpu.new }
+    ensures makes { MakesSteps (open_steps (shared.now.queues - 1)) cpu.old cpu.new }
+    ensures same { IsElseSame cpu.old cpu.new }
+    ensures opened { (w : WholePart) × (view cpu.new ≡ all_opened None w (view cpu.old)) × (w.told ≡ (view cpu.old).whole.told) }
+    ensures step { solo (view cpu.new) ≡ solo (view cpu.old) }
 {
     for queue in 1..shared.queues() {
         shared.open_xoff(cpu, queue);
@@ -51,7 +56,8 @@ fn swap_device<'a, D: TxDevice, R: Wait>(
 ) -> D
     requires seat { IsSeatOf shared.now cpu.old }
     requires may { MaySwapAt shared.now (Control false) Purged unit (D.state device) cpu.old }
-    ensures { SwapsHeldDevice shared.now unit (D.state device) (D.state result) cpu.old cpu.new }
+    ensures { SwapsUnderControl (Control false) Purged (Swap unit ∷ []) (SwapsDevice (setup shared.now) unit (D.state device) (D.state result))
+        (λ v w. IsSole v → solo w ≡ swapped_solo unit (D.state device) (solo v)) cpu.old cpu.new }
 {
     take_lock(rt, shared, cpu);
     let old = change_device(cpu, unit, device);
@@ -76,7 +82,9 @@ pub fn swap<'a, D: TxDevice, R: Wait>(
 ) -> D
     requires seat { IsSeatOf shared.now cpu.old }
     requires may { MaySwapAt shared.now Idle Active unit (D.state device) cpu.old }
-    ensures { SwapsStation shared.now event unit (D.state device) (D.state result) cpu.old cpu.new }
+    ensures { SwapsUnderControl Idle Active (Up ∷ Swap unit ∷ deactivated_by event)
+        (Swaps (setup shared.now) event unit (D.state device) (D.state result))
+        (DoesSwapAlone (setup shared.now) event unit (D.state device)) cpu.old cpu.new }
 {
     deactivate(rt, shared, cpu, event);
     wait_until_clear(rt, shared, cpu);

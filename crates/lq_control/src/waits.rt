@@ -1,12 +1,18 @@
 //! The loops in which control waits for senders. Each pauses between two looks by a `Backoff`, and looks at nothing but one word.
-ghost use Rattle.std.specs.Prelude.{◌≡◌, false};
-ghost use Rattle.lq_model.specs.declared.machine.Phase.TheVariants.{Closing};
+ghost use Rattle.std.specs.Prelude.{◌≡◌, true, false, [], ◌∷◌};
+ghost use Rattle.lq_model.specs.declared.machine.Phase.{Phase};
+ghost use Rattle.lq_model.specs.declared.machine.Phase.TheVariants.{Closing, Quiet};
 ghost use Rattle.lq_model.specs.declared.machine.Position.TheVariants.{Control};
-ghost use Rattle.lq_table.specs.Sees.{view, position, IsSeatOf};
+ghost use Rattle.lq_table.specs.Locks.{locked_to};
+ghost use Rattle.lq_table.specs.Rule.{units_of};
+ghost use Rattle.lq_table.specs.Sees.{view, position, IsSeatOf, IsSameSeat, IsElseSame, IsSole, IsAccounts, solo};
+ghost use Rattle.lq_table.specs.Step.{MakesSteps, MoveStation, Unlock};
 ghost use Rattle.lq_run.specs.Calls.{MayReleaseRunLock};
-ghost use Rattle.lq_run.specs.Runs.{HasNone};
+ghost use Rattle.lq_run.specs.Runs.{HasNone, HasStation};
+ghost use Rattle.lq_run.specs.Steps.{MakesStepsOf};
+ghost use Rattle.lq_control.specs.Control.{GetsStation, phased, with_lock_free};
 ghost use Rattle.lq_control.specs.Seats.{MayRelease};
-ghost use Rattle.lq_control.specs.Calls.{FindsNoCalls, ReleasesDeactivated, TakesRunLock};
+ghost use Rattle.lq_control.specs.Steps.{LookInside, TakeLock, Wait};
 
 use crossbeam_utils::Backoff;
 use lq_device::TxDevice;
@@ -23,7 +29,9 @@ pub(crate) fn wait_for_calls<'a, D: TxDevice, R: Wait>(
 )
     requires seat { IsSeatOf shared.now cpu.old }
     requires at { (position cpu.old ≡ Control false) × ((view cpu.old).control.phase ≡ Closing) }
-    ensures { FindsNoCalls cpu.old cpu.new }
+    ensures makes { MakesStepsOf (Wait LookInside true) cpu.old cpu.new }
+    ensures same { IsElseSame cpu.old cpu.new }
+    ensures quiet { (p : Phase) × (view cpu.new ≡ phased Quiet p (view cpu.old)) }
 {
     let backoff = Backoff::new();
     for _ in rt.forever() {
@@ -40,7 +48,12 @@ pub(crate) fn take_lock<'a, D: TxDevice, R: Wait>(rt: &R, shared: &Shared<'a, D>
     requires seat { IsSeatOf shared.now cpu.old }
     requires at { position cpu.old ≡ Control false }
     requires empty { HasNone cpu.old }
-    ensures { TakesRunLock cpu.old cpu.new }
+    ensures makes { MakesStepsOf TakeLock cpu.old cpu.new }
+    ensures same { IsSameSeat cpu.old cpu.new × (cpu.new.indices ≡ cpu.old.indices) }
+    ensures got { GetsStation (view cpu.old) (view cpu.new) }
+    ensures units { (view cpu.old).control.first ≡ true → (view cpu.new).holder.units ≡ units_of (view cpu.old).trail }
+    ensures station { HasStation cpu.new }
+    ensures sole { IsSole (view cpu.old) → (solo (view cpu.new) ≡ locked_to true (solo (view cpu.old))) × IsAccounts (view cpu.new) }
 {
     let backoff = Backoff::new();
     for _ in rt.forever() {
@@ -57,7 +70,10 @@ pub(crate) fn take_lock<'a, D: TxDevice, R: Wait>(rt: &R, shared: &Shared<'a, D>
 pub(crate) fn release<'a, D: TxDevice>(shared: &Shared<'a, D>, cpu: &mut Cpu<D>)
     requires seat { IsSeatOf shared.now cpu.old }
     requires may { MayReleaseRunLock MayRelease cpu.old }
-    ensures { ReleasesDeactivated cpu.old cpu.new }
+    ensures makes { MakesSteps (MoveStation ∷ Unlock ∷ []) cpu.old cpu.new }
+    ensures same { IsSameSeat cpu.old cpu.new × (cpu.new.indices ≡ cpu.old.indices) }
+    ensures released { view cpu.new ≡ with_lock_free (view cpu.old) }
+    ensures empty { HasNone cpu.new }
 {
     shared.move_station(cpu);
     shared.unlock(cpu);

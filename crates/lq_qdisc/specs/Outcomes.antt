@@ -1,8 +1,6 @@
 -- What the steps on the run lock and a put into a band come to, of what a seat knows.
 use Rattle.std.specs.Prelude.{◌≡◌, ℕ, ◌+◌, true, false}
 use Rattle.lq_model.specs.Account.{Join, Full}
-use Rattle.lq_model.specs.declared.fate.Fate.TheVariants as fate
-use Rattle.lq_model.specs.declared.machine.Attempt.TheVariants as attempt
 use Rattle.lq_run.specs.Runs.{after_got, after_missed, after_begin, ended}
 use Rattle.lq_ring.specs.Put.{putting, dropping_full as dropped}
 use Rattle.lq_table.specs.Views.{View}

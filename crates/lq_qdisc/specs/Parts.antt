@@ -9,7 +9,7 @@ use Rattle.lq_run.specs.Runs.{HasNone, begins}
 use Rattle.lq_ring.specs.Put.{no_locks}
 use Rattle.lq_ring.specs.Seats.{GoesOnFromPut}
 use Rattle.lq_table.specs.Fates.{settle_view_owed}
-use Rattle.lq_table.specs.Sees.{view, known, steps, setup, position, slot, IsElseSame, IsSameSeat, solo}
+use Rattle.lq_table.specs.Sees.{view, known, setup, position, slot, IsElseSame, IsSameSeat, solo}
 use Rattle.lq_table.specs.Moves.{IsPacketOf}
 use Rattle.lq_table.specs.Views.{View, Known}
 use Rattle.lq_table.specs.Step.{MakesSteps, Settle, Standing, Step}

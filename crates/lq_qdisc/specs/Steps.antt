@@ -3,16 +3,10 @@ use Rattle.std.specs.Prelude.{◌≡◌, ℕ, ◌*◌, ◌+◌, true, slice_set,
 use Rattle.lq_model.specs.Plan.{owner_in, rank_in}
 use Rattle.lq_run.specs.Tries.{EndsRun}
 use Rattle.lq_table.specs.Views.{Setup, Known}
-use Rattle.lq_table.specs.States.{load_state_view, load_state_log}
-use Rattle.lq_table.specs.Made.{◌⊳◌}
 use Rattle.lq_qdisc.specs.Sends.{came_as, trail_with}
 use Rattle.lq_qdisc.specs.Outcomes.{IsLockReleased}
 use Rattle.lq_qdisc.specs.StepLists.{LeadsBy, NetTxAction, QueueXmit}
 use Rattle.lq_qdisc.specs.declared.answers.Sending.{Sending}
-
--- a load of the state, in a call
-abbrev pub with_state_loaded : ℕ → Known → Known
-with_state_loaded state k = record { view = load_state_view state k.view; steps = k.steps ⊳ load_state_log state }
 
 -- the run lock is released
 abbrev pub ReleasesBy : Known → Known → Type 0

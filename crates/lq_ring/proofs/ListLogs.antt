@@ -1,27 +1,21 @@
 -- What lists of steps leave in the log, said as the crates above cite it.
-use Rattle.std.proofs.Common.{◌≡◌, ◌≢◌, Bool, true, false, Option, Some, slice_get, ne_eqb, arith, ℕ, ◌+◌, ◌-◌, List, [], ◌∷◌, ◌++◌, Result, refl, sym, ap, ◌∙◌, subst}
+use Rattle.std.proofs.Common.{◌≡◌, ◌≢◌, Bool, true, false, Option, Some, slice_get, ne_eqb, arith, ℕ, ◌+◌, ◌-◌, List, [], ◌∷◌, Result, refl, sym, ap, ◌∙◌}
 use Rattle.std.specs.Prelude.{MatchResult, Ok, Err, if◌then◌else◌}
-use Rattle.lq_device.specs.Station.{StationState}
-use Rattle.lq_model.specs.Words.{word_of}
-use Rattle.lq_model.specs.declared.fate.Fate.{Fate}
 use Rattle.lq_model.specs.declared.fate.Fate.TheVariants as fate
 use Rattle.lq_ring_core.specs.Ring.{next_place}
 use Rattle.lq_ring_core.specs.declared.ring.Full.{Full}
 use Rattle.lq_band_laws.specs.Ring.{Ends, IsAtRest, Lock, locked_at, taken_on, with_room}
 use Rattle.lq_band_laws.specs.Three.{at, put}
-use Rattle.lq_table.specs.Fates.{settle_log, settle_view, settle_view_owed}
+use Rattle.lq_table.specs.Fates.{settle_view_owed}
 use Rattle.lq_table.specs.Made.{Made, ◌⊳◌}
 use Rattle.lq_table.specs.Producers.{SeesEnd, give_producer_log, load_size_log, load_size_view, load_slot_log, store_slot_log, with_lock_at}
-use Rattle.lq_table.specs.Resizes.{clear_slot_log, store_size_log}
-use Rattle.lq_table.specs.Step.{BeginResize, ClearSlot, FillSlot, LoadProducer, PurgeSlot, SetProducer, Settle, Standing, Step, StoreSize, TakeProducer, carried_station, purge_left, purge_of, step_leaves, steps_leave, steps_tell}
-use Rattle.lq_table.specs.Views.{Known, Left, no_left, Setup, SharePart, View}
-use Rattle.lq_ring.specs.Changes.{LocksAll, purging_steps, TurnsBand, TurnsRing, dropped, not_yet, put_back, took_out}
+use Rattle.lq_table.specs.Step.{LoadProducer, PurgeSlot, Settle, Standing, Step, TakeProducer, purge_left, purge_of, step_leaves, steps_leave, steps_tell}
+use Rattle.lq_table.specs.Views.{Known, Left, no_left, Setup, View}
 use Rattle.lq_ring.specs.Put.{dropping_full, no_locks, putting}
 use Rattle.lq_ring.specs.Resized.{HoldOwnPackets, IsKnownHeld}
-use Rattle.lq_ring.specs.StepLists.{FindsNone, PurgeOne, PurgesNext, Clears, DroppedFull, Fills, Gets, Joined, LockProducer, Loses, ProduceLocked, Sets, Settles, LockAll, LocksThree, TurnAll, TurnAt, TurnRing, Turned, TurnsThree, Waits, discard_steps}
-use Rattle.lq_ring.specs.Steps.{FindsFull, FindsFullAt, LocksProducer, Puts, PutsAt, Spins, zeroed, held as spun_held, lost as spun_lost, not_yet as not_spun}
+use Rattle.lq_ring.specs.StepLists.{FindsNone, PurgeOne, PurgesNext, DroppedFull, Gets, Joined, LockProducer, Loses, ProduceLocked, TurnAll, TurnsThree, Waits, discard_steps}
+use Rattle.lq_ring.specs.Steps.{FindsFull, FindsFullAt, LocksProducer, Puts, PutsAt, Spins, held as spun_held, lost as spun_lost}
 use Rattle.lq_ring.proofs.PutSteps.{lock1, lock2}
-use Rattle.lq_ring.proofs.StepsThen.{leave_then}
 use Rattle.lq_ring.proofs.TakeSteps.{taken_batch, takes_end}
 use Rattle.lq_ring.proofs.ZeroSteps.{discard_leaves}
 use Rattle.std.specs.Option.{unwrap_or}
@@ -31,7 +25,6 @@ use Rattle.lq_model.specs.Band.{held_of}
 use Rattle.lq_model.specs.declared.fate.Cause.{Cause}
 use Rattle.lq_band_laws.proofs.Three.{at_put_same}
 use Rattle.lq_table.specs.Purges.{first_purge, purge_slot_view, purge_slot_view_empty}
-use Rattle.lq_ring.specs.Take.{emptied_count}
 
 -- A PUT
 
@@ -79,64 +72,15 @@ put_says (Err full) k b n i old new locked h e at_ = (e, i, locked, h, at_)
 
 -- A BAND IS TURNED
 
-settle_share : (st : StationState) (b n : ℕ) (f : Fate) (v : View) → (settle_view st b n f v).share ≡ v.share
-settle_share st b n (fate.Sent unit serial) v = refl
-settle_share st b n (fate.Full seen) v = refl
-settle_share st b n (fate.Refused event) v = refl
-settle_share st b n (fate.Purged cause) v = refl
-settle_share st b n (fate.Shrunk event) v = refl
-
-pub ring_log : (k : Setup) (band : ℕ) (old : List Made) (xs : List Step) → TurnRing band xs → (s : Standing) → s.view.share.about ≡ k → TurnsRing k band old s.steps
-    → ((steps_leave xs s).view.share.about ≡ k) × TurnsRing k band old (steps_leave xs s).steps
-ring_log k band old _ Turned s e w = (e, w)
-ring_log k band old _ (Clears {i} {found} {rest} r) s e w =
-    ring_log k band old rest r (step_leaves (ClearSlot band i found) s) e (subst (λ (x : Setup). TurnsRing k band old (s.steps ⊳ clear_slot_log x band i found)) (sym e) (took_out s.steps i found w))
-ring_log k band old _ (Fills {i} {n} {rest} r) s e w =
-    ring_log k band old rest r (step_leaves (FillSlot band i n) s) e (subst (λ (x : Setup). TurnsRing k band old (s.steps ⊳ store_slot_log x band i (n + 1))) (sym e) (put_back s.steps i (n + 1) w))
-ring_log k band old _ (Settles {n} {fate = f} {rest} r) s e w =
-    ring_log k band old rest r (step_leaves (Settle n f) s) (ap (λ (x : SharePart). x.about) (settle_share (carried_station s) _ n f s.view) ∙ e)
-    (subst (λ (x : Setup). TurnsRing k band old (s.steps ⊳ settle_log x n (word_of f))) (sym e) (dropped s.steps n f w))
-
-at_log : (k : Setup) (band index : ℕ) (xs : List Step) → TurnAt band index xs → (s : Standing) → s.view.share.about ≡ k → ((steps_leave xs s).view.share.about ≡ k) × TurnsBand k band index s.steps (steps_leave xs s).steps
-at_log k band index _ (Sets {turned} r) s e =
-    let w = ring_log k band s.steps turned r s e not_yet in let last = leave_then turned (SetProducer band index ∷ []) s in
-    (ap (λ (x : Standing). x.view.share.about) last ∙ w.0, ((steps_leave turned s).steps, w.1, ap (λ (x : Standing). x.steps) last))
-
--- the three bands, one after another
-pub all_log : (k : Setup) (len event : ℕ) (held : ℕ → List ℕ) (low mid high : ℕ) (xs : List Step) → TurnAll len event held low mid high xs → (s : Standing) → s.view.share.about ≡ k
-    → (begun : ℕ) × (one two three : List Made) × TurnsBand k 0 low (s.steps ⊳ load_size_log begun) one × TurnsBand k 1 mid one two × TurnsBand k 2 high two three × ((steps_leave xs s).steps ≡ three ⊳ store_size_log len)
-all_log k len event held low mid high _ (TurnsThree {slots} {begun} {one} {two} {three} a b c) s e =
-    let s1 = step_leaves (BeginResize len event held slots begun) s in let s2 = steps_leave one s1 in let s3 = steps_leave two s2 in let s4 = steps_leave three s3 in
-    let w1 = at_log k 0 low one a s1 e in let w2 = at_log k 1 mid two b s2 w1.0 in let w3 = at_log k 2 high three c s3 w2.0 in
-    let all : steps_leave (one ++ two ++ three ++ StoreSize len ∷ []) s1 ≡ step_leaves (StoreSize len) s4 =
-    leave_then (one ++ two ++ three) (StoreSize len ∷ []) s1
-    ∙ ap (step_leaves (StoreSize len)) (leave_then (one ++ two) three s1 ∙ ap (steps_leave three) (leave_then one two s1)) in
-    (begun, s2.steps, s3.steps, s4.steps, w1.1, w2.1, w3.1, ap (λ (x : Standing). x.steps) all)
-
 -- what it found of the bands
 pub all_told : (len event : ℕ) (held : ℕ → List ℕ) (low mid high : ℕ) (xs : List Step) → TurnAll len event held low mid high xs → (s : Standing) → steps_tell xs s → HoldOwnPackets s.view.share.about.infos held × IsKnownHeld s.view held
 all_told len event held low mid high _ (TurnsThree {slots} {begun} {one} {two} {three} a b c) s t = (t.0.1, (t.0.2, t.0.3))
-
-pub lock_all_log : (xs : List Step) → LockAll xs → (s : Standing) → LocksAll s.steps (steps_leave xs s).steps
-lock_all_log _ (LocksThree {low} {mid} {high} {one} {two} {three} a b c) s =
-    let s1 = steps_leave one s in let s2 = steps_leave two s1 in
-    let all : steps_leave (one ++ two ++ three) s ≡ steps_leave three s2 = leave_then (one ++ two) three s ∙ ap (steps_leave three) (leave_then one two s) in (
-      low,
-      mid,
-      high,
-      s1.steps,
-      s2.steps,
-      locks_log one a s s.steps not_spun,
-      locks_log two b s1 s1.steps not_spun,
-      subst (LocksProducer 2 high s2.steps) (sym (ap (λ (x : Standing). x.steps) all)) (locks_log three c s2 s2.steps not_spun),
-    )
 
 -- A PURGE
 
 -- The first packet that the band held is purged, and the slots that were taken are emptied as after a take.
 pub purge_leaves : (band size : ℕ) (cause : Cause) (s : Standing) (l : Left) (xs : List Step) → PurgeOne band size cause s true xs → steps_tell xs s → s.view.holder.left ≡ Some l
     → IsAtRest size (at band s.view.holder.ends) → s.view.holder.size ≡ size → (n : ℕ) × (slice_get (held_of (at band l.bands)) 0 ≡ Some n) × ((steps_leave xs s).view ≡ purging_one band n l s.view)
-    × ((steps_leave xs s).steps ≡ purging_steps s.view.share.about band (fate.Purged cause) size (at band s.view.holder.ends) n s.steps)
 purge_leaves band size cause s l _ (PurgesNext {n}) t left rest same =
     let own : Ends = at band s.view.holder.ends in let some_ : n + 1 ≢ 0 = λ e. (let q : n + 1 ≡ 0 = e in absurd (omega arith)) in let back : n + 1 - 1 ≡ n = omega arith in
     let y : View = purge_slot_view band n l s.view in
@@ -152,18 +96,14 @@ purge_leaves band size cause s l _ (PurgesNext {n}) t left rest same =
       sym (ap (λ (o : Option Left). slice_get (held_of (at band (unwrap_or o no_left).bands)) 0) left) ∙ (t.0.2 some_ ∙ ap (λ (m : ℕ). Some m) back),
       takes_end band size s.view.holder.size own (at band s.view.whole.state.ends) (settle_view_owed y) two.view (steps_leave (discard_steps band size (taken_on own)) two).view (sym same) took
           (at_put_same band _ s.view.holder.ends) (at_put_same band _ s.view.whole.state.ends) (ap (λ (x : Standing). x.view) leaves),
-      ap (λ (x : Standing). x.steps) leaves
-          ∙ (λ j. zeroed ((ap (λ (x : View). x.share.about) took) j) band (own.head + 1) (emptied_count size (taken_on own))
-          (s.steps ⊳ load_slot_log s.view.share.about band own.head (n + 1) ⊳ settle_log ((ap (λ (x : View). x.share.about) looked) j) n (word_of (fate.Purged cause)))),
     )
 
 -- Where the band holds none the slot at the head is loaded as 0, and the purge goes on with the next band.
 pub pass_leaves : (band size : ℕ) (cause : Cause) (s : Standing) (u : Purge) (l : Left) (xs : List Step) → PurgeOne band size cause s false xs → steps_tell xs s → s.view.control.purge ≡ Some u → s.view.holder.left ≡ Some l
-    → (held_of (at band l.bands) ≡ []) × ((steps_leave xs s).view ≡ purge_slot_view_empty u s.view) × ((steps_leave xs s).steps ≡ s.steps ⊳ load_slot_log s.view.share.about band (at band s.view.holder.ends).head 0)
+    → (held_of (at band l.bands) ≡ []) × ((steps_leave xs s).view ≡ purge_slot_view_empty u s.view)
 pass_leaves band size cause s u l _ FindsNone t purge left = (
   sym (ap (λ (o : Option Left). held_of (at band (unwrap_or o no_left).bands)) left) ∙ t.0.1 refl,
   ap (λ (o : Option Purge). purge_slot_view_empty (unwrap_or o first_purge) s.view) purge,
-  refl,
 )
 
 pub passes : (band size : ℕ) (cause : Cause) (s : Standing) (xs : List Step) → PurgeOne band size cause s false xs → xs ≡ PurgeSlot band 0 ∷ []

@@ -1,6 +1,6 @@
 -- The takes of a purge, one after another.
-use Rattle.std.proofs.Common.{◌≡◌, ℕ, zero, suc, ◌+◌, ◌<◌, ◌≤◌, List, [], ◌∷◌, ◌++◌, take, drop, length, refl, sym, ap, ◌∙◌, subst, arith, Option, Some, None, slice_get, length-drop, Contains}
-use Rattle.std.proofs.lemmas.List.{drop-drop, take_all}
+use Rattle.std.proofs.Common.{◌≡◌, ℕ, zero, suc, ◌+◌, ◌<◌, ◌≤◌, List, [], ◌∷◌, take, drop, length, refl, sym, ap, ◌∙◌, subst, arith, Option, Some, None, slice_get, length-drop, Contains}
+use Rattle.std.proofs.lemmas.List.{drop-drop}
 use Rattle.std.proofs.lemmas.Option.{same_Some}
 use Rattle.lq_account_laws.proofs.Lists.{drop-in}
 use Rattle.lq_device.specs.Station.{StationState, with_ends}
@@ -62,24 +62,9 @@ purged_next_left b k l =
 pub held_left : (b k : ℕ) (l : Left) → held_of (at b (purged_by b k l).bands) ≡ drop k (held_of (at b l.bands))
 held_left b k l = ap held_of (at_put_same b (taken_by (at b l.bands) k) l.bands) ∙ sym (drop-drop k (at b l.bands).taken (at b l.bands).line)
 
--- the packets purged so far, and the next one
-pub taken_next_of : (b k n : ℕ) (l : Left) → slice_get (held_of (at b (purged_by b k l).bands)) 0 ≡ Some n → take k (held_of (at b l.bands)) ++ n ∷ [] ≡ take (k + 1) (held_of (at b l.bands))
-taken_next_of b k n l first = let held : List ℕ = held_of (at b l.bands) in
-    let next = first_of k n held (ap (λ (ns : List ℕ). slice_get ns 0) (sym (held_left b k l)) ∙ first) in sym (take-next held k n next.0)
-  where
-    take-next : (ns : List ℕ) (k n : ℕ) → slice_get ns k ≡ Some n → take (k + 1) ns ≡ take k ns ++ n ∷ []
-    take-next [] k n e = cc
-    take-next (m ∷ ns) zero n e = ap (λ (z : ℕ). z ∷ []) (same_Some m n e)
-    take-next (m ∷ ns) (suc k) n e = (let q : suc k + 1 ≡ suc (k + 1) = omega arith in ap (λ (z : ℕ). take z (m ∷ ns)) q) ∙ ap (λ (zs : List ℕ). m ∷ zs) (take-next ns k n e)
-
 -- they are no more than the ring has slots
 pub few_left : (b k : ℕ) (l : Left) (size size' : ℕ) → size' ≡ size → length (held_of (at b l.bands)) ≤ size → length (held_of (at b (purged_by b k l).bands)) ≤ size'
 few_left b k l size size' same few = let held : List ℕ = held_of (at b l.bands) in let left = ap length (held_left b k l) ∙ length-drop k held in omega arith
-
--- all of them, where none is left
-pub taken_all : (b k : ℕ) (l : Left) → held_of (at b (purged_by b k l).bands) ≡ [] → take k (held_of (at b l.bands)) ≡ held_of (at b l.bands)
-taken_all b k l none_left = let held : List ℕ = held_of (at b l.bands) in
-    let gone : length (drop k held) ≡ 0 = ap length (sym (held_left b k l) ∙ none_left) in take_all k held (let d = length-drop k held in omega arith)
 
 pub none_purged : (b : ℕ) (l : Left) (v : View) → b < 3 → v.holder.left ≡ Some l → IsAtRest v.holder.size (at b v.holder.ends) → IsPurgedTo b 0 l v v
 none_purged b l v below left rests = record {
@@ -132,10 +117,6 @@ all_purged b k u0 l v u w p none_left is =
       },
       all,
     )
-
--- the band's ends after one packet
-pub ends_after : (b n : ℕ) (l : Left) (v w : View) → w ≡ purging_one b n l v → at b w.holder.ends ≡ after_take v.holder.size (at b v.holder.ends)
-ends_after b n l v w is = let own : Ends = at b v.holder.ends in ap (λ (x : View). at b x.holder.ends) is ∙ at_put_same b (after_take v.holder.size own) (put b (taken_on own) v.holder.ends)
 
 -- the station as the holder knows it
 pub purged_station : (b n : ℕ) (l : Left) (v w : View) (st : Option StationState) → b < 3 → w ≡ purging_one b n l v

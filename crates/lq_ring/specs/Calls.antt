@@ -8,13 +8,12 @@ use Rattle.lq_model.specs.declared.machine.Position.TheVariants.{Put, Scan}
 use Rattle.lq_band_laws.specs.Ring.{is_emptying, locked_at, word_at}
 use Rattle.lq_band_laws.specs.Three.{at, put}
 use Rattle.lq_table.specs.Rule.{IsResting}
-use Rattle.lq_table.specs.Sees.{view, known, steps, setup, position, slot, packet_at, ends_at, lock_at, IsSameSeat, Brings}
+use Rattle.lq_table.specs.Sees.{view, steps, position, slot, packet_at, ends_at, lock_at, IsSameSeat, Brings}
 use Rattle.lq_table.specs.Consumers.{CarriesEndsBeforeTake}
 use Rattle.lq_table.specs.declared.shared.Cpu.{Cpu}
 use Rattle.lq_table.specs.declared.shared.Shared.{Shared}
-use Rattle.lq_ring.specs.Changes.{ResizesAll}
 use Rattle.lq_ring.specs.Put.{no_locks}
-use Rattle.lq_ring.specs.Resized.{all_lost, having_resized}
+use Rattle.lq_ring.specs.Resized.{HoldOwnPackets, IsKnownHeld, all_lost, having_resized}
 use Rattle.lq_ring.specs.Seats.{HasRingToPurge, KeepsSeatAndView, MayResize}
 use Rattle.lq_ring.specs.StepLists.{MakesStepsFrom, ResizeAll}
 use Rattle.lq_ring.specs.Take.{CarriesStation}
@@ -146,4 +145,5 @@ module _ {D : Type 0} where
     pub station : CarriesStation a
     pub knows : view a ≡ having_resized len event (all_lost len held) (view b)
     pub counted : count ≡ length (all_lost len held)
-    pub resizes : ResizesAll (setup t) len event count (known b) (known a)
+    pub packets : HoldOwnPackets t.infos.now held
+    pub is_known : IsKnownHeld (view b) held

@@ -14,8 +14,6 @@ pub mod Purged
 pub mod StepLists
 -- what a put and a take leave in the log
 pub mod Steps
--- what a purge and a resize leave in it
-pub mod Changes
 -- what its calls ask of a seat, and what they leave of it
 pub mod Seats
 -- what each call requires, and what it ensures

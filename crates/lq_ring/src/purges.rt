@@ -4,12 +4,10 @@ ghost use Rattle.std.specs.Prelude.{◌≡◌, ◌≤◌, Some, length};
 ghost use Rattle.lq_band_laws.specs.Three.{at};
 ghost use Rattle.lq_model.specs.Band.{held_of};
 ghost use Rattle.lq_model.specs.Machine.{Purge};
-ghost use Rattle.lq_model.specs.declared.fate.Fate.TheVariants as fate;
-ghost use Rattle.lq_table.specs.Sees.{known, setup, slot, view, IsSameSeat, IsSeatOf};
+ghost use Rattle.lq_table.specs.Sees.{slot, view, IsSameSeat, IsSeatOf};
 ghost use Rattle.lq_table.specs.Views.{Left};
-ghost use Rattle.lq_ring.specs.Purged.{IsBandPurged};
 ghost use Rattle.lq_ring.specs.Calls.{MayPurgeBand, MayPurgeOne};
-ghost use Rattle.lq_ring.specs.Changes.{PurgesBand};
+ghost use Rattle.lq_ring.specs.Purged.{IsBandPurged};
 ghost use Rattle.lq_ring.specs.StepLists.{MakesStepsFrom, PurgeBand, PurgeOne};
 ghost use Rattle.lq_ring.specs.Take.{CarriesStation};
 
@@ -57,7 +55,6 @@ pub fn purge_band<'a, D: TxDevice>(
     ensures station { CarriesStation cpu.new }
     ensures knows { (u : Purge) (l : Left) → (view cpu.old).control.purge ≡ Some u → (view cpu.old).holder.left ≡ Some l
         → IsBandPurged band u l (view cpu.old) (view cpu.new) × (result ≡ length (held_of (at band l.bands))) }
-    ensures purges { PurgesBand (setup shared.now) band (fate.Purged cause) result (known cpu.old) (known cpu.new) }
 {
     let size = shared.load_size(cpu) as u32;
     for n in 0..size + 1 {

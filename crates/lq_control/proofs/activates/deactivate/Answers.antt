@@ -1,4 +1,4 @@
-use Rattle.std.proofs.Common.{◌≡◌, sym, ap, ◌∙◌, subst, ℕ, ◌∷◌}
+use Rattle.std.proofs.Common.{◌≡◌, true, [], sym, ap, ◌∙◌, subst, ℕ, ◌∷◌}
 use Rattle.std.proofs.lemmas.Option.{same_Some}
 use Rattle.lq_account_laws.specs.Trail.{down_of}
 use Rattle.lq_model.specs.Account.{Purge}
@@ -7,9 +7,11 @@ use Rattle.lq_model.specs.declared.fate.Cause.TheVariants as cause
 use Rattle.lq_table.specs.Views.{View, Known}
 use Rattle.lq_table.specs.Controls.{set_deactivated_view}
 use Rattle.lq_table.specs.Sees.{view, setup, known, IsSole}
-use Rattle.lq_control.specs.Steps.{PurgesBy, WaitsForCalls, with_deactivated_set}
+use Rattle.lq_qdisc.specs.StepLists.{LeadsBy}
+use Rattle.lq_control.specs.Steps.{LookInside, PurgesBy, Wait, known_after}
+use Rattle.lq_table.specs.Step.{BeginPurge, SetDeactivated}
 use Rattle.lq_control.proofs.Keeps.{keeps_closed, keeps_freed, keeps_purged, keeps_then, seat_then}
-use Rattle.lq_control.proofs.StepLemmas.{both}
+use Rattle.lq_control.proofs.StepLemmas.{both, freed, steps_of}
 use Rattle.lq_table.specs.Locks.{try_lock_view_in_control}
 use Rattle.lq_control.specs.Control.{all_purged, phased}
 use Rattle.lq_control.proofs.Sole.{deactivated_is}
@@ -54,10 +56,10 @@ returns g c = record {
         calm = known c.wait_for_calls.new.cpu;
         locked = known c.take_lock.new.cpu;
         purged = known c.purge_all-purged.new.cpu;
-        waits = subst (λ (x : Known). WaitsForCalls x (known c.wait_for_calls.new.cpu)) (both (known c.set_deactivated.new.cpu) (with_deactivated_set event set.made.0 (known c.args.cpu.now)) set.view set.made.1) c.wait_for_calls.ensures.waits;
-        takes = c.take_lock.ensures.takes;
-        purges = subst (λ (e : ℕ). PurgesBy k (cause.Event e) c.purge_all-purged.result (known c.take_lock.new.cpu) (known c.purge_all-purged.new.cpu)) same p.2;
-        released = c.release.ensures.by;
+        waits = subst (λ (x : Known). LeadsBy (λ s. Wait LookInside true) x (known c.wait_for_calls.new.cpu)) (both (known c.set_deactivated.new.cpu) (known_after (SetDeactivated event set.made.0 ∷ []) (known c.args.cpu.now)) set.view set.made.1) (steps_of c.wait_for_calls.ensures.makes);
+        takes = steps_of c.take_lock.ensures.makes;
+        purges = subst (λ (e : ℕ). PurgesBy k (BeginPurge e) (cause.Event e) c.purge_all-purged.result (known c.take_lock.new.cpu) (known c.purge_all-purged.new.cpu)) same p.2;
+        released = freed c.release.ensures.makes;
       };
   alone = λ sole. let v = view c.args.cpu.now in let event = c.args.event in let q = c.wait_for_calls.ensures.quiet in let got = c.take_lock.ensures.got in let v3 = view c.take_lock.new.cpu in
       let e2 : view c.wait_for_calls.new.cpu ≡ phased _ q.0 (set_deactivated_view event v) = q.1 ∙ ap (phased _ q.0) c.set_deactivated.ensures.view in

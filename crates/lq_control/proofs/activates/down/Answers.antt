@@ -1,9 +1,10 @@
-use Rattle.std.proofs.Common.{rules, ap, ◌∙◌}
+use Rattle.std.proofs.Common.{rules, [], ◌∷◌, ap, ◌∙◌}
 use Rattle.lq_table.specs.Views.{first_account}
 use Rattle.lq_table.specs.Sees.{view, known, setup, solo}
 use Rattle.lq_model.specs.Alone.{changed}
 use Rattle.lq_model.specs.declared.plan.EventKind.TheVariants as kind
-use Rattle.lq_control.specs.Steps.{with_control_ended}
+use Rattle.lq_table.specs.Step.{EndControl}
+use Rattle.lq_control.specs.Steps.{known_after}
 use Rattle.lq_control.proofs.StepLemmas.{both}
 use Rattle.lq_control.proofs.Alone.{down_alone, downed, downed_at, stepped_at}
 use Rattle.lq_control.proofs.activates.down.Goals as goal
@@ -17,7 +18,7 @@ returns g c = record {
     clear,
     last.made.0,
     (known c.deactivate-purged.new.cpu, c.deactivate-purged.ensures.steps, c.wait_until_clear.ensures.steps),
-    both (known c.end_control.new.cpu) (with_control_ended last.made.0 clear) last.view last.made.1,
+    both (known c.end_control.new.cpu) (known_after (EndControl last.made.0 ∷ []) clear) last.view last.made.1,
   );
   alone = λ plan h.
       let infos = c.args.shared.now.infos.now in let start = first_account (setup c.args.shared.now) in let v = solo (view c.args.cpu.now) in let event = c.args.event in

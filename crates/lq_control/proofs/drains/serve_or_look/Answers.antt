@@ -1,13 +1,16 @@
-use Rattle.std.proofs.Common.{rules, ap, ◌∙◌, sym}
+use Rattle.std.proofs.Common.{◌≡◌, rules, Bool, true, false, ap, ◌∙◌, subst, sym}
 use Rattle.lq_table.specs.Views.{View, FirstPart}
 use Rattle.lq_table.specs.Sees.{view, known, setup, solo}
 use Rattle.lq_qdisc.proofs.ViewLemmas.{interrupts_view}
+use Rattle.lq_qdisc.specs.StepLists.{LeadsBy}
 use Rattle.lq_control.specs.Alone.{unmarked}
 use Rattle.lq_control.proofs.FinishSteps.{ready_kept, served_begun}
 use Rattle.lq_control.proofs.Keeps.{seat_then}
 use Rattle.lq_control.proofs.Served.{served_none, served_then}
-use Rattle.lq_control.proofs.StepLemmas.{round_served}
+use Rattle.lq_control.specs.Steps.{FindsClear, LookClear, looked, none_yet}
+use Rattle.lq_control.proofs.StepLemmas.{round_served, steps_of}
 use Rattle.lq_control.proofs.Alone.{off_served}
+use Rattle.lq_control.proofs.drains.serve_or_look.Given as given
 use Rattle.lq_control.proofs.drains.serve_or_look.Goals as goal
 
 pub returns-then-raised : goal.returns-then-raised
@@ -40,6 +43,14 @@ returns-then-raised g c = record {
       }) c.begin_control.ensures.view e.1;
 }
 
+-- what a seat finds that isn't raised
+finds : (g : given.Over) (c : goal.After-is_clear g) (answer : Bool) → c.is_clear.result ≡ answer → FindsClear answer (known c.args.cpu.now) (known c.is_clear.new.cpu)
+finds g c answer is = record {
+  low = sym c.if-raised.ensures;
+  same = c.is_clear.ensures.same.1;
+  looks = subst (λ (b : Bool). LeadsBy (λ s. LookClear b) (known c.args.cpu.now) (known c.is_clear.new.cpu)) is (steps_of c.is_clear.ensures.makes);
+}
+
 pub returns : goal.returns
 returns g c = record {
   same = search rules;
@@ -50,6 +61,6 @@ returns g c = record {
   );
   clear = search rules;
   off = λ sole down. ap (λ v. unmarked (solo v)) c.is_clear.ensures.same.1;
-  found = search rules;
-  again = search rules;
+  found = λ yes. finds g c true yes;
+  again = λ no. looked (known c.args.cpu.now) (known c.is_clear.new.cpu) none_yet (finds g c false no);
 }

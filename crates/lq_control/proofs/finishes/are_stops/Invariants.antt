@@ -1,6 +1,7 @@
 use Rattle.std.proofs.Common.{◌≡◌, ◌<◌, ℕ, None, slice_index}
-use Rattle.lq_table.specs.Sees.{view, known, setup, IsSeatOf, IsElseSame, IsSole, account_of}
-use Rattle.lq_control.specs.EndSteps.{stops_loaded}
+use Rattle.lq_table.specs.Sees.{view, IsSeatOf, IsElseSame, IsSole, account_of}
+use Rattle.lq_table.specs.Step.{MakesSteps}
+use Rattle.lq_control.specs.EndSteps.{xoff_steps}
 use Rattle.lq_control.proofs.finishes.are_stops.Given as goal
 
 abbrev pub invariant-loop-queue : goal.invariant-loop-queue
@@ -9,5 +10,5 @@ invariant-loop-queue g l = record {
   still : IsElseSame l.fn.cpu l.cpu;
   same : view l.cpu ≡ view l.fn.cpu;
   sole : IsSole (view l.fn.cpu) → (view l.fn.cpu).whole.state.shut ≡ None → (queue : ℕ) → queue < l.queue → slice_index (account_of (view l.fn.cpu)).stops queue ≡ l.word;
-  loads : known l.cpu ≡ stops_loaded (setup l.shared) l.word l.queue (known l.fn.cpu);
+  makes : MakesSteps (xoff_steps l.word l.queue) l.fn.cpu l.cpu;
 }

@@ -1,4 +1,4 @@
-use Rattle.std.proofs.Common.{◌≡◌, ℕ, ◌<◌, Bool, List, ⊎_elim, inl, inr, refl, sym, ap, ◌∙◌, subst, slice_index}
+use Rattle.std.proofs.Common.{◌≡◌, ℕ, ◌<◌, Bool, List, [], ◌∷◌, ⊎_elim, inl, inr, refl, sym, ap, ◌∙◌, subst, slice_index}
 use Rattle.std.specs.Prelude.{is_some, if◌then◌else◌}
 use Rattle.lq_model.specs.Account.{Account, held}
 use Rattle.lq_model.specs.declared.fate.Info.{Info}
@@ -7,7 +7,8 @@ use Rattle.lq_table.specs.Sees.{view, known, setup, Solo, account_of, solo}
 use Rattle.lq_qdisc.specs.Alone.{IsAlone, account_in}
 use Rattle.lq_qdisc.proofs.AloneSteps.{account_at, count_of}
 use Rattle.lq_control.specs.declared.finishes.Seen.TheVariants.{Hung, Ended}
-use Rattle.lq_control.specs.Steps.{with_control_ended}
+use Rattle.lq_table.specs.Step.{EndControl}
+use Rattle.lq_control.specs.Steps.{known_after}
 use Rattle.lq_control.specs.EndSteps.{ServesToEnd}
 use Rattle.lq_control.proofs.StepLemmas.{both}
 use Rattle.lq_control.specs.Ending.{IsEndedAlike, IsFinishedAlone}
@@ -134,7 +135,7 @@ returns g c = record {
       let s = setup c.args.shared.now in let e = c.end_control.ensures in let sent = known c.send_all_left.new.cpu in
       let served = known c.serve_to_end.new.cpu in let test = c.if-serve_to_end.false in
       let serves = subst (λ (b : Bool). ServesToEnd s (if b then Hung else Ended) sent served) test c.serve_to_end.ensures.serves in
-      let made_ = both (known c.end_control.new.cpu) (with_control_ended e.made.0 served) e.view e.made.1 in
+      let made_ = both (known c.end_control.new.cpu) (known_after (EndControl e.made.0 ∷ []) served) e.view e.made.1 in
       (sent, c.send_all_left.ensures.sends, inr (served, e.made.0, serves, refl, made_));
 }
 

@@ -1,16 +1,15 @@
-use Rattle.std.proofs.Common.{◌≡◌, ℕ, Bool, true, false, None, inl, inr, refl, sym, ap, ◌∙◌, subst}
+use Rattle.std.proofs.Common.{◌≡◌, ℕ, Bool, true, false, List, [], ◌∷◌, ◌++◌, None, sym, ap, ◌∙◌, subst}
 use Rattle.std.specs.Prelude.{not, bit_and}
 use Rattle.std.proofs.lemmas.Bool.{eq-eqb}
-use Rattle.lq_table.specs.Sees.{view, known, setup, IsSole, account_of}
+use Rattle.lq_table.specs.Sees.{view, setup, IsSole, account_of}
+use Rattle.lq_table.specs.Step.{LoadInside, LoadLock, LoadState, MakesSteps, Step}
 use Rattle.lq_table.specs.Moves.{is_set}
-use Rattle.lq_table.specs.Views.{View, Setup, Known}
-use Rattle.lq_control.specs.declared.finishes.Seen.{Seen}
-use Rattle.lq_control.specs.declared.finishes.Seen.TheVariants as seen
-use Rattle.lq_control.specs.EndSteps.{LoadsStops, LooksBy, LooksInside, are_quiet}
+use Rattle.lq_table.specs.Views.{View, Setup}
+use Rattle.lq_run.specs.Steps.{MakesStepsOf}
+use Rattle.lq_run.proofs.StepsThen.{makes_then}
+use Rattle.lq_control.specs.EndSteps.{AllHung, Deactivated, LoadStops, NotOver, NotQuiet, Over, are_quiet}
 use Rattle.lq_control.specs.Finish.{AreKept, AreStopsBelow, Hangs, IsActiveOrPurged, IsLook}
-use Rattle.lq_control.specs.Steps.{with_inside_loaded}
-use Rattle.lq_control.proofs.StepLemmas.{both}
-use Rattle.lq_control.proofs.EndStepLemmas.{looks_on}
+use Rattle.lq_control.specs.Steps.{CallInside, NoCall}
 use Rattle.lq_control.proofs.FinishLemmas.{not_eqb}
 use Rattle.lq_control.proofs.Looks.{IsLooked, LooksAt, kept_looked, looked_inside, looked_still, looked_then, looks_at}
 use Rattle.lq_control.proofs.Looks.{over_looked, told_hangs, told_over, told_quiet, told_up, up_looked}
@@ -33,7 +32,7 @@ module _ (g : given.Over) (c : After-load_state-state g) where
   words =
       let a = c.load_lock-lock.ensures in let b = c.load_state-state.ensures in let r = c.requires in
       looks_at k c.load_lock-lock.result state c.args.cpu.now c.load_lock-lock.new.cpu c.load_state-state.new.cpu r.seat.2 r.at r.sole
-      a.same a.view a.alone a.made b.same b.view b.sole b.made
+      a.same a.view a.alone a.makes b.same b.view b.sole b.makes
 
 pub returns-then-state-ne0 : goal.returns-then-state-ne0
 returns-then-state-ne0 g c =
@@ -41,7 +40,7 @@ returns-then-state-ne0 g c =
       same = h.same;
       kept = h.kept;
       shows = told_over (k g c.before) (state g c.before) (loaded g c.before) h.told down;
-      looks = (c.load_lock-lock.result, c.load_state-state.result, inl (down, refl, h.from));
+      makes = (LoadLock c.load_lock-lock.result ∷ LoadState c.load_state-state.result ∷ [], Deactivated down, h.makes);
     }
 
 -- It isn't deactivated, and this stays so by further looks.
@@ -61,12 +60,11 @@ returns-then-are_stops g c =
     let a = c.before.before.before in let b = a.before in let h = words g b in let e = c.are_stops.ensures in
     let old = c.load_state-state.new.cpu in let new = c.are_stops.new.cpu in let moved = looked_still old new e.same in
     let stops = e.sole h.told.sole h.told.rest.shut c.if-are_stops.true in
-    let loads = subst (λ (all : Bool). LoadsStops (k g b) 2 all (known old) (known new)) c.if-are_stops.true e.loads in
-    let hung = inl (refl, subst (λ (x : Known). LoadsStops (k g b) 2 true x (known new)) h.from loads) in record {
+    let hung = subst (λ (all : Bool). MakesStepsOf (LoadStops (k g b).queues 2 all) old new) c.if-are_stops.true e.makes in record {
       same = looked_then c.args.cpu.now old new h.same moved;
       kept = kept g a (view new) moved.1;
       shows = subst Hangs (sym e.same.1) (told_hangs (k g b) (state g b) (loaded g b) h.told (up g a) c.args.shared.now.sized.4 stops);
-      looks = (c.load_lock-lock.result, c.load_state-state.result, inr (up g a, hung));
+      makes = (LoadLock c.load_lock-lock.result ∷ LoadState c.load_state-state.result ∷ [] ++ hung.0, AllHung (up g a) hung.1, makes_then h.makes hung.2);
     }
 
 -- What is known after both looks at the stop words, of which the first found that not all are hung.
@@ -85,13 +83,18 @@ module _ (g : given.Over) (c : After-are_stops-open g) where
   abbrev is_quiet : Bool
   is_quiet = are_quiet c.are_stops-open.result c.load_lock-lock.result c.load_state-state.result
 
-  looks : (answer : Seen) (new : Known) → LooksInside is_quiet answer (known c.are_stops-open.new.cpu) new
-      → LooksBy (k g at_words) answer (known c.args.cpu.now) new
-  looks answer new rest =
-      let one = c.are_stops in let two = c.are_stops-open in
-      looks_on (k g at_words) c.load_lock-lock.result (state g at_words) answer (known c.args.cpu.now) (known c.load_state-state.new.cpu)
-      (known one.new.cpu) (known two.new.cpu) new one.result two.result (up g at_up) (words g at_words).from c.if-are_stops.false
-      one.ensures.loads two.ensures.loads rest
+  -- not all are hung
+  not_hung : MakesStepsOf (LoadStops (k g at_words).queues 2 false) c.load_state-state.new.cpu c.are_stops.new.cpu
+  not_hung = subst (λ (all : Bool). MakesStepsOf (LoadStops (k g at_words).queues 2 all) c.load_state-state.new.cpu c.are_stops.new.cpu) c.if-are_stops.false c.are_stops.ensures.makes
+
+  are_open : MakesStepsOf (LoadStops (k g at_words).queues 0 c.are_stops-open.result) c.are_stops.new.cpu c.are_stops-open.new.cpu
+  are_open = c.are_stops-open.ensures.makes
+
+  abbrev loads : List Step
+  loads = LoadLock c.load_lock-lock.result ∷ LoadState c.load_state-state.result ∷ [] ++ not_hung.0 ++ are_open.0
+
+  makes : MakesSteps loads c.args.cpu.now c.are_stops-open.new.cpu
+  makes = makes_then (makes_then (words g at_words).makes not_hung.2) are_open.2
 
 pub returns-then-not-are_quiet : goal.returns-then-not-are_quiet
 returns-then-not-are_quiet g c =
@@ -100,7 +103,7 @@ returns-then-not-are_quiet g c =
       same = looked_then c.args.cpu.now c.load_state-state.new.cpu two (words g (at_words g a)).same to_two;
       kept = kept g (at_up g a) (view two) to_two.1;
       shows = still_up g (at_up g a) (view two) to_two.1;
-      looks = looks g a seen.Going (known two) (inl (busy, refl, refl));
+      makes = (loads g a, NotQuiet (up g (at_up g a)) (not_hung g a).1 (are_open g a).1 busy, makes g a);
     }
 
 -- What is known once the calls inside are loaded.
@@ -118,11 +121,6 @@ module _ (g : given.Over) (c : After-load_inside g) where
   quiet : is_quiet g at_stops ≡ true
   quiet = subst (λ (q : Bool). q ≡ true) c.are_quiet.ensures.quiet c.if-not-are_quiet.false
 
-  made : known c.load_inside.new.cpu ≡ with_inside_loaded c.load_inside.result (known c.are_stops-open.new.cpu)
-  made =
-      let i = c.load_inside.ensures in
-      both (known c.load_inside.new.cpu) (with_inside_loaded c.load_inside.result (known c.are_stops-open.new.cpu)) i.view i.made
-
   same : IsLooked c.args.cpu.now c.load_inside.new.cpu
   same = looked_then c.args.cpu.now c.load_state-state.new.cpu c.load_inside.new.cpu (words g (at_words g at_stops)).same to_end
 
@@ -135,7 +133,11 @@ returns-then-load_inside-ne0 g c =
       same = same g b;
       kept = kept_to_end g b;
       shows = still_up g (at_up g a) (view w) (to_end g b).1;
-      looks = looks g a seen.Going (known w) (inr (quiet g b, c.load_inside.result, inr (c.if-load_inside-ne0.true, refl), made g b));
+      makes = (
+        loads g a ++ LoadInside c.load_inside.result ∷ [],
+        NotOver (up g (at_up g a)) (not_hung g a).1 (are_open g a).1 (quiet g b) (CallInside c.if-load_inside-ne0.true),
+        makes_then (makes g a) c.load_inside.ensures.makes,
+      );
     }
 
 pub returns : goal.returns
@@ -149,5 +151,7 @@ returns g c =
       same = same g b;
       kept = kept_to_end g b;
       shows = over_looked (loaded g d) (view w) (to_end g b).1 over;
-      looks = looks g a seen.Ended (known w) (inr (quiet g b, c.load_inside.result, inl (c.if-load_inside-ne0.false, refl), made g b));
+      makes =
+          let none = subst (λ (n : ℕ). MakesSteps (LoadInside n ∷ []) c.are_stops-open.new.cpu w) c.if-load_inside-ne0.false c.load_inside.ensures.makes in
+          (loads g a ++ LoadInside 0 ∷ [], Over (up g (at_up g a)) (not_hung g a).1 (are_open g a).1 (quiet g b) NoCall, makes_then (makes g a) none);
     }

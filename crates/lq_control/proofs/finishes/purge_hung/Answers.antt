@@ -1,4 +1,4 @@
-use Rattle.std.proofs.Common.{rules, ◌≡◌, ◌<◌, ℕ, true, List, ◌∷◌, length, None, Some, refl, sym, ap, ◌∙◌, subst}
+use Rattle.std.proofs.Common.{rules, ◌≡◌, ◌<◌, ℕ, true, List, [], ◌∷◌, length, None, Some, refl, sym, ap, ◌∙◌, subst}
 use Rattle.std.specs.Prelude.{IfSome}
 use Rattle.std.proofs.lemmas.Option.{same_Some}
 use Rattle.lq_device.specs.Station.{StationState}
@@ -10,8 +10,9 @@ use Rattle.lq_table.specs.Views.{View, Setup, PacketPart, HolderPart, FirstPart,
 use Rattle.lq_table.specs.Rule.{shown, IsResting}
 use Rattle.lq_table.specs.Purges.{begin_purge_view, HoldsAtMost, HoldPackets}
 use Rattle.lq_table.specs.Sees.{view, known, setup, IsSameSeat, IsAccounts, account_of, solo}
-use Rattle.lq_control.specs.Steps.{PurgesHeld, with_purge_begun}
-use Rattle.lq_control.proofs.StepLemmas.{both}
+use Rattle.lq_control.specs.Steps.{PurgesHeld, known_after}
+use Rattle.lq_table.specs.Step.{BeginHungPurge}
+use Rattle.lq_control.proofs.StepLemmas.{both, steps_of}
 use Rattle.lq_ring.proofs.Seats.{seat_on}
 use Rattle.lq_ring.specs.Fates.{fates_onto}
 use Rattle.lq_table.specs.Locks.{try_lock_view_in_control, locked_to}
@@ -210,15 +211,15 @@ returns g c = record {
       let k = setup c.args.shared.now in let b = c.begin_hung_purge.ensures in let e = c.end_resize.ensures in
       let got_ = known c.take_lock.new.cpu in let begun_ = known c.begin_hung_purge.new.cpu in let new = known c.purge_held-purged.new.cpu in
       let count = c.purge_held-purged.result in let by_ = cause.Hung got_.view.holder.station.unit in let slot = got_.view.holder.slot in
-      let started = both begun_ (with_purge_begun by_ b.begun.0 b.made.0 got_) b.begun.1 b.made.1 in
+      let started = both begun_ (known_after (BeginHungPurge b.begun.0 b.made.0 ∷ []) got_) b.begun.1 b.made.1 in
       let purges = c.purge_held-purged.ensures.purges slot (ap (λ (x : View). x.packets.owed) (begun g c.before.before.before)) in
       let of_it = sym (of_unit g c.before.before.before) in
       let held_ = subst (λ (n : ℕ). PurgesHeld k (cause.Hung n) slot count begun_ new) of_it purges in record {
         left = known c.wait_until_left.new.cpu;
         locked = got_;
         purged = new;
-        waits = c.wait_until_left.ensures.waits;
-        takes = c.take_lock.ensures.takes;
+        waits = steps_of c.wait_until_left.ensures.makes;
+        takes = steps_of c.take_lock.ensures.makes;
         purges = record {
           bands = b.begun.0;
           state = b.made.0;

@@ -9,13 +9,16 @@ use Rattle.lq_ring.proofs.Seats.{seat_on}
 use Rattle.lq_qdisc.specs.Alone.{account_in}
 use Rattle.lq_qdisc.specs.Sends.{IsReadyToSend}
 use Rattle.lq_qdisc.proofs.AloneSteps.{account_at}
+use Rattle.lq_qdisc.specs.StepLists.{LeadsBy}
 use Rattle.lq_control.specs.Control.{IsServed}
-use Rattle.lq_control.specs.EndSteps.{LooksBy, none_yet}
+use Rattle.lq_control.specs.EndSteps.{Look, none_yet}
+use Rattle.lq_control.specs.Steps.{}
 use Rattle.lq_control.specs.Ending.{IsEndedAlike}
 use Rattle.lq_control.specs.Finish.{IsLook, Shows}
 use Rattle.lq_control.specs.declared.finishes.Seen.{Seen}
 use Rattle.lq_control.specs.declared.finishes.Seen.TheVariants as seen
 use Rattle.lq_control.proofs.EndStepLemmas.{serves_more, serves_to_end}
+use Rattle.lq_control.proofs.StepLemmas.{steps_of}
 use Rattle.lq_control.proofs.EndingLemmas.{alike_further, alike_same}
 use Rattle.lq_control.proofs.Keeps.{seat_then}
 use Rattle.lq_control.proofs.Looks.{IsLooked}
@@ -92,7 +95,7 @@ loop-preserved g c =
       served = served_then v0 v1 v6 i.served more;
       alike = λ h. alike_further infos start (solo v0) (solo v4) (subst (λ (s : Solo). IsEndedAlike infos start (solo v0) s) (sym same4) (i.alike h)) (ap (λ (s : Solo). s.raised) same4 ∙ i.low) (solo v5) (solo v6) active n.alone d.alone;
       on = serves_more k c.irq.result (known c.args.cpu.now) (known c.loop.cpu) (known c.begin_control.new.cpu) (known c.look.new.cpu) (known c.end_control.new.cpu) (known c.irq.new.cpu) (known c.drain.new.cpu)
-          i.on b.view b.made (subst (λ (x : Seen). LooksBy k x (known c.begin_control.new.cpu) (known c.look.new.cpu)) c.in-Going.is l.looks) e.view e.made n.steps d.steps;
+          i.on b.view b.made (subst (λ (x : Seen). LeadsBy (λ s. Look k.queues x) (known c.begin_control.new.cpu) (known c.look.new.cpu)) c.in-Going.is (steps_of l.makes)) e.view e.made n.steps d.steps;
     }
 
 pub returns-in-Ended : goal.returns-in-Ended
@@ -103,7 +106,7 @@ returns-in-Ended g c =
       kept = l.kept;
       shows = subst (λ (x : Seen). Shows x (view c3)) c.in-Ended.is l.shows;
       alone = λ h. subst (λ (s : Solo). IsEndedAlike c.args.shared.now.infos.now (first_account (setup c.args.shared.now)) (solo (view c0)) s) (sym (solo_looked (view c1) (view c2) (view c3) b.view l.same.1)) (i.alike h);
-      serves = serves_to_end (setup c.args.shared.now) c.look.result seen.Ended (known c0) (known c1) (known c2) (known c3) c.in-Ended.is i.on b.view b.made l.looks (served_to_look (view c0) (view c1) (view c2) (view c3) i.served b.view l.same.1);
+      serves = serves_to_end (setup c.args.shared.now) c.look.result seen.Ended (known c0) (known c1) (known c2) (known c3) c.in-Ended.is i.on b.view b.made (steps_of l.makes) (served_to_look (view c0) (view c1) (view c2) (view c3) i.served b.view l.same.1);
     }
 
 pub returns-in-Hung : goal.returns-in-Hung
@@ -114,5 +117,5 @@ returns-in-Hung g c =
       kept = l.kept;
       shows = subst (λ (x : Seen). Shows x (view c3)) c.in-Hung.is l.shows;
       alone = λ h. subst (λ (s : Solo). IsEndedAlike c.args.shared.now.infos.now (first_account (setup c.args.shared.now)) (solo (view c0)) s) (sym (solo_looked (view c1) (view c2) (view c3) b.view l.same.1)) (i.alike h);
-      serves = serves_to_end (setup c.args.shared.now) c.look.result seen.Hung (known c0) (known c1) (known c2) (known c3) c.in-Hung.is i.on b.view b.made l.looks (served_to_look (view c0) (view c1) (view c2) (view c3) i.served b.view l.same.1);
+      serves = serves_to_end (setup c.args.shared.now) c.look.result seen.Hung (known c0) (known c1) (known c2) (known c3) c.in-Hung.is i.on b.view b.made (steps_of l.makes) (served_to_look (view c0) (view c1) (view c2) (view c3) i.served b.view l.same.1);
     }

@@ -1,9 +1,8 @@
 use Rattle.std.proofs.Common.{rules, refl, ap}
-use Rattle.lq_table.specs.Sees.{view, known}
+use Rattle.lq_table.specs.Sees.{view}
 use Rattle.lq_table.specs.Views.{View}
 use Rattle.lq_ring.proofs.Seats.{seat_on}
-use Rattle.lq_control.specs.EndSteps.{not_looked}
-use Rattle.lq_control.proofs.EndStepLemmas.{busy_then, left_after}
+use Rattle.lq_control.proofs.StepLemmas.{look_again, no_look}
 use Rattle.lq_control.proofs.FinishSteps.{look_none}
 use Rattle.lq_control.proofs.Looks.{looked_then}
 use Rattle.lq_control.proofs.finishes.wait_until_left.Goals as goal
@@ -15,11 +14,11 @@ loop-init g c = let v = view c.args.cpu.now in record {
   seat = c.requires.seat;
   still = ((refl, refl), refl, refl, refl);
   look = look_none v v refl;
-  busy = not_looked;
+  makes = no_look;
 }
 
-pub returns-then-is_left-clause-waits : goal.returns-then-is_left-clause-waits
-returns-then-is_left-clause-waits g c = left_after _ _ _ c.loop.invariant.busy (c.is_left.ensures.left c.if-is_left.true)
+pub returns-then-is_left-clause-makes : goal.returns-then-is_left-clause-makes
+returns-then-is_left-clause-makes g c = look_again c.loop.invariant.makes c.if-is_left.ensures.makes
 
 pub returns-then-is_left-clause-same : goal.returns-then-is_left-clause-same
 returns-then-is_left-clause-same g c = let i = c.loop.invariant in looked_then c.args.cpu.now c.loop.cpu c.is_left.new.cpu (i.still, i.look) c.is_left.ensures.same
@@ -32,5 +31,5 @@ loop-preserved g c =
       seat = seat_on c.args.shared.now b w i.seat s.0.0 (ap (λ (x : View). x.share) s.1.1);
       still = looked.0;
       look = looked.1;
-      busy = busy_then (known a) (known b) (known w) i.busy (c.is_left.ensures.busy c.if-is_left.false);
+      makes = look_again i.makes c.if-is_left.ensures.makes;
     }

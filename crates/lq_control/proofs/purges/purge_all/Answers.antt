@@ -1,11 +1,12 @@
-use Rattle.std.proofs.Common.{rules, ℕ, ◌<◌, refl, sym, ap, ◌∙◌, subst, Some, length}
+use Rattle.std.proofs.Common.{rules, ℕ, ◌<◌, refl, sym, ap, ◌∙◌, subst, Some, [], ◌∷◌, length}
 use Rattle.std.specs.Prelude.{IfSome}
 use Rattle.lq_model.specs.declared.fate.Cause.TheVariants as cause
 use Rattle.lq_table.specs.Views.{View, Setup, PacketPart, Known}
 use Rattle.lq_table.specs.Rule.{shown}
 use Rattle.lq_table.specs.Purges.{HoldsAtMost, HoldPackets}
 use Rattle.lq_table.specs.Sees.{view, setup, known}
-use Rattle.lq_control.specs.Steps.{PurgesHeld, with_purge_begun}
+use Rattle.lq_control.specs.Steps.{PurgesHeld, known_after}
+use Rattle.lq_table.specs.Step.{BeginPurge}
 use Rattle.lq_control.proofs.StepLemmas.{both}
 use Rattle.lq_control.proofs.Purge.{purged_of, slot_within}
 use Rattle.lq_control.proofs.purges.purge_all.Goals as goal
@@ -48,7 +49,7 @@ returns g c = record {
   station = search rules;
   purges =
       let k = setup c.args.shared.now in let b = c.begin_purge-event.ensures.begun in let seen = c.begin_purge-event.ensures.made in let event = c.begin_purge-event.result in let slot = (view c.args.cpu.now).holder.slot in
-      let started = both (known c.begin_purge-event.new.cpu) (with_purge_begun (cause.Event event) b.0 seen.0 (known c.args.cpu.now)) b.1 seen.1 in (
+      let started = both (known c.begin_purge-event.new.cpu) (known_after (BeginPurge event b.0 seen.0 ∷ []) (known c.args.cpu.now)) b.1 seen.1 in (
         event,
         c.begin_purge-event.ensures.event,
         record {

@@ -1,4 +1,4 @@
-use Rattle.std.proofs.Common.{rules, ◌≡◌, ◌≤◌, ◌+◌, ◌*◌, ℕ, refl, sym, ap, ◌∙◌, subst, arith, Option, List}
+use Rattle.std.proofs.Common.{rules, ◌≡◌, ◌≤◌, ◌+◌, ◌*◌, ℕ, refl, sym, ap, ◌∙◌, subst, arith, Option, List, [], ◌∷◌}
 use Rattle.std.proofs.lemmas.Option.{same_Some}
 use Rattle.lq_model.specs.Machine.{Purge}
 use Rattle.lq_model.specs.declared.machine.Seat.{Seat}
@@ -8,8 +8,9 @@ use Rattle.lq_table.specs.Rule.{IsResting}
 use Rattle.lq_table.specs.Sees.{view, known}
 use Rattle.lq_table.specs.Made.{Made, ◌⊳◌}
 use Rattle.lq_table.specs.States.{clear_draining_log}
-use Rattle.lq_control.specs.Steps.{with_bits_cleared}
-use Rattle.lq_control.proofs.StepLemmas.{both}
+use Rattle.lq_table.specs.Step.{ResetDraining, ResetMissed}
+use Rattle.lq_control.specs.Steps.{known_after}
+use Rattle.lq_control.proofs.StepLemmas.{both, steps_from}
 use Rattle.lq_ring.proofs.Seats.{seat_on}
 use Rattle.lq_control.specs.Control.{with_slot_purged}
 use Rattle.lq_control.proofs.Purge.{IsComeTo, comes_on, count_all, emptied, slot_few, still_same}
@@ -61,7 +62,7 @@ module _ (g : given.Over) (c : goal.After-purge_band-arg-2-1 g) where
   after_low =
       let b = c.before.before in let h = after_slot g b in let low = c.purge_band-low.ensures in
       comes_on 0 first_purge (bands g b) (paid g b) c.args.cpu.now c.purge_slot-slot.new.cpu c.purge_band-low.new.cpu h low.same.0
-      (low.purges.purged first_purge (bands g b) h.purge h.left).0
+      (low.knows first_purge (bands g b) h.purge h.left).0
 
 pub purge_band-mid-requires-clause-seat : goal.purge_band-mid-requires-clause-seat
 purge_band-mid-requires-clause-seat g c _ _ =
@@ -92,7 +93,7 @@ module _ (g : given.Over) (c : goal.After-purge_band-arg-3-1 g) where
   after_mid =
       let l = left1 (bands g at_slot) in let h = after_low g c.before.before in let mid = c.purge_band-mid.ensures in
       comes_on 1 purge1 l (paid g at_slot) c.args.cpu.now c.purge_band-low.new.cpu c.purge_band-mid.new.cpu h mid.same.0
-      (mid.purges.purged purge1 l h.purge h.left).0
+      (mid.knows purge1 l h.purge h.left).0
 
 pub purge_band-high-requires-clause-seat : goal.purge_band-high-requires-clause-seat
 purge_band-high-requires-clause-seat g c _ _ =
@@ -123,7 +124,7 @@ module _ (g : given.Over) (c : goal.After-reset_missed-arg-1 g) where
   after_high =
       let l = left2 (bands g from_slot) in let h = after_mid g c.before.before in let high = c.purge_band-high.ensures in
       comes_on 2 purge2 l (paid g from_slot) c.args.cpu.now c.purge_band-mid.new.cpu c.purge_band-high.new.cpu h high.same.0
-      (high.purges.purged purge2 l h.purge h.left).0
+      (high.knows purge2 l h.purge h.left).0
 
 pub reset_missed-requires-clause-seat : goal.reset_missed-requires-clause-seat
 reset_missed-requires-clause-seat g c _ _ =
@@ -184,11 +185,11 @@ returns g c = record {
       let v1 = view c.purge_slot-slot.new.cpu in let v2 = view c.purge_band-low.new.cpu in let v3 = view c.purge_band-mid.new.cpu in
       let v4 = view c.purge_band-high.new.cpu in let v5 = view c.reset_missed.new.cpu in let v6 = view c.reset_draining.new.cpu in
       let begun = ap (λ (x : View). x.control.purge) e ∙ c.requires.may.at.1 in
-      let low = c.purge_band-low.ensures.purges.purged first_purge l begun (ap (λ (x : View). x.holder.left) e ∙ left) in
+      let low = c.purge_band-low.ensures.knows first_purge l begun (ap (λ (x : View). x.holder.left) e ∙ left) in
       let next = ap (λ (x : View). x.control.purge) low.0.is in
-      let mid = c.purge_band-mid.ensures.purges.purged purge1 (left1 l) next (ap (λ (x : View). x.holder.left) low.0.is) in
+      let mid = c.purge_band-mid.ensures.knows purge1 (left1 l) next (ap (λ (x : View). x.holder.left) low.0.is) in
       let last = ap (λ (x : View). x.control.purge) mid.0.is in
-      let high = c.purge_band-high.ensures.purges.purged purge2 (left2 l) last (ap (λ (x : View). x.holder.left) mid.0.is) in
+      let high = c.purge_band-high.ensures.knows purge2 (left2 l) last (ap (λ (x : View). x.holder.left) mid.0.is) in
       let cause_is = ap (λ (z : Left). z.cause) (same_Some _ _ (sym left ∙ c.requires.may.bands.1)) ∙ c.requires.may.bands.2 in
       let bits = c.reset_missed.ensures.view in let ends = c.reset_draining.ensures.view in
       let n = count_all s l in let n0 = first.1 in let n1 = low.1 in let n2 = mid.1 in let n3 = high.1 in
@@ -205,10 +206,10 @@ returns g c = record {
         two = known c.purge_band-mid.new.cpu;
         three = three;
         requeued = c.purge_slot-slot.ensures.purges s owed;
-        first = c.purge_band-low.ensures.purges;
-        second = c.purge_band-mid.ensures.purges;
-        third = c.purge_band-high.ensures.purges;
-        cleared = both (known c.reset_draining.new.cpu) (with_bits_cleared three) (d.view ∙ ap reset_draining_view m.view) made;
+        first = record { steps = steps_from c.purge_band-low.ensures.makes; purged = c.purge_band-low.ensures.knows };
+        second = record { steps = steps_from c.purge_band-mid.ensures.makes; purged = c.purge_band-mid.ensures.knows };
+        third = record { steps = steps_from c.purge_band-high.ensures.makes; purged = c.purge_band-high.ensures.knows };
+        cleared = both (known c.reset_draining.new.cpu) (known_after (ResetMissed ∷ ResetDraining ∷ []) three) (d.view ∙ ap reset_draining_view m.view) made;
         counted = ap (λ (n : ℕ). n + low + mid + high) (c.purge_slot-slot.ensures.purged s owed).1;
       };
 }

@@ -3,24 +3,29 @@ use Rattle.lq_model.specs.Account.{Resize}
 use Rattle.lq_table.specs.Locks.{locked_to}
 use Rattle.lq_table.specs.Sees.{known, setup, view, Solo, heard, solo}
 use Rattle.lq_model.specs.declared.machine.Phase.TheVariants.{Purged}
-use Rattle.lq_ring.specs.Changes.{ResizesAll}
+use Rattle.lq_control.specs.Steps.{ResizesAll}
 use Rattle.lq_ring.specs.Resized.{all_lost}
 use Rattle.lq_table.specs.Views.{View}
 use Rattle.lq_control.proofs.Keeps.{keeps_freed, keeps_resized, keeps_then, resized_from, seat_then}
-use Rattle.lq_control.proofs.StepLemmas.{none_of}
+use Rattle.lq_control.proofs.StepLemmas.{freed, none_of, resizes_of, steps_of}
+use Rattle.lq_control.proofs.resizes.relength.Given as given
 use Rattle.lq_control.proofs.resizes.relength.Goals as goal
+
+-- what the resize does of what the seat knows
+turned : (g : given.Over) (c : goal.After-release g) → ResizesAll (setup c.args.shared.now) c.args.len c.args.event c.resize_all.result (known c.take_lock.new.cpu) (known c.resize_all.new.cpu)
+turned g c = let e = c.resize_all.ensures in resizes_of e.held e.makes e.packets e.is_known e.knows e.counted
 
 pub returns : goal.returns
 returns g c = record {
   same =
       let v = view c.args.cpu.now in let v1 = view c.take_lock.new.cpu in let v2 = view c.resize_all.new.cpu in let v3 = view c.release.new.cpu in let got = c.take_lock.ensures.got in
-      let r = c.resize_all.ensures.resizes in let len = c.args.len in let event = c.args.event in let lost = all_lost len r.held in let e = c.release.ensures in
+      let r = turned g c in let len = c.args.len in let event = c.args.event in let lost = all_lost len r.held in let e = c.release.ensures in
       let t = c.take_lock.ensures.same.0 in let s = c.resize_all.ensures.same.0 in let l = e.same.0 in
       let all = keeps_then v v2 v3 (keeps_resized len event lost got.0 v v1 v2 got.1 r.is) (keeps_freed v2 v3 e.released) in
       (seat_then c.args.cpu.now c.take_lock.new.cpu c.release.new.cpu t (seat_then c.take_lock.new.cpu c.resize_all.new.cpu c.release.new.cpu s l), all.0, all.1);
   at =
       let v = view c.args.cpu.now in let v1 = view c.take_lock.new.cpu in let v2 = view c.resize_all.new.cpu in let v3 = view c.release.new.cpu in let got = c.take_lock.ensures.got in
-      let r = c.resize_all.ensures.resizes in let len = c.args.len in let event = c.args.event in let lost = all_lost len r.held in let e = c.release.ensures in
+      let r = turned g c in let len = c.args.len in let event = c.args.event in let lost = all_lost len r.held in let e = c.release.ensures in
       let turned = resized_from len event lost got.0 v v1 v2 got.1 r.is in let free = e.released in let ready = c.requires.at.1 in (
         ap (λ (x : View). x.place.position) free,
         (
@@ -36,11 +41,11 @@ returns g c = record {
       );
   trail = search rules;
   steps =
-      let r = c.resize_all.ensures.resizes in let len = c.args.len in
+      let r = turned g c in let len = c.args.len in
       let phase : (view c.take_lock.new.cpu).control.phase ≡ Purged = ap (λ (x : View). x.control.phase) c.take_lock.ensures.got.1 ∙ c.requires.purged.0 in
       let none : c.resize_all.result ≡ 0 = r.counted ∙ none_of len r.held (r.is_known.0 phase) in
-      (known c.take_lock.new.cpu, known c.resize_all.new.cpu, c.take_lock.ensures.takes, subst (λ (n : ℕ). ResizesAll (setup c.args.shared.now) len c.args.event n (known c.take_lock.new.cpu) (known c.resize_all.new.cpu)) none r, c.release.ensures.by);
+      (known c.take_lock.new.cpu, known c.resize_all.new.cpu, steps_of c.take_lock.ensures.makes, subst (λ (n : ℕ). ResizesAll (setup c.args.shared.now) len c.args.event n (known c.take_lock.new.cpu) (known c.resize_all.new.cpu)) none r, freed c.release.ensures.makes);
   alone = λ sole.
       ap solo c.release.ensures.released
-      ∙ (ap (λ v. locked_to false (solo v)) c.resize_all.ensures.resizes.is ∙ ap (λ (s : Solo). locked_to false (heard (Resize c.args.len c.args.event) s)) (c.take_lock.ensures.sole sole).0);
+      ∙ (ap (λ v. locked_to false (solo v)) (turned g c).is ∙ ap (λ (s : Solo). locked_to false (heard (Resize c.args.len c.args.event) s)) (c.take_lock.ensures.sole sole).0);
 }

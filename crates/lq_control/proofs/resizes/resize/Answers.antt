@@ -1,4 +1,4 @@
-use Rattle.std.proofs.Common.{rules, ◌≡◌, ℕ, ◌<◌, true, None, refl, sym, ap, ◌∙◌, subst, arith}
+use Rattle.std.proofs.Common.{rules, ◌≡◌, ℕ, ◌<◌, true, [], ◌∷◌, None, refl, sym, ap, ◌∙◌, subst, arith}
 use Rattle.lq_model.specs.Account.{Resize}
 use Rattle.lq_model.specs.Alone.{changed}
 use Rattle.lq_model.specs.declared.plan.EventKind.TheVariants as kind
@@ -11,23 +11,30 @@ use Rattle.lq_table.specs.Sees.{view, setup, known, IsSole, solo, heard}
 use Rattle.lq_table.specs.Locks.{try_lock_view_in_control, locked_to}
 use Rattle.lq_run.specs.Runs.{ended}
 use Rattle.lq_ring.specs.Resized.{all_lost, having_resized}
+use Rattle.lq_qdisc.specs.StepLists.{LeadsBy}
 use Rattle.lq_control.proofs.Alone.{resize_alone, resized_same, stepped_at}
-use Rattle.lq_control.specs.Steps.{TakesLock, with_control_begun}
+use Rattle.lq_table.specs.Step.{BeginControl}
+use Rattle.lq_control.specs.Steps.{ResizesAll, TakeLock, known_after}
 use Rattle.lq_control.proofs.Keeps.{keeps_begun, keeps_ended, keeps_resized, keeps_then, resized_from, seat_then}
-use Rattle.lq_control.proofs.StepLemmas.{both}
+use Rattle.lq_control.proofs.StepLemmas.{both, resizes_of, steps_of}
+use Rattle.lq_control.proofs.resizes.resize.Given as given
 use Rattle.lq_control.proofs.resizes.resize.Goals as goal
+
+-- what the resize does of what the seat knows
+turned : (g : given.Over) (c : goal.After-end_resize g) → ResizesAll (setup c.args.shared.now) c.args.len c.args.event c.resize_all-shrunk.result (known c.take_lock.new.cpu) (known c.resize_all-shrunk.new.cpu)
+turned g c = let e = c.resize_all-shrunk.ensures in resizes_of e.held e.makes e.packets e.is_known e.knows e.counted
 
 pub returns : goal.returns
 returns g c =
     let alone_ : IsSole (view c.args.cpu.now) → solo (view c.end_resize.new.cpu) ≡ ended (heard (Resize c.args.len c.args.event) (locked_to true (solo (view c.args.cpu.now)))) = λ sole.
     let v = view c.args.cpu.now in let got = c.take_lock.ensures.got in let v2 = view c.take_lock.new.cpu in
     let e2 : v2 ≡ try_lock_view_in_control got.0 (begin_control_view v) = got.1 ∙ ap (try_lock_view_in_control got.0) c.begin_control.ensures.view in
-    let r = c.resize_all-shrunk.ensures.resizes in let s1 : solo (view c.begin_control.new.cpu) ≡ solo v = ap solo c.begin_control.ensures.view in
+    let r = turned g c in let s1 : solo (view c.begin_control.new.cpu) ≡ solo v = ap solo c.begin_control.ensures.view in
     let s2 = (c.take_lock.ensures.sole (subst IsSole (sym c.begin_control.ensures.view) sole)).0 ∙ ap (locked_to true) s1 in
     c.end_resize.ensures.sole (subst IsSole (sym (r.is ∙ ap (having_resized c.args.len c.args.event (all_lost c.args.len r.held)) e2)) sole) ∙ ap ended (ap solo r.is ∙ ap (heard (Resize c.args.len c.args.event)) s2) in record {
       same =
           let v1 = view c.begin_control.new.cpu in let v2 = view c.take_lock.new.cpu in let v3 = view c.resize_all-shrunk.new.cpu in let got = c.take_lock.ensures.got in
-          let r = c.resize_all-shrunk.ensures.resizes in let len = c.args.len in let event = c.args.event in let lost = all_lost len r.held in
+          let r = turned g c in let len = c.args.len in let event = c.args.event in let lost = all_lost len r.held in
           let b = c.begin_control.ensures in let t = c.take_lock.ensures.same.0 in let s = c.resize_all-shrunk.ensures.same.0 in let e = c.end_resize.ensures.kept.0 in
           let v = view c.args.cpu.now in let last = view c.end_resize.new.cpu in
           let k = keeps_then v v1 v3 (keeps_begun v v1 b.view) (keeps_resized len event lost got.0 v1 v2 v3 got.1 r.is) in
@@ -36,7 +43,7 @@ returns g c =
           (seat_then c.args.cpu.now c1 c.end_resize.new.cpu b.same.0 (seat_then c1 c2 c.end_resize.new.cpu t (seat_then c2 c3 c.end_resize.new.cpu s e.0)), all.0, all.1);
       at =
           let v1 = view c.begin_control.new.cpu in let v2 = view c.take_lock.new.cpu in let v3 = view c.resize_all-shrunk.new.cpu in let got = c.take_lock.ensures.got in
-          let r = c.resize_all-shrunk.ensures.resizes in let len = c.args.len in let event = c.args.event in let lost = all_lost len r.held in
+          let r = turned g c in let len = c.args.len in let event = c.args.event in let lost = all_lost len r.held in
           let e = c.end_resize.ensures in let k = e.kept.0 in let at = e.at in
           let ready = c.requires.may.at.2 in let first = c.begin_control.ensures.view in let turned = resized_from len event lost got.0 v1 v2 v3 got.1 r.is in
           let control : (view c.end_resize.new.cpu).control ≡ (view c.args.cpu.now).control = k.4 ∙ (ap (λ (x : View). x.control) turned ∙ ap (λ (x : View). x.control) first) in (
@@ -55,8 +62,8 @@ returns g c =
             first.made.0,
             known c.take_lock.new.cpu,
             known c.resize_all-shrunk.new.cpu,
-            subst (λ (x : Known). TakesLock x (known c.take_lock.new.cpu)) (both (known c.begin_control.new.cpu) (with_control_begun first.made.0 (known c.args.cpu.now)) first.view first.made.1) c.take_lock.ensures.takes,
-            c.resize_all-shrunk.ensures.resizes,
+            subst (λ (x : Known). LeadsBy (λ s. TakeLock) x (known c.take_lock.new.cpu)) (both (known c.begin_control.new.cpu) (known_after (BeginControl first.made.0 ∷ []) (known c.args.cpu.now)) first.view first.made.1) (steps_of c.take_lock.ensures.makes),
+            turned g c,
             (record { calm = record { share = e.kept.0.1; state = e.kept.1; settled = e.kept.0.8 }; sole = e.sole }, e.ends),
           );
       alone = (
@@ -78,6 +85,6 @@ end_resize-requires-clause-may g c _ _ = record {
   rests =
       let empty = empty-rests c.args.len c.requires.len.0 in
       subst (λ (h : HolderPart). IsResting h.size h.ends × (h.resizing ≡ None))
-      (sym (ap (λ (x : View). x.holder) c.resize_all-shrunk.ensures.resizes.is)) ((empty, empty, empty), refl);
+      (sym (ap (λ (x : View). x.holder) c.resize_all-shrunk.ensures.knows)) ((empty, empty, empty), refl);
   back = search rules;
 }

@@ -29,7 +29,7 @@ returns g c = record {
     known c.relength.new.cpu,
     (known c.deactivate-purged.new.cpu, c.deactivate-purged.ensures.steps, c.wait_until_clear.ensures.steps),
     c.relength.ensures.steps,
-    reopened (known c.relength.new.cpu) (known c.clear_deactivated.new.cpu) (known c.end_control.new.cpu) c.clear_deactivated.ensures.view c.clear_deactivated.ensures.made c.end_control.ensures.view c.end_control.ensures.made,
+    reopened c.clear_deactivated.ensures.makes c.end_control.ensures.makes,
   );
   alone = λ plan h.
       let infos = c.args.shared.now.infos.now in let start = first_account (setup c.args.shared.now) in let v = solo (view c.args.cpu.now) in let len = c.args.len in let event = c.args.event in

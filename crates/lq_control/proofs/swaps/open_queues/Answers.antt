@@ -1,8 +1,8 @@
 use Rattle.std.proofs.Common.{rules, ◌≡◌, ◌+◌, ◌-◌, refl, ap, ◌∙◌, arith}
 use Rattle.lq_table.specs.Views.{View, Setup}
 use Rattle.lq_table.specs.Controls.{shut_after, open_xoff_view}
-use Rattle.lq_table.specs.Sees.{view, known, setup, solo}
-use Rattle.lq_control.proofs.StepLemmas.{opened_more}
+use Rattle.lq_table.specs.Sees.{view, solo}
+use Rattle.lq_control.proofs.StepLemmas.{makes_none, opened_more}
 use Rattle.lq_ring.proofs.Seats.{seat_on}
 use Rattle.lq_control.specs.Control.{all_opened}
 use Rattle.lq_control.proofs.swaps.open_queues.Goals as goal
@@ -14,7 +14,7 @@ loop-queue-init g c = let v = view c.args.cpu.now in record {
   opened = (v.whole, (λ j. record v { holder = record v.holder { shut = c.requires.shut j } }), refl);
   step = refl;
   from = omega arith;
-  opens = refl;
+  makes = makes_none;
 }
 
 pub loop-queue-preserved : goal.loop-queue-preserved
@@ -27,5 +27,5 @@ loop-queue-preserved g c =
       opened = (y.whole, is ∙ (λ j. all_opened (shut_after ((let q : n ≡ n + 1 - 1 = omega arith in q) j) (at j)) y.whole v), i.opened.2);
       step = ap solo c.open_xoff.ensures.view ∙ i.step;
       from = (let from = i.from in omega arith);
-      opens = opened_more (setup c.args.shared.now) n (known c.args.cpu.now) (known c.loop-queue.cpu) (known c.open_xoff.new.cpu) i.from i.opens c.open_xoff.ensures.view c.open_xoff.ensures.made;
+      makes = opened_more n i.from i.makes c.open_xoff.ensures.makes;
     }

@@ -1,9 +1,10 @@
 use Rattle.std.proofs.Common.{◌≡◌, ◌≤◌, ◌-◌}
 use Rattle.lq_table.specs.Views.{WholePart}
 use Rattle.lq_table.specs.Controls.{shut_after}
-use Rattle.lq_table.specs.Sees.{view, known, setup, IsSeatOf, IsElseSame, solo}
+use Rattle.lq_table.specs.Sees.{view, IsSeatOf, IsElseSame, solo}
 use Rattle.lq_control.specs.Control.{all_opened}
-use Rattle.lq_control.specs.Steps.{with_queues_opened}
+use Rattle.lq_table.specs.Step.{MakesSteps}
+use Rattle.lq_control.specs.Steps.{open_steps}
 use Rattle.lq_control.proofs.swaps.open_queues.Given as goal
 
 abbrev pub invariant-loop-queue : goal.invariant-loop-queue
@@ -13,5 +14,5 @@ invariant-loop-queue g l = record {
   opened : (w : WholePart) × (view l.cpu ≡ all_opened (shut_after (l.queue - 1) l.shared.queues) w (view l.fn.cpu)) × (w.told ≡ (view l.fn.cpu).whole.told);
   step : solo (view l.cpu) ≡ solo (view l.fn.cpu);
   from : 1 ≤ l.queue;
-  opens : known l.cpu ≡ with_queues_opened (setup l.shared) (l.queue - 1) (known l.fn.cpu);
+  makes : MakesSteps (open_steps (l.queue - 1)) l.fn.cpu l.cpu;
 }

@@ -47,7 +47,7 @@ returns g c = record {
     c.deactivate.result,
     (known c.deactivate.new.cpu, c.deactivate.ensures.steps, c.wait_until_clear.ensures.steps),
     c.swap_device-old.ensures.steps,
-    reopened (known c.swap_device-old.new.cpu) (known c.clear_deactivated.new.cpu) (known c.end_control.new.cpu) c.clear_deactivated.ensures.view c.clear_deactivated.ensures.made c.end_control.ensures.view c.end_control.ensures.made,
+    reopened c.clear_deactivated.ensures.makes c.end_control.ensures.makes,
   );
   alone = λ plan params is_unit told h.
       let infos = c.args.shared.now.infos.now in let start = first_account (setup c.args.shared.now) in let v = solo (view c.args.cpu.now) in let unit = c.args.unit in let event = c.args.event in let device = (g.D.TxDevice.state c.args.device) in

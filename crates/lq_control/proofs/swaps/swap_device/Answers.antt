@@ -1,25 +1,25 @@
-use Rattle.std.proofs.Common.{◌≡◌, false, sym, ap, ◌∙◌, subst, arith, ◌-◌, ◌∷◌, Option, None, Contains}
+use Rattle.std.proofs.Common.{◌≡◌, false, refl, sym, ap, ◌∙◌, subst, arith, ◌-◌, [], ◌∷◌, ◌++◌, Option, None, Contains}
 use Rattle.std.specs.Prelude.{is_some}
 use Rattle.std.specs.Option.{unwrap_or}
-use Rattle.lq_device.specs.Station.{StationState}
+use Rattle.lq_device.specs.Station.{StationState, with_device}
 use Rattle.lq_table.specs.Views.{View, HolderPart, Setup, WholePart, no_station, Known}
 use Rattle.lq_table.specs.Locks.{try_lock_view_in_control, locked_to}
-use Rattle.lq_table.specs.Rule.{HasServed, latest_unit, station_count, units_of}
+use Rattle.lq_table.specs.Rule.{shown, station_count, units_of}
 use Rattle.lq_table.specs.Controls.{IsSwap, swap_view}
 use Rattle.lq_table.specs.Sees.{view, known, setup, Solo, device_to, heard, solo}
-use Rattle.lq_table.specs.Made.{◌⊳◌}
-use Rattle.lq_table.specs.Stops.{store_xoff_log}
 use Rattle.lq_model.specs.Account.{Swap}
 use Rattle.lq_control.specs.Control.{all_opened, with_lock_free}
-use Rattle.lq_control.specs.Steps.{with_device_swapped, with_queues_opened, with_lock_released}
+use Rattle.lq_table.specs.Step.{MoveStation, SetStation, SwapDevice, Unlock, standing}
+use Rattle.lq_run.proofs.StepsThen.{makes_then}
+use Rattle.lq_control.specs.Steps.{open_steps}
 use Rattle.lq_control.proofs.Keeps.{seat_then}
-use Rattle.lq_control.proofs.StepLemmas.{both}
+use Rattle.lq_control.proofs.StepLemmas.{station_set, steps_of}
 use Rattle.lq_control.proofs.swaps.swap_device.Goals as goal
 
 pub swap-requires-clause-station : goal.swap-requires-clause-station
 swap-requires-clause-station g c _ _ =
-    let h = (view c.take_lock.new.cpu).holder in let changed = (c.change_device-old.ensures.changed h c.take_lock.ensures.station.1).0 in let unit = c.args.unit in
-    let now = ap (λ (x : Known). x.view) c.change_device-old.ensures.same.3 in
+    let h = (view c.take_lock.new.cpu).holder in let changed = (c.change_device-old.ensures.makes h c.take_lock.ensures.station.1).carries in let unit = c.args.unit in
+    let now = ap (λ (x : Known). x.view) (station_set (c.change_device-old.ensures.makes (view c.take_lock.new.cpu).holder c.take_lock.ensures.station.1)) in
     let about : (view c.change_device-old.new.cpu).share.about ≡ Rattle.lq_table.specs.Sees.setup c.args.shared.now = ap (λ (x : View). x.share.about) now ∙ (ap (λ (x : View). x.share.about) c.take_lock.ensures.got.1 ∙ c.requires.seat.2) in
     let units : (view c.change_device-old.new.cpu).holder.units ≡ Rattle.lq_table.specs.Rule.units_of (view c.args.cpu.now).trail = ap (λ (x : View). x.holder.units) now ∙ c.take_lock.ensures.units c.requires.may.at.1 in
     let above = c.requires.may.next.1 in let first = above.first in (
@@ -45,17 +45,17 @@ returns g c = record {
   same =
       let v = view c.args.cpu.now in let got = c.take_lock.ensures.got in let locked = c.change_device-old.new.cpu in let opened = c.open_queues.ensures.opened in let whole = opened.0 in
       let e = swapped_is got.0 (unwrap_or locked.station no_station) whole v (view c.take_lock.new.cpu) (view locked) (view c.swap.new.cpu) (view c.open_queues.new.cpu) (view c.release.new.cpu)
-      got.1 (ap (λ (x : Known). x.view) c.change_device-old.ensures.same.3) c.swap.ensures.view opened.1 c.release.ensures.released in
+      got.1 (ap (λ (x : Known). x.view) (station_set (c.change_device-old.ensures.makes (view c.take_lock.new.cpu).holder c.take_lock.ensures.station.1))) c.swap.ensures.view opened.1 c.release.ensures.released in
       let c1 = c.take_lock.new.cpu in let c3 = c.swap.new.cpu in let c4 = c.open_queues.new.cpu in let c5 = c.release.new.cpu in
       let to_end = seat_then c3 c4 c5 c.open_queues.ensures.same.0 c.release.ensures.same.0 in let swaps = c.swap.ensures.view in
-      let told = opened.2 ∙ (ap (λ (x : View). x.whole.told) swaps ∙ (ap (λ (x : Known). x.view.whole.told) c.change_device-old.ensures.same.3 ∙ ap (λ (x : View). x.whole.told) got.1)) in (
-        seat_then c.args.cpu.now c1 c5 c.take_lock.ensures.same.0 (seat_then c1 locked c5 c.change_device-old.ensures.same.0 (seat_then locked c3 c5 c.swap.ensures.same.0 to_end)),
+      let told = opened.2 ∙ (ap (λ (x : View). x.whole.told) swaps ∙ (ap (λ (x : Known). x.view.whole.told) (station_set (c.change_device-old.ensures.makes (view c.take_lock.new.cpu).holder c.take_lock.ensures.station.1)) ∙ ap (λ (x : View). x.whole.told) got.1)) in (
+        seat_then c.args.cpu.now c1 c5 c.take_lock.ensures.same.0 (seat_then c1 locked c5 (c.change_device-old.ensures.makes (view c.take_lock.new.cpu).holder c.take_lock.ensures.station.1).seat (seat_then locked c3 c5 c.swap.ensures.same.0 to_end)),
         record { share = ap (λ (x : View). x.share) e; turns = ap (λ (x : View). x.turns) e; first = ap (λ (x : View). x.control.first) e; told = ap (λ (x : View). x.whole.told) e ∙ told },
       );
   at =
       let v = view c.args.cpu.now in let got = c.take_lock.ensures.got in let locked = c.change_device-old.new.cpu in let opened = c.open_queues.ensures.opened in let whole = opened.0 in
       let e = swapped_is got.0 (unwrap_or locked.station no_station) whole v (view c.take_lock.new.cpu) (view locked) (view c.swap.new.cpu) (view c.open_queues.new.cpu) (view c.release.new.cpu)
-      got.1 (ap (λ (x : Known). x.view) c.change_device-old.ensures.same.3) c.swap.ensures.view opened.1 c.release.ensures.released in
+      got.1 (ap (λ (x : Known). x.view) (station_set (c.change_device-old.ensures.makes (view c.take_lock.new.cpu).holder c.take_lock.ensures.station.1))) c.swap.ensures.view opened.1 c.release.ensures.released in
       let ready = c.requires.may.at.2 in (
         ap (λ (x : View). x.place.position) e,
         (c.release.ensures.empty, ap (λ (x : View). x.packets) e ∙ ready.1, ap (λ (x : View). x.locks) e ∙ ready.2, ap (λ (x : View). x.holder.resizing) e ∙ got.5),
@@ -64,26 +64,30 @@ returns g c = record {
   trail =
       let v = view c.args.cpu.now in let got = c.take_lock.ensures.got in let locked = c.change_device-old.new.cpu in let opened = c.open_queues.ensures.opened in let whole = opened.0 in
       let e = swapped_is got.0 (unwrap_or locked.station no_station) whole v (view c.take_lock.new.cpu) (view locked) (view c.swap.new.cpu) (view c.open_queues.new.cpu) (view c.release.new.cpu)
-      got.1 (ap (λ (x : Known). x.view) c.change_device-old.ensures.same.3) c.swap.ensures.view opened.1 c.release.ensures.released in
+      got.1 (ap (λ (x : Known). x.view) (station_set (c.change_device-old.ensures.makes (view c.take_lock.new.cpu).holder c.take_lock.ensures.station.1))) c.swap.ensures.view opened.1 c.release.ensures.released in
       ap (λ (x : View). x.trail) e
-      ∙ ap (λ (o : Option StationState). Swap (unwrap_or o no_station).unit ∷ v.trail) (c.change_device-old.ensures.changed (view c.take_lock.new.cpu).holder c.take_lock.ensures.station.1).0;
+      ∙ ap (λ (o : Option StationState). Swap (unwrap_or o no_station).unit ∷ v.trail) (c.change_device-old.ensures.makes (view c.take_lock.new.cpu).holder c.take_lock.ensures.station.1).carries;
   steps =
-      let k = setup c.args.shared.now in let locked = known c.take_lock.new.cpu in let came = g.D.TxDevice.state c.args.device in
-      let changed = c.change_device-old.ensures.changed locked.view.holder c.take_lock.ensures.station.1 in let now = c.change_device-old.ensures.same.3 in let x = c.swap.ensures in
-      let swapped = both (known c.swap.new.cpu) (with_device_swapped k c.args.unit came locked)
-      (x.view ∙ (λ j. swap_view (unwrap_or (changed.0 j) no_station) (now j).view)) (x.made ∙ ap (λ (y : Known). y.steps ⊳ store_xoff_log k 0 0) now) in
-      let about : locked.view.share.about ≡ k = ap (λ (v : View). v.share.about) c.take_lock.ensures.got.1 ∙ c.requires.seat.2 in record {
+      let locked = known c.take_lock.new.cpu in let at = c.take_lock.ensures.station.1 in let changed = c.change_device-old.ensures.makes locked.view.holder at in
+      let m = makes_then (makes_then (makes_then changed c.swap.ensures.makes) c.open_queues.ensures.makes) c.release.ensures.makes in record {
         locked = locked;
-        takes = c.take_lock.ensures.takes;
-        goes = changed.1;
-        away = subst (λ (z : Setup). HasServed z.infos z.station locked.view.control.origin locked.view.holder.station.device × (locked.view.holder.station.unit ≡ latest_unit z.station locked.view.holder.units)) (sym about)
-            (subst (λ (y : Known). HasServed k.infos k.station y.view.control.origin y.view.holder.station.device × (y.view.holder.station.unit ≡ latest_unit k.station y.view.holder.units)) now (x.served, x.unit));
-        is = c.release.ensures.by ∙ ap with_lock_released (c.open_queues.ensures.opens ∙ ap (with_queues_opened k (k.queues - 1)) swapped);
+        takes = steps_of c.take_lock.ensures.makes;
+        goes = c.change_device-old.ensures.went locked.view.holder at;
+        swaps = (
+          standing c.take_lock.new.cpu,
+          SetStation (with_device (shown locked.view.holder) c.args.unit (g.D.TxDevice.state c.args.device)) ∷ SwapDevice ∷ open_steps (c.args.shared.now.queues - 1) ++ MoveStation ∷ Unlock ∷ [],
+          refl,
+          refl,
+          refl,
+          m.knows,
+          m.made,
+          m.told,
+        );
       };
   alone = λ sole.
-      let h = (view c.take_lock.new.cpu).holder in let changed = (c.change_device-old.ensures.changed h c.take_lock.ensures.station.1).0 in let before = view c.change_device-old.new.cpu in
+      let h = (view c.take_lock.new.cpu).holder in let changed = (c.change_device-old.ensures.makes h c.take_lock.ensures.station.1).carries in let before = view c.change_device-old.new.cpu in
       let device = (g.D.TxDevice.state c.args.device) in
       let swapped = ap solo c.swap.ensures.view ∙ ap (λ (o : Option StationState). device_to (unwrap_or o no_station).device (heard (Swap (unwrap_or o no_station).unit) (solo before))) changed in
       ap solo c.release.ensures.released ∙ (ap (locked_to false) (c.open_queues.ensures.step ∙ swapped)
-      ∙ ap (λ (s : Solo). locked_to false (device_to device (heard (Swap c.args.unit) s))) (ap (λ (x : Known). solo x.view) c.change_device-old.ensures.same.3 ∙ (c.take_lock.ensures.sole sole).0));
+      ∙ ap (λ (s : Solo). locked_to false (device_to device (heard (Swap c.args.unit) s))) (ap (λ (x : Known). solo x.view) (station_set (c.change_device-old.ensures.makes (view c.take_lock.new.cpu).holder c.take_lock.ensures.station.1)) ∙ (c.take_lock.ensures.sole sole).0));
 }

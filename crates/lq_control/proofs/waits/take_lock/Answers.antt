@@ -1,18 +1,19 @@
-use Rattle.std.proofs.Common.{◌≡◌, rules, true, false, ℕ, List, [], ◌∷◌, Option, Some, None, refl, sym, ap, ◌∙◌, subst}
+use Rattle.std.proofs.Common.{◌≡◌, rules, true, false, ℕ, List, [], ◌∷◌, ◌++◌, Option, Some, None, refl, sym, ap, ◌∙◌, subst}
 use Rattle.lq_device.specs.Station.{StationState}
 use Rattle.lq_model.specs.declared.machine.Position.{Position}
 use Rattle.lq_model.specs.declared.machine.Position.TheVariants.{Control}
 use Rattle.lq_ring.proofs.Seats.{seat_on}
-use Rattle.lq_run.specs.Tries.{TriesOnce}
+use Rattle.lq_run.proofs.StepsThen.{makes_then}
 use Rattle.lq_table.specs.Rule.{shown, units_of}
-use Rattle.lq_table.specs.Sees.{view, known, IsAccounts, IsSole, solo}
+use Rattle.lq_table.specs.Sees.{view, IsAccounts, IsSole, solo}
 use Rattle.lq_table.specs.Moves.{IsKnownSlot}
 use Rattle.lq_table.specs.Locks.{look_lock_view, try_lock_view, try_lock_view_in_control, locked_to}
-use Rattle.lq_table.specs.Views.{View, HolderPart, Known}
-use Rattle.lq_control.specs.Steps.{not_tried, held}
+use Rattle.lq_table.specs.Step.{MoveStation}
+use Rattle.lq_table.specs.Views.{View, HolderPart}
+use Rattle.lq_control.specs.Steps.{Taken}
 use Rattle.lq_control.proofs.FinishSteps.{control_at}
 use Rattle.lq_control.proofs.Keeps.{seat_then}
-use Rattle.lq_control.proofs.StepLemmas.{both}
+use Rattle.lq_control.proofs.StepLemmas.{look_again, no_look}
 use Rattle.lq_control.proofs.waits.take_lock.Goals as goal
 
 -- what the slot holds
@@ -24,7 +25,7 @@ got_control : (d : HolderPart) (v w x : View) → w ≡ v → v.place.position �
 got_control d v w x same at e = e ∙ (ap (try_lock_view d) same ∙ ap (λ (p : Position). try_lock_view d (record v { place = record v.place { position = p } })) at)
 
 pub loop-init : goal.loop-init
-loop-init g c = record { can = (search rules); ends = (search rules); seat = c.requires.seat; still = ((refl, refl), refl, refl, refl); same = refl; tries = not_tried }
+loop-init g c = record { can = (search rules); ends = (search rules); seat = c.requires.seat; still = ((refl, refl), refl, refl, refl); same = refl; makes = no_look }
 
 pub loop-preserved : goal.loop-preserved
 loop-preserved g c =
@@ -35,7 +36,7 @@ loop-preserved g c =
       seat = seat_on c.args.shared.now b w i.seat t.seat.0 (ap (λ (x : View). x.share) (same ∙ sym i.same));
       still = (seat_then a b w i.still.0 t.seat.0, t.seat.1 ∙ i.still.1, t.seat.2 ∙ i.still.2, h.1 ∙ i.still.3);
       same = same;
-      tries = held (known b) (known w) i.tries (subst (λ got. TriesOnce got (known b) (known w)) c.if-try_run_lock.false t.tries);
+      makes = look_again i.makes c.if-try_run_lock.ensures.makes;
     }
 
 pub returns-then-try_run_lock : goal.returns-then-try_run_lock
@@ -52,12 +53,6 @@ returns-then-try_run_lock g c =
         m.moved.1 ∙ ap (λ (s : Option StationState). (0, s) ∷ []) (t.seat.1 ∙ (i.still.1 ∙ c.requires.empty.1)),
         sym (ap station_in m.moved.0) ∙ (ap station_in h.2 ∙ ap (λ (y : View). Some (shown y.holder)) (sym e)),
       );
-      takes = record {
-        last = known b;
-        tries = i.tries;
-        gets = subst (λ (k : Known). TriesOnce true (known b) k) (sym (both (known x) (known w) m.seat.1 m.made)) (subst (λ got. TriesOnce got (known b) (known w)) yes_ t.tries);
-        units = units;
-        accounts = accounts;
-      };
+      makes = let w = look_again i.makes c.if-try_run_lock.ensures.makes in (w.0 ++ MoveStation ∷ [], Taken w.1, makes_then w.2 m.makes);
       sole = λ sole. (ap solo m.seat.1 ∙ ((t.sole (subst IsSole (sym i.same) sole)).0 ∙ ap (λ (y : View). locked_to true (solo y)) i.same), accounts sole);
     }

@@ -1,6 +1,7 @@
-use Rattle.std.proofs.Common.{◌≡◌}
-use Rattle.lq_table.specs.Sees.{view, known, IsSeatOf, IsElseSame}
-use Rattle.lq_control.specs.Steps.{TriesLock}
+use Rattle.std.proofs.Common.{◌≡◌, false}
+use Rattle.lq_table.specs.Sees.{view, IsSeatOf, IsElseSame}
+use Rattle.lq_run.specs.Steps.{MakesStepsOf, TryRunLock}
+use Rattle.lq_control.specs.Steps.{Wait}
 use Rattle.lq_control.proofs.waits.take_lock.Given as goal
 
 abbrev pub invariant-loop : goal.invariant-loop
@@ -10,5 +11,5 @@ invariant-loop g l = record {
   seat : IsSeatOf l.shared l.cpu;
   still : IsElseSame l.fn.cpu l.cpu;
   same : view l.cpu ≡ view l.fn.cpu;
-  tries : TriesLock (known l.fn.cpu) (known l.cpu);
+  makes : MakesStepsOf (Wait TryRunLock false) l.fn.cpu l.cpu;
 }

@@ -1,9 +1,10 @@
-use Rattle.std.proofs.Common.{◌≡◌}
+use Rattle.std.proofs.Common.{◌≡◌, false}
 use Rattle.lq_model.specs.declared.machine.Phase.{Phase}
 use Rattle.lq_model.specs.declared.machine.Phase.TheVariants.{Closing}
-use Rattle.lq_table.specs.Sees.{view, known, IsSeatOf, IsElseSame}
+use Rattle.lq_table.specs.Sees.{view, IsSeatOf, IsElseSame}
 use Rattle.lq_control.specs.Control.{phased}
-use Rattle.lq_control.specs.Steps.{FindsCalls}
+use Rattle.lq_run.specs.Steps.{MakesStepsOf}
+use Rattle.lq_control.specs.Steps.{LookInside, Wait}
 use Rattle.lq_control.proofs.waits.wait_for_calls.Given as goal
 
 abbrev pub invariant-loop : goal.invariant-loop
@@ -13,5 +14,5 @@ invariant-loop g l = record {
   seat : IsSeatOf l.shared l.cpu;
   still : IsElseSame l.fn.cpu l.cpu;
   phased : (p : Phase) × (view l.cpu ≡ phased Closing p (view l.fn.cpu));
-  calls : FindsCalls (known l.fn.cpu) (known l.cpu);
+  makes : MakesStepsOf (Wait LookInside false) l.fn.cpu l.cpu;
 }

@@ -1,20 +1,15 @@
-use Rattle.std.proofs.Common.{rules, ◌≡◌, Bool, true, ℕ, List, [], ◌∷◌, ◌++◌, take, sym, ap, ◌∙◌, subst, arith, Some}
+use Rattle.std.proofs.Common.{rules, ◌≡◌, Bool, true, ℕ, List, [], ◌∷◌, ◌++◌, sym, ap, ◌∙◌, subst, arith, Some}
 use Rattle.lq_model.specs.Positions.{holds_lock}
-use Rattle.lq_model.specs.Band.{held_of}
 use Rattle.lq_model.specs.Machine.{Purge}
 use Rattle.lq_band_laws.specs.Three.{at}
-use Rattle.lq_band_laws.specs.Ring.{Ends, IsAtRest, after_take}
+use Rattle.lq_band_laws.specs.Ring.{Ends, IsAtRest}
 use Rattle.lq_table.specs.Views.{View, Left}
 use Rattle.lq_table.specs.Rule.{shown, IsResting}
-use Rattle.lq_table.specs.Sees.{view, setup, steps}
-use Rattle.lq_table.specs.Made.{Made, ◌⊳◌}
-use Rattle.lq_table.specs.Producers.{load_size_log, load_slot_log}
-use Rattle.lq_model.specs.declared.fate.Fate.TheVariants as fate
-use Rattle.lq_ring.specs.Changes.{PurgesEach, none_yet, one_more, purging_steps}
+use Rattle.lq_table.specs.Sees.{view}
 use Rattle.lq_ring.specs.Purged.{purged_by, IsPurgedTo}
 use Rattle.lq_ring.proofs.Seats.{seat_on}
 use Rattle.lq_ring.proofs.TakeSteps.{sized_none, rest_at, rest_put}
-use Rattle.lq_ring.proofs.PurgeSteps.{few_left, none_purged, next_purged, all_purged, still_held, taken_next_of, taken_all, ends_after}
+use Rattle.lq_ring.proofs.PurgeSteps.{few_left, none_purged, next_purged, all_purged, still_held}
 use Rattle.lq_band_laws.proofs.Three.{at_put_same}
 use Rattle.lq_table.specs.Step.{LoadSize, MakesSteps, PurgeSlot, Standing, Step, standing}
 use Rattle.lq_ring.specs.StepLists.{EmptiesBand, NoneYet, OneMore, PurgeOne}
@@ -31,9 +26,6 @@ loop-n-init g c =
       station = s.1 ∙ (c.requires.may.station ∙ ap (λ (x : View). Some (shown x.holder)) (sym loaded));
       each = ([], NoneYet, c.load_size-size.ensures.makes);
       purged = λ f left. subst (λ (x : View). IsPurgedTo c.args.band 0 f v x) (sym loaded) (none_purged c.args.band f v c.requires.may.below left (rest_at _ c.args.band _ c.requires.may.rests.0));
-      made = λ f left. let size = c.load_size-size.ensures.holder (ap holds_lock c.requires.may.at.2) in let start : Ends = at c.args.band v.holder.ends in
-          subst (λ (z : Ends × List Made). PurgesEach (setup c.args.shared.now) c.args.band (fate.Purged c.args.cause) v.holder.size start (steps c.args.cpu.now ⊳ load_size_log v.holder.size) [] z.0 z.1)
-          (λ j. (ap (λ (x : View). at c.args.band x.holder.ends) (sym loaded) j, sym (c.load_size-size.ensures.made ∙ ap (λ (z : ℕ). steps c.args.cpu.now ⊳ load_size_log z) size) j)) none_yet;
     }
 
 pub purge_one-requires-clause-may : goal.purge_one-requires-clause-may
@@ -72,15 +64,6 @@ loop-n-preserved g c =
       station = c.purge_one.ensures.stands.1;
       each = (i.each.0 ++ m.0, OneMore i.each.1 (subst (λ (x : Standing). PurgeOne b z c.args.cause x true m.0) (stands_after i.each.2) one), makes_then i.each.2 m.2);
       purged = next;
-      made = λ l left.
-          let p = i.purged l left in let t = taken l left in let held : List ℕ = held_of (at b l.bands) in let k_is = setup c.args.shared.now in
-          let about : w.share.about ≡ k_is = ap (λ (x : View). x.share.about) p.is ∙ c.requires.seat.2 in
-          let made_ = m.2.made ∙ (t.3 ∙ (λ j. purging_steps (about j) b (fate.Purged c.args.cause) (length j) (at b w.holder.ends) t.0 (steps c.loop-n.cpu))) in
-          let size : w.holder.size ≡ v.holder.size = ap (λ (x : View). x.holder.size) p.is in
-          let then = ends_after b t.0 (purged_by b k l) w (view c.purge_one.new.cpu) (m.2.knows ∙ t.2) in
-          subst (λ (x : List ℕ × Ends × List Made). PurgesEach k_is b (fate.Purged c.args.cause) v.holder.size (at b v.holder.ends) (steps c.args.cpu.now ⊳ load_size_log v.holder.size) x.0 x.1 x.2)
-          (λ j. (taken_next_of b k t.0 l t.1 j, ((λ m. after_take (sym size m) (at b w.holder.ends)) ∙ sym then) j, sym made_ j))
-          (one_more (take k held) (at b w.holder.ends) t.0 (steps c.loop-n.cpu) (i.made l left));
     }
 
 pub unreachable-requires : goal.unreachable-requires
@@ -105,17 +88,4 @@ returns-then-not-purge_one g c =
       few = search rules;
       station = search rules;
       knows = knows;
-      purges = record {
-        purged = knows;
-        made = λ l left.
-            let p = i.purged l left in let come = c.requires.may.at in let t = passed come.0 l come.3 left in
-            let about : (view c.loop-n.cpu).share.about ≡ setup c.args.shared.now = ap (λ (x : View). x.share.about) p.is ∙ c.requires.seat.2 in
-            let old = view c.args.cpu.now in let ends = at b (view c.loop-n.cpu).holder.ends in (
-              steps c.loop-n.cpu,
-              ends,
-              subst (λ (ns : List ℕ). PurgesEach (setup c.args.shared.now) b (fate.Purged c.args.cause) old.holder.size (at b old.holder.ends) (steps c.args.cpu.now ⊳ load_size_log old.holder.size) ns ends (steps c.loop-n.cpu))
-                  (taken_all b k l t.0) (i.made l left),
-              m.2.made ∙ (t.2 ∙ (λ j. steps c.loop-n.cpu ⊳ load_slot_log (about j) b ends.head 0)),
-            );
-      };
     }

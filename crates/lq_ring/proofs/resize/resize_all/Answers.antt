@@ -1,17 +1,15 @@
-use Rattle.std.proofs.Common.{◌≡◌, [], ◌∷◌, ◌++◌, ap, ◌∙◌, sym, subst, List, Some}
+use Rattle.std.proofs.Common.{◌≡◌, [], ◌∷◌, ◌++◌, ap, ◌∙◌, sym, subst, Some}
 use Rattle.std.specs.Prelude.{option_map}
 use Rattle.lq_device.specs.Station.{StationState, with_ends}
 use Rattle.lq_ring.specs.Put.{no_locks}
 use Rattle.lq_table.specs.Rule.{shown}
 use Rattle.lq_table.specs.Views.{Setup, View}
-use Rattle.lq_table.specs.Producers.{load_size_view, give_producer_log, load_size_log}
-use Rattle.lq_table.specs.Sees.{view, setup, steps}
+use Rattle.lq_table.specs.Producers.{load_size_view}
+use Rattle.lq_table.specs.Sees.{view, setup}
 use Rattle.lq_table.specs.Step.{LoadSize, SetEnds, standing}
-use Rattle.lq_table.specs.Made.{Made, ◌⊳◌}
-use Rattle.lq_ring.specs.Changes.{LocksAll, TurnsBand}
 use Rattle.lq_ring.specs.Resized.{HoldOwnPackets, IsKnownHeld, all_lost, having_resized, locked_three}
 use Rattle.lq_ring.specs.StepLists.{ResizesThree, unlock_steps}
-use Rattle.lq_ring.proofs.ListLogs.{all_log, all_told, lock_all_log}
+use Rattle.lq_ring.proofs.ListLogs.{all_told}
 use Rattle.lq_ring.proofs.StepsThen.{makes_then}
 use Rattle.lq_ring.proofs.resize.resize_all.Goals as goal
 
@@ -26,7 +24,8 @@ returns g c =
     ∙ (ap (λ (x : View). record x { locks = no_locks }) m.2.1
     ∙ (ap (λ (x : View). record (having_resized len event lost x) { locks = no_locks }) loaded
     ∙ (λ j. record (having_resized len event lost v) { locks = sym c.requires.may.idle j })))) in
-    let about : (view c.load_size-size.new.cpu).share.about ≡ setup c.args.shared.now = ap (λ (x : View). x.share.about) loaded ∙ c.requires.seat.2 in record {
+    let about : (view c.load_size-size.new.cpu).share.about ≡ setup c.args.shared.now = ap (λ (x : View). x.share.about) loaded ∙ c.requires.seat.2 in
+    let told = all_told len event held _ _ _ m.1.0 m.1.1 (standing c.load_size-size.new.cpu) m.1.2.told in record {
       held = held;
       makes = (l.makes.0 ++ LoadSize z ∷ m.1.0 ++ unlock_steps u.0 t.low.index t.mid.index t.high.index ++ SetEnds 0 0 0 ∷ SetEnds 1 0 0 ∷ SetEnds 2 0 0 ∷ [], ResizesThree z u.0 l.makes.1 m.1.1, all);
       same = (all.seat, r.has ∙ (u.1.has ∙ (m.2.0.3 ∙ (size.makes.has ∙ l.stands.5))));
@@ -36,32 +35,6 @@ returns g c =
           ∙ ap (λ (x : View). Some (shown x.holder)) (sym is);
       knows = is;
       counted = m.3;
-      resizes =
-          let k = setup c.args.shared.now in let told = all_told len event held _ _ _ m.1.0 m.1.1 (standing c.load_size-size.new.cpu) m.1.2.told in
-          let logs = all_log k len event held _ _ _ m.1.0 m.1.1 (standing c.load_size-size.new.cpu) about in record {
-            held = held;
-            packets = subst (λ (x : Setup). HoldOwnPackets x.infos held) about told.0;
-            is_known = subst (λ (x : View). IsKnownHeld x held) loaded told.1;
-            is = is;
-            counted = m.3;
-            made = record {
-              locked = steps c.lock_all.new.cpu;
-              locks = subst (LocksAll (steps old)) (sym l.makes.2.made) (lock_all_log l.makes.0 l.makes.1 (standing old));
-              size = z;
-              begun = logs.0;
-              low = t.low.index;
-              mid = t.mid.index;
-              high = t.high.index;
-              one = logs.1;
-              two = logs.2;
-              three = logs.3;
-              first = subst (λ (xs : List Made). TurnsBand k 0 t.low.index (xs ⊳ load_size_log logs.0) logs.1) size.made logs.4;
-              second = logs.5;
-              third = logs.6;
-              stored = u.0;
-              ends = r.made
-                  ∙ (u.1.made
-                  ∙ ap (λ (xs : List Made). xs ⊳ load_size_log u.0 ⊳ give_producer_log 0 t.low.index ⊳ give_producer_log 1 t.mid.index ⊳ give_producer_log 2 t.high.index) (m.1.2.made ∙ logs.7));
-            };
-          };
+      packets = subst (λ (x : Setup). HoldOwnPackets x.infos held) about told.0;
+      is_known = subst (λ (x : View). IsKnownHeld x held) loaded told.1;
     }
