@@ -13,8 +13,7 @@ use Rattle.lq_model.specs.declared.fate.Cause.TheVariants as cause
 use Rattle.lq_model.specs.declared.fate.Fate.{Fate}
 use Rattle.lq_model.specs.declared.fate.Fate.TheVariants as fate
 use Rattle.lq_band_laws.specs.Three.{Three, at}
-use Rattle.lq_run.specs.Steps.{Got, Held, Lost, TryRunLock}
-use Rattle.lq_run.specs.Tries.{EndsRun, scheduled_where}
+use Rattle.lq_run.specs.Steps.{End, Got, Held, Lost, NoneMissed, Schedules, TryRunLock}
 use Rattle.lq_ring.specs.Fates.{fates_onto}
 use Rattle.lq_ring.specs.Resized.{all_lost}
 use Rattle.lq_device.specs.Station.{with_device}
@@ -22,10 +21,10 @@ use Rattle.lq_table.specs.Controls.{GoesAway, open_xoff_view}
 use Rattle.lq_table.specs.Purges.{reset_missed_view, first_purge}
 use Rattle.lq_table.specs.Rule.{HasServed, account, latest_unit, units_of, shown}
 use Rattle.lq_table.specs.Sees.{IsAccounts, IsSole, account_of}
-use Rattle.lq_table.specs.Moves.{and_settled, is_set}
+use Rattle.lq_table.specs.Moves.{and_settled}
 use Rattle.lq_table.specs.Locks.{look_lock_view, try_lock_view, try_lock_view_in_call, try_lock_view_in_control, unlock_view, unlock_view_in_call, unlock_view_in_control}
 use Rattle.lq_table.specs.Step.{BeginControl, BeginPurge, MoveStation, OpenXoff, SetDeactivated, SetStation, Standing, Step, SwapDevice, Unlock, step_leaves, steps_leave, steps_tell}
-use Rattle.lq_table.specs.States.{load_state_view}
+use Rattle.lq_table.specs.States.{load_state_view, set_sched_view}
 use Rattle.lq_table.specs.Fates.{settle_view_owed}
 use Rattle.lq_table.specs.Views.{FirstPart, HolderPart, Left, PacketPart, Setup, SharePart, View, no_packets, Known}
 use Rattle.lq_qdisc.specs.Calls.{KeepsFates}
@@ -288,15 +287,18 @@ downs_clear k event count old new (clear, found, (free, d, (last, rounds, f)), e
 
 -- a length is changed
 
-sched_calm : (b was : Bool) (v : View) → IsCalmly v (scheduled_where b was v)
-sched_calm true was v = record { share = refl; packets = refl; turns = refl; first = refl; origin = refl; gone = refl; told = refl; state = refl; settled = refl; trail = refl }
-sched_calm false was v = calm_same v
+end_calm : {xs : List Step} → End xs → (s : Standing) → IsCalmly s.view (steps_leave xs s).view
+end_calm (NoneMissed {state} clear) s =
+    let u : View = unlock_view s.view in
+    let look : IsCalmly u (load_state_view state u) = record { share = refl; packets = refl; turns = refl; first = refl; origin = refl; gone = refl; told = refl; state = refl; settled = refl; trail = refl } in
+    calm_then s.view u _ (released_calm s.view u refl) look
+end_calm (Schedules {state} {was} is) s =
+    let u : View = unlock_view s.view in let l : View = load_state_view state u in
+    let look : IsCalmly u (set_sched_view was l) = record { share = refl; packets = refl; turns = refl; first = refl; origin = refl; gone = refl; told = refl; state = refl; settled = refl; trail = refl } in
+    calm_then s.view u _ (released_calm s.view u refl) look
 
-ends_calm : (old new : Known) → EndsRun old new → IsCalmly old.view new.view
-ends_calm old new (state, was, view, steps) =
-    let u : View = unlock_view old.view in let l : View = load_state_view state u in
-    let look : IsCalmly u l = record { share = refl; packets = refl; turns = refl; first = refl; origin = refl; gone = refl; told = refl; state = refl; settled = refl; trail = refl } in
-    calm_by old.view _ new.view (calm_then old.view u _ (released_calm old.view u refl) (calm_then u l _ look (sched_calm (is_set 4 state) was l))) view
+ends_calm : (old new : Known) → LeadsBy (λ s. End) old new → IsCalmly old.view new.view
+ends_calm old new = of_calm old new (λ xs x s. end_calm x s)
 
 pub resizes_shrinks : (k : Setup) (event len count : ℕ) (old new : Known) → ResizesLive k event len count old new → Shrinks len event count old.view new.view
 resizes_shrinks k event len count old new (found, taken_at, resized, takes, r, ends) =

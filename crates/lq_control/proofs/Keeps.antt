@@ -11,7 +11,7 @@ use Rattle.lq_table.specs.Locks.{try_lock_view_in_control}
 use Rattle.lq_table.specs.Views.{View, FirstPart, HolderPart}
 use Rattle.lq_table.specs.declared.shared.Cpu.{Cpu}
 use Rattle.lq_ring.specs.Resized.{having_resized}
-use Rattle.lq_run.specs.Runs.{IsElseKept}
+use Rattle.lq_run.proofs.Keeps.{IsElseKept}
 use Rattle.lq_control.specs.Control.{IsKeptByControl, IsPurged, IsServed, KeepsDevice, phased, with_lock_free}
 use Rattle.lq_control.specs.Seats.{IsReadyAt}
 use Rattle.lq_control.proofs.FinishSteps.{ready_kept}

@@ -1,9 +1,11 @@
 -- What the steps on the run lock and a put into a band come to, of what a seat knows.
 use Rattle.std.specs.Prelude.{◌≡◌, ℕ, ◌+◌, true, false}
 use Rattle.lq_model.specs.Account.{Join, Full}
-use Rattle.lq_run.specs.Runs.{after_got, after_missed, after_begin, ended}
+use Rattle.lq_run.specs.Runs.{after_got, after_missed, ended}
 use Rattle.lq_ring.specs.Put.{putting, dropping_full as dropped}
 use Rattle.lq_table.specs.Views.{View}
+use Rattle.lq_table.specs.Locks.{locked_to}
+use Rattle.lq_table.specs.States.{missed_to}
 use Rattle.lq_table.specs.Fates.{settle_view_owed}
 use Rattle.lq_table.specs.Producers.{SeesEnd}
 use Rattle.lq_table.specs.Sees.{IsSole, IsAccounts, solo, heard}
@@ -20,13 +22,13 @@ pub record IsCalm (old new : View) : Type 0 where
 pub record GetsLock (old new : View) : Type 0 where
   pub calm : IsCalm old new
   pub place : new.place.position ≡ after_got new old.place.position
-  pub sole : IsSole old → (old.whole.qdisc.locked ≡ false) × (solo new ≡ after_begin true (solo old)) × IsAccounts new
+  pub sole : IsSole old → (old.whole.qdisc.locked ≡ false) × (solo new ≡ locked_to true (solo old)) × IsAccounts new
 
 -- it wasn't: it was found held, and MISSED is set by this call or was before
 pub record Misses (old new : View) : Type 0 where
   pub calm : IsCalm old new
   pub place : new.place.position ≡ after_missed old.place.position
-  pub sole : IsSole old → (old.whole.qdisc.locked ≡ true) × (solo new ≡ after_begin false (solo old))
+  pub sole : IsSole old → (old.whole.qdisc.locked ≡ true) × (solo new ≡ locked_to true (missed_to true (solo old)))
 
 -- the run lock was released
 pub record IsLockReleased (old new : View) : Type 0 where

@@ -3,7 +3,7 @@ use Rattle.std.proofs.Common.{◌≡◌, List, [], ◌∷◌, ◌++◌, refl, sy
 use Rattle.lq_table.specs.Step.{MakesSteps, Standing, Step, standing, step_leaves, steps_leave, steps_tell}
 use Rattle.lq_table.specs.declared.shared.Cpu.{Cpu}
 
-leave_then : (xs ys : List Step) (s : Standing) → steps_leave (xs ++ ys) s ≡ steps_leave ys (steps_leave xs s)
+pub leave_then : (xs ys : List Step) (s : Standing) → steps_leave (xs ++ ys) s ≡ steps_leave ys (steps_leave xs s)
 leave_then [] ys s = refl
 leave_then (x ∷ xs) ys s = leave_then xs ys (step_leaves x s)
 
@@ -12,7 +12,7 @@ tell_then [] ys s f g = g
 tell_then (x ∷ xs) ys s f g = (f.0, tell_then xs ys (step_leaves x s) f.1 g)
 
 module _ {D : Type 0} where
-  stands_after : (xs : List Step) (b a : Cpu D) → MakesSteps xs b a → standing a ≡ steps_leave xs (standing b)
+  pub stands_after : (xs : List Step) (b a : Cpu D) → MakesSteps xs b a → standing a ≡ steps_leave xs (standing b)
   stands_after xs b a m = λ j. record { view = m.knows j; slot = m.has j; station = m.carries j; indices = m.places j; steps = m.made j }
 
   pub makes_then : {xs ys : List Step} {b m a : Cpu D} → MakesSteps xs b m → MakesSteps ys m a → MakesSteps (xs ++ ys) b a

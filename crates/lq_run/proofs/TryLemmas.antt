@@ -1,6 +1,5 @@
 -- What the steps of a try of the run lock leave as it was.
-use Rattle.std.proofs.Common.{◌≡◌, ℕ, ◌<◌, Bool, true, false, if◌then◌else◌, List, [], ◌∷◌, get_or, Option, None, Some, refl, sym, ap, ◌∙◌, subst}
-use Rattle.lq_device.specs.Station.{StationState}
+use Rattle.std.proofs.Common.{◌≡◌, ℕ, Bool, true, false, if◌then◌else◌, refl, sym, ap, ◌∙◌}
 use Rattle.lq_model.specs.Machine.{Qdisc}
 use Rattle.lq_model.specs.Steps.{lock_got, miss, step_at}
 use Rattle.lq_model.specs.Control.{is_control}
@@ -10,14 +9,11 @@ use Rattle.lq_model.specs.declared.machine.Attempt.TheVariants.{Direct, Interrup
 use Rattle.lq_model.specs.declared.machine.Position.{Position}
 use Rattle.lq_model.specs.declared.machine.Position.TheVariants.{Miss, Try1, Try2}
 use Rattle.lq_model.specs.declared.machine.Seat.{Seat}
-use Rattle.lq_table.specs.Views.{HolderPart, Setup, SharePart, View}
-use Rattle.lq_table.specs.Rule.{shown, IsResting}
-use Rattle.lq_table.specs.Locks.{GetsRunLock, look_lock_view, try_lock_view, try_lock_view_in_control, seen_lock}
-use Rattle.lq_table.specs.Moves.{IsKnownSlot, seen_by}
+use Rattle.lq_table.specs.Views.{HolderPart, View}
+use Rattle.lq_table.specs.Locks.{look_lock_view, try_lock_view, try_lock_view_in_control, seen_lock}
+use Rattle.lq_table.specs.Moves.{seen_by}
 use Rattle.lq_table.specs.States.{miss_view}
-use Rattle.lq_table.specs.Sees.{view, position, slot, IsSameSeat, IsSole}
-use Rattle.lq_table.specs.declared.shared.Cpu.{Cpu}
-use Rattle.lq_run.specs.Runs.{BeginsAsHolder, HasNone, IsElseKept, IsEventless, IsRaisedAsBefore, after_got, run_got}
+use Rattle.lq_run.specs.Runs.{after_got, run_got}
 
 -- only the place without its raised mark changes, what it has as holder, and the machine
 abbrev pub Touches : View → View → Type 0
@@ -32,9 +28,6 @@ touches_then u v w x y = (
   y.4 ∙ ap (λ (z : View). record z { place = y.0; holder = y.1; whole = record z.whole { qdisc = y.2 } }) x.4,
 )
 
-pub sole_touched : (v w : View) → Touches v w → IsSole v → IsSole w
-sole_touched v w x s = (ap (λ (z : View). z.share.shares) x.4 ∙ s.0, ap (λ (z : View). z.whole.told) x.4 ∙ s.1)
-
 raised_got : (a : Attempt) (q : Qdisc) (s : Seat) → (lock_got a q s).seat.raised ≡ s.raised
 raised_got (Direct p) q s = refl
 raised_got (Queued p) q s = refl
@@ -48,11 +41,11 @@ raised_missed a false q s = refl
 abbrev got_to : Position → HolderPart → View → Seat
 got_to p d v = (step_at p Plain (seen_lock (seen_by (record v { holder = d })) false) v.place).seat
 
-abbrev locked_to : Position → View → Seat
-locked_to p v = (step_at p Plain (seen_lock (seen_by v) true) v.place).seat
+abbrev pub place_locked : Position → View → Seat
+place_locked p v = (step_at p Plain (seen_lock (seen_by v) true) v.place).seat
 
-abbrev missed_to : Position → Bool → View → Seat
-missed_to p was v = (step_at p Plain (record (seen_by v) { missed = was }) v.place).seat
+abbrev pub place_missed : Position → Bool → View → Seat
+place_missed p was v = (step_at p Plain (record (seen_by v) { missed = was }) v.place).seat
 
 abbrev moved_to : Position → Seat → HolderPart → View → View
 moved_to p place d v = record v { place = place; holder = d; whole = record v.whole { qdisc = (step_at p Plain v.whole.qdisc v.place).qdisc } }
@@ -69,20 +62,20 @@ second_got a d v w at is = (got_to (Try2 a) d v, d, (step_at (Try2 a) Plain v.wh
 -- the lock was found held: next MISSED is set, or the try is given up
 pub first_locked : (a : Attempt) (v w : View) → v.place.position ≡ Try1 a → w ≡ look_lock_view v → Touches v w × (w.place.position ≡ Miss a)
 first_locked a v w at is =
-    let e = is ∙ ap (λ (p : Position). moved_to p (locked_to p v) v.holder v) at in
-    ((locked_to (Try1 a) v, v.holder, (step_at (Try1 a) Plain v.whole.qdisc v.place).qdisc, refl, e), ap (λ (z : View). z.place.position) e)
+    let e = is ∙ ap (λ (p : Position). moved_to p (place_locked p v) v.holder v) at in
+    ((place_locked (Try1 a) v, v.holder, (step_at (Try1 a) Plain v.whole.qdisc v.place).qdisc, refl, e), ap (λ (z : View). z.place.position) e)
 
 pub second_locked : (a : Attempt) (v w : View) → v.place.position ≡ Try2 a → w ≡ look_lock_view v → Touches v w
 second_locked a v w at is =
-    (locked_to (Try2 a) v, v.holder, (step_at (Try2 a) Plain v.whole.qdisc v.place).qdisc, refl, is ∙ ap (λ (p : Position). moved_to p (locked_to p v) v.holder v) at)
+    (place_locked (Try2 a) v, v.holder, (step_at (Try2 a) Plain v.whole.qdisc v.place).qdisc, refl, is ∙ ap (λ (p : Position). moved_to p (place_locked p v) v.holder v) at)
 
 pub missed_touches : (a : Attempt) (was : Bool) (v w : View) → v.place.position ≡ Miss a → w ≡ miss_view was v → Touches v w
 missed_touches a was v w at is =
-    (missed_to (Miss a) was v, v.holder, (step_at (Miss a) Plain v.whole.qdisc v.place).qdisc, raised_missed a was (seen_by v) v.place, is ∙ ap (λ (p : Position). moved_to p (missed_to p was v) v.holder v) at)
+    (place_missed (Miss a) was v, v.holder, (step_at (Miss a) Plain v.whole.qdisc v.place).qdisc, raised_missed a was (seen_by v) v.place, is ∙ ap (λ (p : Position). moved_to p (place_missed p was v) v.holder v) at)
 
 -- where MISSED was clear the lock is tried once more
 pub missed_leads : (a : Attempt) (v w : View) → v.place.position ≡ Miss a → w ≡ miss_view false v → w.place.position ≡ Try2 a
-missed_leads a v w at is = ap (λ (z : View). z.place.position) is ∙ ap (λ (p : Position). (missed_to p false v).position) at
+missed_leads a v w at is = ap (λ (z : View). z.place.position) is ∙ ap (λ (p : Position). (place_missed p false v).position) at
 
 -- where a step that gets the lock leads
 leads : (a : Attempt) (d : HolderPart) (v : View) (q : Qdisc) → let w : View = record v { place = got_to (Try1 a) d v; holder = d; whole = record v.whole { qdisc = q } } in (w.place.position ≡ after_got w (Try1 a)) × (w.place.run ≡ run_got v.place.run (Try1 a))
@@ -104,40 +97,5 @@ first_leads a d v w at is = leads_from a d v w (step_at (Try1 a) Plain v.whole.q
 pub second_leads : (a : Attempt) (d : HolderPart) (u m v w : View) → u.place.position ≡ Try1 a → m ≡ look_lock_view u → v ≡ miss_view false m → w ≡ try_lock_view d v → LeadsGot a u.place.run d w
 second_leads a d u m v w at locked missed is =
     let miss_ = first_locked a u m at locked in let l = leads_from a d v w (step_at (Try2 a) Plain v.whole.qdisc v.place).qdisc (is ∙ ap (got_at d v) (missed_leads a m v miss_.1 missed)) in
-    let run : v.place.run ≡ u.place.run = ap (λ (z : View). z.place.run) missed ∙ (ap (λ (p : Position). (missed_to p false m).run) miss_.1 ∙ (ap (λ (z : View). z.place.run) locked ∙ ap (λ (p : Position). (locked_to p u).run) at)) in
+    let run : v.place.run ≡ u.place.run = ap (λ (z : View). z.place.run) missed ∙ (ap (λ (p : Position). (place_missed p false m).run) miss_.1 ∙ (ap (λ (z : View). z.place.run) locked ∙ ap (λ (p : Position). (place_locked p u).run) at)) in
     (l.0, l.1 ∙ ap (λ (n : ℕ). run_got n (Try1 a)) run, l.2)
-
-module _ {D : Type 0} where
-  -- b begins, w gets the lock, m has it, and a has the station in the place of what the slot had
-  pub begins_as_holder : (at : Attempt) (b w m a : Cpu D) → position b ≡ Try1 at → HasNone b → slot w ≡ slot b → m.station ≡ b.station → (g : GetsRunLock w m) → view a ≡ view m → (slot m ≡ (0, a.station) ∷ []) × (slot a ≡ (0, m.station) ∷ [])
-      → (view a).share ≡ (view w).share → LeadsGot at (view b).place.run g.0 (view a) → BeginsAsHolder b a
-  begins_as_holder at b w m a here none_ slots stations g same moved share l =
-      let d = g.0 in let holder = l.2 in
-      let lay : (0, a.station) ∷ [] ≡ (0, Some (shown d)) ∷ [] = sym moved.0 ∙ (g.2 ∙ ap (λ (xs : List (ℕ × Option StationState)). (0, Some (shown d)) ∷ xs) (slots ∙ none_.0)) in (
-        l.0 ∙ sym (ap (after_got (view a)) here),
-        (moved.1 ∙ ap (λ (s : Option StationState). (0, s) ∷ []) (stations ∙ none_.1), ap (λ (xs : List (ℕ × Option StationState)). (get_or xs 0 (0, None)).1) lay ∙ ap (λ (h : HolderPart). Some (shown h)) (sym holder)),
-        subst (λ (h : HolderPart). IsResting h.size h.ends × (h.resizing ≡ None)) (sym holder) (g.3, g.6),
-        subst (λ (h : HolderPart). 0 < h.size) (sym holder) g.4,
-        ap (λ (h : HolderPart). h.hand) holder ∙ g.5,
-        ap (λ (h : HolderPart). h.shut) holder ∙ g.7,
-        subst (λ (x : Setup × Option ℕ). IsKnownSlot x.0 x.1) (λ j. (sym (ap (λ (x : SharePart). x.about) share) j, sym (ap (λ (h : HolderPart). h.slot) holder) j)) g.8,
-        l.1 ∙ sym (ap (run_got (view b).place.run) here),
-      )
-
-  pub kept_touched : (b a : Cpu D) → IsSameSeat b a → a.indices ≡ b.indices → Touches (view b) (view a) → IsElseKept b a × IsEventless b a × IsRaisedAsBefore b a
-  kept_touched b a seat indices x = (
-    (
-      seat,
-      ap (λ (z : View). z.share) x.4,
-      ap (λ (z : View). z.packets) x.4,
-      ap (λ (z : View). z.locks) x.4,
-      ap (λ (z : View). z.control) x.4,
-      ap (λ (z : View). z.whole.told) x.4,
-      indices,
-      ap (λ (z : View). z.turns) x.4,
-      ap (λ (z : View). z.settled) x.4,
-      ap (λ (z : View). z.trail) x.4,
-    ),
-    ap (λ (z : View). z.whole.state) x.4,
-    ap (λ (z : View). z.place.raised) x.4 ∙ x.3,
-  )

@@ -1,8 +1,4 @@
--- where a try of the run lock leads
+-- how a seat stands before a call and after it
 pub mod Runs
--- the steps of its calls
-pub mod Tries
--- and as lists of values
+-- the calls as lists of steps
 pub mod Steps
--- what its calls leave of the seat
-pub mod Calls

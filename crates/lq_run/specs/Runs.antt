@@ -1,17 +1,16 @@
--- Where a try of the run lock leads, and what a call leaves as it was.
-use Rattle.std.specs.Prelude.{◌≡◌, ◌<◌, ℕ, Bool, true, false, not, if◌then◌else◌, [], ◌∷◌, Some, None}
+-- How a seat stands before a call of the run lock and after it, and what a seat knows after an end that has the table alone.
+use Rattle.std.specs.Prelude.{◌≡◌, ◌<◌, ℕ, true, false, if◌then◌else◌, [], ◌∷◌, Some, None}
 use Rattle.lq_model.specs.declared.machine.Attempt.TheVariants.{Queued, Direct, Interrupt}
 use Rattle.lq_model.specs.declared.machine.Position.{Position}
 use Rattle.lq_model.specs.declared.machine.Phase.TheVariants.{Active}
-use Rattle.lq_model.specs.declared.machine.Position.TheVariants.{Control, Try1, Recheck, Leave, Put}
+use Rattle.lq_model.specs.declared.machine.Position.TheVariants.{Control, Idle, Try1, Recheck, Leave, Put, Unlock}
 use Rattle.lq_model.specs.Steps.{dequeue_begins}
 use Rattle.lq_table.specs.Views.{View}
 use Rattle.lq_table.specs.Rule.{shown, IsResting}
 use Rattle.lq_table.specs.Moves.{seen_by, IsKnownSlot}
-use Rattle.lq_table.specs.States.{set_sched_view, set_sched_alone, set_sched_log, missed_to}
+use Rattle.lq_table.specs.States.{set_sched_alone}
 use Rattle.lq_table.specs.Locks.{locked_to}
-use Rattle.lq_table.specs.Made.{◌⊳◌}
-use Rattle.lq_table.specs.Sees.{view, position, steps, slot, IsSameSeat, IsElseSame, Solo, IsSole, IsAccounts, solo}
+use Rattle.lq_table.specs.Sees.{view, position, slot, Solo}
 use Rattle.lq_table.specs.declared.shared.Cpu.{Cpu}
 
 -- where a dequeue begins
@@ -32,6 +31,11 @@ after_missed (Try1 (Queued p)) = Leave
 after_missed (Try1 Interrupt) = Leave
 after_missed position = position
 
+-- after a release: a run is at the end of its call, and control in no call
+abbrev pub released_to : Position → Position
+released_to Unlock = Leave
+released_to position = Idle
+
 -- how many packets the run has sent after a try that got the lock: a run begins with none, and a packet that goes past the bands
 -- is counted before that
 abbrev pub run_got : ℕ → Position → ℕ
@@ -39,21 +43,9 @@ run_got run (Try1 (Queued p)) = 0
 run_got run (Try1 Interrupt) = 0
 run_got run position = run
 
--- WHAT A SEAT KNOWS THAT HAS THE TABLE ALONE
-
--- the lock is held after a try, and MISSED set where it was held before
-abbrev pub after_begin : Bool → Solo → Solo
-after_begin got s = locked_to true (if got then s else missed_to true s)
-
--- the answer is whether the lock was free; where it was, what the holder has is the account's
-abbrev pub BeginsAlone : Bool → View → View → Type 0
-BeginsAlone got v w = (got ≡ not v.whole.qdisc.locked) × (solo w ≡ after_begin got (solo v)) × (got ≡ true → IsAccounts w)
-
--- the lock is free after the end of a run, and the table scheduled where MISSED is set
+-- a seat that has the table alone, after the end of a run: the lock is free, and the table scheduled where MISSED is set
 abbrev pub ended : Solo → Solo
 ended s = if s.whole.missed then set_sched_alone s.whole.scheduled (locked_to false s) else locked_to false s
-
--- WHAT A CALL LEAVES
 
 module _ {D : Type 0} where
   -- the seat carries the station as it is due at its next step, and has nothing else of the table's slot
@@ -81,19 +73,8 @@ module _ {D : Type 0} where
   abbrev pub MayReleaseActive : Cpu D → Type 0
   MayReleaseActive c = (position c ≡ Control true) × ((view c).control.phase ≡ Active) × ((view c).control.purge ≡ None) × ((view c).holder.shut ≡ None)
 
-  -- what the run lock's steps leave as it was
-  abbrev pub IsElseKept : Cpu D → Cpu D → Type 0
-  IsElseKept b a = IsSameSeat b a × ((view a).share ≡ (view b).share) × ((view a).packets ≡ (view b).packets) × ((view a).locks ≡ (view b).locks) × ((view a).control ≡ (view b).control) × ((view a).whole.told ≡ (view b).whole.told)
-      × (a.indices ≡ b.indices) × ((view a).turns ≡ (view b).turns) × ((view a).settled ≡ (view b).settled) × ((view a).trail ≡ (view b).trail)
-
-  -- nor did an event come
-  abbrev pub IsEventless : Cpu D → Cpu D → Type 0
-  IsEventless b a = (view a).whole.state ≡ (view b).whole.state
-
-  -- the raised mark is as it was
-  abbrev pub IsRaisedAsBefore : Cpu D → Cpu D → Type 0
-  IsRaisedAsBefore b a = (view a).place.raised ≡ (view b).place.raised
-
-  -- SCHED is set, the seat raised where it was clear, and nothing else changes
-  abbrev pub SetsSched : Cpu D → Cpu D → Type 0
-  SetsSched b a = IsElseSame b a × (was : Bool) × (view a ≡ set_sched_view was (view b)) × (solo (view a) ≡ set_sched_alone was (solo (view b))) × (IsSole (view b) → was ≡ (view b).whole.qdisc.sched) × (steps a ≡ steps b ⊳ set_sched_log was)
+  -- The run lock may be released where the seat stands so. It carries the station, and no take or resize is half done.
+  pub record MayReleaseRunLock (here : Cpu D → Type 0) (c : Cpu D) : Type 0 where
+    pub at : here c
+    pub rests : Rests c
+    pub back : HasStation c

@@ -1,16 +1,19 @@
 //! The run lock is tried and released, and what was missed meanwhile is scheduled.
 #![tactic(auto)]
 
-ghost use Rattle.std.specs.Prelude.{◌≡◌, ◌⊎◌, Bool, true, [], ◌∷◌};
+ghost use Rattle.std.specs.Prelude.{◌≡◌, ◌⊎◌, Bool, true, false, [], ◌∷◌};
 ghost use Rattle.lq_model.specs.declared.machine.Position.TheVariants.{Try1, Unlock as AtUnlock, Leave as AtLeave, Idle as AtIdle};
 ghost use Rattle.lq_model.specs.declared.machine.Attempt.{Attempt};
 ghost use Rattle.lq_table.specs.Sees.{position, IsSeatOf};
 ghost use Rattle.lq_table.specs.Locks.{try_lock_at};
 ghost use Rattle.lq_table.specs.States.{miss_at, set_sched_at, clear_sched_at};
-ghost use Rattle.lq_table.specs.Step.{MakesSteps, SetSched};
-ghost use Rattle.lq_run.specs.Calls.{released_to, BeginsRun, ClearsSched, MayReleaseRunLock, NotesMissed, ReleasesTo, TriesRunLock};
-ghost use Rattle.lq_run.specs.Runs.{HasNone, MayReleaseActive, SetsSched};
+ghost use Rattle.lq_table.specs.Step.{ClearSched, MakesSteps, SetSched};
+ghost use Rattle.lq_run.specs.Runs.{after_missed, released_to, BeginsAsHolder, HasNone, MayReleaseActive, MayReleaseRunLock, StandsWithoutStation};
+ghost use Rattle.lq_run.specs.Steps.{Begin, End, MakesStepsOf, NoteMissed, TryRunLock};
 
+mod laws;
+
+pub use laws::{raised_marks_stay, sole_seats_get_free_locks, sole_seats_schedule_missed};
 use lq_device::TxDevice;
 use lq_model::state::MISSED;
 use lq_table::{Cpu, Shared};
@@ -20,7 +23,7 @@ use lq_table::{Cpu, Shared};
 pub fn try_run_lock<'a, D: TxDevice>(shared: &Shared<'a, D>, cpu: &mut Cpu<D>) -> bool
     requires seat { IsSeatOf shared.now cpu.old }
     requires at { try_lock_at (position cpu.old) ≡ true }
-    ensures { TriesRunLock result cpu.old cpu.new }
+    ensures makes { MakesStepsOf (TryRunLock result) cpu.old cpu.new }
 {
     if shared.look_lock(cpu) {
         return false;
@@ -32,7 +35,7 @@ pub fn try_run_lock<'a, D: TxDevice>(shared: &Shared<'a, D>, cpu: &mut Cpu<D>) -
 fn note_missed<'a, D: TxDevice>(shared: &Shared<'a, D>, cpu: &mut Cpu<D>) -> bool
     requires seat { IsSeatOf shared.now cpu.old }
     requires at { miss_at (position cpu.old) ≡ true }
-    ensures { NotesMissed result cpu.old cpu.new }
+    ensures makes { MakesStepsOf (NoteMissed result) cpu.old cpu.new }
 {
     if shared.look_missed(cpu) {
         return true;
@@ -46,7 +49,9 @@ pub fn begin<'a, D: TxDevice>(shared: &Shared<'a, D>, cpu: &mut Cpu<D>) -> bool
     requires seat { IsSeatOf shared.now cpu.old }
     requires at { (a : Attempt) × (position cpu.old ≡ Try1 a) }
     requires empty { HasNone cpu.old }
-    ensures { BeginsRun result cpu.old cpu.new }
+    ensures makes { MakesStepsOf (Begin result) cpu.old cpu.new }
+    ensures got { result ≡ true → BeginsAsHolder cpu.old cpu.new }
+    ensures missed { result ≡ false → StandsWithoutStation (after_missed (position cpu.old)) cpu.old cpu.new }
 {
     if try_run_lock(shared, cpu) {
         shared.move_station(cpu);
@@ -66,7 +71,8 @@ pub fn begin<'a, D: TxDevice>(shared: &Shared<'a, D>, cpu: &mut Cpu<D>) -> bool
 fn release<'a, D: TxDevice>(shared: &Shared<'a, D>, cpu: &mut Cpu<D>)
     requires seat { IsSeatOf shared.now cpu.old }
     requires may { MayReleaseRunLock (λ c. (position c ≡ AtUnlock) ⊎ MayReleaseActive c) cpu.old }
-    ensures { ReleasesTo (released_to (position cpu.old)) cpu.old cpu.new }
+    ensures makes { MakesStepsOf End cpu.old cpu.new }
+    ensures at { StandsWithoutStation (released_to (position cpu.old)) cpu.old cpu.new }
 {
     shared.move_station(cpu);
     shared.unlock(cpu);
@@ -81,7 +87,8 @@ fn release<'a, D: TxDevice>(shared: &Shared<'a, D>, cpu: &mut Cpu<D>)
 pub fn end<'a, D: TxDevice>(shared: &Shared<'a, D>, cpu: &mut Cpu<D>)
     requires seat { IsSeatOf shared.now cpu.old }
     requires may { MayReleaseRunLock (λ c. position c ≡ AtUnlock) cpu.old }
-    ensures { ReleasesTo AtLeave cpu.old cpu.new }
+    ensures makes { MakesStepsOf End cpu.old cpu.new }
+    ensures at { StandsWithoutStation AtLeave cpu.old cpu.new }
 {
     release(shared, cpu);
 }
@@ -91,7 +98,8 @@ pub fn end<'a, D: TxDevice>(shared: &Shared<'a, D>, cpu: &mut Cpu<D>)
 pub fn end_resize<'a, D: TxDevice>(shared: &Shared<'a, D>, cpu: &mut Cpu<D>)
     requires seat { IsSeatOf shared.now cpu.old }
     requires may { MayReleaseRunLock MayReleaseActive cpu.old }
-    ensures { ReleasesTo AtIdle cpu.old cpu.new }
+    ensures makes { MakesStepsOf End cpu.old cpu.new }
+    ensures at { StandsWithoutStation AtIdle cpu.old cpu.new }
 {
     release(shared, cpu);
 }
@@ -100,7 +108,6 @@ pub fn end_resize<'a, D: TxDevice>(shared: &Shared<'a, D>, cpu: &mut Cpu<D>)
 pub fn schedule<'a, D: TxDevice>(shared: &Shared<'a, D>, cpu: &mut Cpu<D>)
     requires seat { IsSeatOf shared.now cpu.old }
     requires at { set_sched_at (position cpu.old) ≡ true }
-    ensures sets { SetsSched cpu.old cpu.new }
     ensures makes { (was : Bool) × MakesSteps (SetSched was ∷ []) cpu.old cpu.new }
 {
     shared.set_sched(cpu);
@@ -110,7 +117,7 @@ pub fn schedule<'a, D: TxDevice>(shared: &Shared<'a, D>, cpu: &mut Cpu<D>)
 pub fn unschedule<'a, D: TxDevice>(shared: &Shared<'a, D>, cpu: &mut Cpu<D>)
     requires seat { IsSeatOf shared.now cpu.old }
     requires at { clear_sched_at (position cpu.old) ≡ true }
-    ensures { ClearsSched cpu.old cpu.new }
+    ensures makes { MakesSteps (ClearSched ∷ []) cpu.old cpu.new }
 {
     shared.clear_sched(cpu);
 }

@@ -15,6 +15,7 @@ use Rattle.lq_table.specs.Step.{BeginHungPurge}
 use Rattle.lq_control.proofs.StepLemmas.{both, steps_of}
 use Rattle.lq_ring.proofs.Seats.{seat_on}
 use Rattle.lq_ring.specs.Fates.{fates_onto}
+use Rattle.lq_run.proofs.Ends.{kept_ended, sole_ended}
 use Rattle.lq_table.specs.Locks.{try_lock_view_in_control, locked_to}
 use Rattle.lq_control.specs.Control.{IsPurgeDone, IsPurged, all_purged}
 use Rattle.lq_control.specs.Ending.{purged_as_hung}
@@ -158,10 +159,10 @@ module _ (g : given.Over) (c : goal.After-end_resize g) where
 
   whole : IsRunPurged (by g begun_at) (v0 g begun_at) (v2 g begun_at) (view c.end_resize.new.cpu)
   whole =
-      let kept = c.end_resize.ensures.kept in
+      let kept = (kept_ended c.end_resize.ensures.makes) in
       run_purged (by g begun_at) (lost g c.before) c.take_lock.ensures.got.0 (v0 g begun_at) (v1 g begun_at) (v2 g begun_at) (v4 g c.before)
       (view c.end_resize.new.cpu) (look g begun_at) c.take_lock.ensures.got.1 locked.0 locked.1 (purged g c.before) kept.1 kept.0.1
-      c.end_resize.ensures.sole c.requires.sole
+      (sole_ended c.end_resize.ensures.makes) c.requires.sole
 
   -- the unit is the station's
   of_station : c.unit-unit.result ≡ (v0 g begun_at).whole.state.station.unit
@@ -173,7 +174,7 @@ module _ (g : given.Over) (c : goal.After-end_resize g) where
 comes_to : (g : given.Over) (c : goal.After-end_resize g)
     → PurgesHung c.purge_held-purged.result (view c.args.cpu.now) (view c.end_resize.new.cpu)
 comes_to g c =
-    let w = of_station g c in let is = (left g c.before).is in let kept = c.end_resize.ensures.kept.0 in
+    let w = of_station g c in let is = (left g c.before).is in let kept = (kept_ended c.end_resize.ensures.makes).0 in
     let v = view c.args.cpu.now in let p = whole g c in let b = c.begin_hung_purge.ensures.begun in let all = p.lost b.0 b.4 in record {
       hung = c.requires.hung.hung;
       unit = c.requires.hung.unit;
@@ -188,14 +189,14 @@ comes_to g c =
 
 pub returns : goal.returns
 returns g c = record {
-  kept = let kept = c.end_resize.ensures.kept.0 in let s = seat g c.before in let l = left g c.before in record {
+  kept = let kept = (kept_ended c.end_resize.ensures.makes).0 in let s = seat g c.before in let l = left g c.before in record {
     seat = (kept.0.0 ∙ s.0, kept.0.1 ∙ s.1);
     share = kept.1 ∙ ap (λ (x : View). x.share) l.is;
     control = kept.4 ∙ control g c.before;
     told = kept.5 ∙ (ap (λ (x : View). x.whole.told) l.is ∙ l.told);
   };
   at =
-      let kept = c.end_resize.ensures.kept.0 in let at = c.end_resize.ensures.at in let is = (left g c.before).is in
+      let kept = (kept_ended c.end_resize.ensures.makes).0 in let at = c.end_resize.ensures.at in let is = (left g c.before).is in
       let control5 = kept.4 ∙ control g c.before in let active = c.requires.hung.active in (
         at.0,
         (
@@ -208,7 +209,7 @@ returns g c = record {
       );
   raised = (whole g c).raised;
   purges =
-      let k = setup c.args.shared.now in let b = c.begin_hung_purge.ensures in let e = c.end_resize.ensures in
+      let k = setup c.args.shared.now in let b = c.begin_hung_purge.ensures in let e = c.end_resize.ensures.makes in let kept = kept_ended e in
       let got_ = known c.take_lock.new.cpu in let begun_ = known c.begin_hung_purge.new.cpu in let new = known c.purge_held-purged.new.cpu in
       let count = c.purge_held-purged.result in let by_ = cause.Hung got_.view.holder.station.unit in let slot = got_.view.holder.slot in
       let started = both begun_ (known_after (BeginHungPurge b.begun.0 b.made.0 ∷ []) got_) b.begun.1 b.made.1 in
@@ -226,7 +227,7 @@ returns g c = record {
           knows = b.begun.4;
           purges = subst (λ (x : Known). PurgesHeld k by_ slot count x new) started held_;
         };
-        releases = (record { calm = record { share = e.kept.0.1; state = e.kept.1; settled = e.kept.0.8 }; sole = e.sole }, e.ends);
+        releases = (record { calm = record { share = kept.0.1; state = kept.1; settled = kept.0.8 }; sole = sole_ended e }, steps_of e);
         comes_to = comes_to g c;
       };
 }

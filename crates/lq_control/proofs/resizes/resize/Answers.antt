@@ -10,6 +10,7 @@ use Rattle.lq_table.specs.Rule.{IsResting}
 use Rattle.lq_table.specs.Sees.{view, setup, known, IsSole, solo, heard}
 use Rattle.lq_table.specs.Locks.{try_lock_view_in_control, locked_to}
 use Rattle.lq_run.specs.Runs.{ended}
+use Rattle.lq_run.proofs.Ends.{kept_ended, sole_ended}
 use Rattle.lq_ring.specs.Resized.{all_lost, having_resized}
 use Rattle.lq_qdisc.specs.StepLists.{LeadsBy}
 use Rattle.lq_control.proofs.Alone.{resize_alone, resized_same, stepped_at}
@@ -31,11 +32,11 @@ returns g c =
     let e2 : v2 ≡ try_lock_view_in_control got.0 (begin_control_view v) = got.1 ∙ ap (try_lock_view_in_control got.0) c.begin_control.ensures.view in
     let r = turned g c in let s1 : solo (view c.begin_control.new.cpu) ≡ solo v = ap solo c.begin_control.ensures.view in
     let s2 = (c.take_lock.ensures.sole (subst IsSole (sym c.begin_control.ensures.view) sole)).0 ∙ ap (locked_to true) s1 in
-    c.end_resize.ensures.sole (subst IsSole (sym (r.is ∙ ap (having_resized c.args.len c.args.event (all_lost c.args.len r.held)) e2)) sole) ∙ ap ended (ap solo r.is ∙ ap (heard (Resize c.args.len c.args.event)) s2) in record {
+    sole_ended c.end_resize.ensures.makes (subst IsSole (sym (r.is ∙ ap (having_resized c.args.len c.args.event (all_lost c.args.len r.held)) e2)) sole) ∙ ap ended (ap solo r.is ∙ ap (heard (Resize c.args.len c.args.event)) s2) in record {
       same =
           let v1 = view c.begin_control.new.cpu in let v2 = view c.take_lock.new.cpu in let v3 = view c.resize_all-shrunk.new.cpu in let got = c.take_lock.ensures.got in
           let r = turned g c in let len = c.args.len in let event = c.args.event in let lost = all_lost len r.held in
-          let b = c.begin_control.ensures in let t = c.take_lock.ensures.same.0 in let s = c.resize_all-shrunk.ensures.same.0 in let e = c.end_resize.ensures.kept.0 in
+          let b = c.begin_control.ensures in let t = c.take_lock.ensures.same.0 in let s = c.resize_all-shrunk.ensures.same.0 in let e = (kept_ended c.end_resize.ensures.makes).0 in
           let v = view c.args.cpu.now in let last = view c.end_resize.new.cpu in
           let k = keeps_then v v1 v3 (keeps_begun v v1 b.view) (keeps_resized len event lost got.0 v1 v2 v3 got.1 r.is) in
           let all = keeps_then v v3 last k (keeps_ended c.resize_all-shrunk.new.cpu c.end_resize.new.cpu e) in
@@ -44,7 +45,7 @@ returns g c =
       at =
           let v1 = view c.begin_control.new.cpu in let v2 = view c.take_lock.new.cpu in let v3 = view c.resize_all-shrunk.new.cpu in let got = c.take_lock.ensures.got in
           let r = turned g c in let len = c.args.len in let event = c.args.event in let lost = all_lost len r.held in
-          let e = c.end_resize.ensures in let k = e.kept.0 in let at = e.at in
+          let e = c.end_resize.ensures in let k = (kept_ended e.makes).0 in let at = e.at in
           let ready = c.requires.may.at.2 in let first = c.begin_control.ensures.view in let turned = resized_from len event lost got.0 v1 v2 v3 got.1 r.is in
           let control : (view c.end_resize.new.cpu).control ≡ (view c.args.cpu.now).control = k.4 ∙ (ap (λ (x : View). x.control) turned ∙ ap (λ (x : View). x.control) first) in (
             at.0,
@@ -56,15 +57,18 @@ returns g c =
             ),
             (ap (λ (x : FirstPart). x.phase) control ∙ c.requires.may.in_phase.0, ap (λ (x : FirstPart). x.purge) control ∙ c.requires.may.in_phase.1),
           );
-      trail = search rules;
+      trail =
+          let got = c.take_lock.ensures.got in let r = turned g c in let len = c.args.len in let event = c.args.event in
+          let is = resized_from len event (all_lost len r.held) got.0 (view c.begin_control.new.cpu) (view c.take_lock.new.cpu) (view c.resize_all-shrunk.new.cpu) got.1 r.is in
+          (kept_ended c.end_resize.ensures.makes).0.9 ∙ (ap (λ (x : View). x.trail) is ∙ ap (λ (x : View). Resize len event ∷ x.trail) c.begin_control.ensures.view);
       steps =
-          let first = c.begin_control.ensures in let e = c.end_resize.ensures in (
+          let first = c.begin_control.ensures in let e = c.end_resize.ensures.makes in let kept = kept_ended e in (
             first.made.0,
             known c.take_lock.new.cpu,
             known c.resize_all-shrunk.new.cpu,
             subst (λ (x : Known). LeadsBy (λ s. TakeLock) x (known c.take_lock.new.cpu)) (both (known c.begin_control.new.cpu) (known_after (BeginControl first.made.0 ∷ []) (known c.args.cpu.now)) first.view first.made.1) (steps_of c.take_lock.ensures.makes),
             turned g c,
-            (record { calm = record { share = e.kept.0.1; state = e.kept.1; settled = e.kept.0.8 }; sole = e.sole }, e.ends),
+            (record { calm = record { share = kept.0.1; state = kept.1; settled = kept.0.8 }; sole = sole_ended e }, steps_of e),
           );
       alone = (
         alone_,

@@ -4,6 +4,7 @@ use Rattle.lq_model.specs.declared.machine.Position.{Position}
 use Rattle.lq_model.specs.declared.machine.Position.TheVariants.{Control}
 use Rattle.lq_ring.proofs.Seats.{seat_on}
 use Rattle.lq_run.proofs.StepsThen.{makes_then}
+use Rattle.lq_run.proofs.Tried.{tries}
 use Rattle.lq_table.specs.Rule.{shown, units_of}
 use Rattle.lq_table.specs.Sees.{view, IsAccounts, IsSole, solo}
 use Rattle.lq_table.specs.Moves.{IsKnownSlot}
@@ -29,7 +30,7 @@ loop-init g c = record { can = (search rules); ends = (search rules); seat = c.r
 
 pub loop-preserved : goal.loop-preserved
 loop-preserved g c =
-    let i = c.loop.invariant in let t = c.try_run_lock.ensures in let a = c.args.cpu.now in let b = c.loop.cpu in let w = c.try_run_lock.new.cpu in let h = t.held c.if-try_run_lock.false in
+    let i = c.loop.invariant in let t = tries c.try_run_lock.ensures.makes in let a = c.args.cpu.now in let b = c.loop.cpu in let w = c.try_run_lock.new.cpu in let h = t.held c.if-try_run_lock.false in
     let same : view w ≡ view a = h.0 ∙ (control_at false (view b) (ap (λ (x : View). x.place.position) i.same ∙ c.requires.at) look_lock_view refl ∙ i.same) in record {
       can = (search rules);
       ends = (search rules);
@@ -41,7 +42,7 @@ loop-preserved g c =
 
 pub returns-then-try_run_lock : goal.returns-then-try_run_lock
 returns-then-try_run_lock g c =
-    let i = c.loop.invariant in let t = c.try_run_lock.ensures in let m = c.move_station.ensures in let yes_ = c.if-try_run_lock.true in let h = t.got yes_ in
+    let i = c.loop.invariant in let t = tries c.try_run_lock.ensures.makes in let m = c.move_station.ensures in let yes_ = c.if-try_run_lock.true in let h = t.got yes_ in
     let a = c.args.cpu.now in let b = c.loop.cpu in let w = c.try_run_lock.new.cpu in let x = c.move_station.new.cpu in
     let e : view x ≡ try_lock_view_in_control h.0 (view a) = m.seat.1 ∙ got_control h.0 (view a) (view b) (view w) i.same c.requires.at h.1 in
     let units = λ (first : (view a).control.first ≡ true). ap (λ (y : View). y.holder.units) e ∙ (h.9 (ap (λ (y : View). y.control.first) i.same ∙ first) ∙ ap (λ (y : View). units_of y.trail) i.same) in

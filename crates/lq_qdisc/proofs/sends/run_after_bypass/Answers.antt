@@ -1,6 +1,7 @@
 use Rattle.std.proofs.Common.{◌≡◌, ◌≢◌, rules, true, refl, List, ◌∷◌, sym, ap, ◌∙◌, subst}
 use Rattle.lq_ring.proofs.StepsThen.{makes_then}
 use Rattle.lq_ring.specs.StepLists.{MakesStepsFrom}
+use Rattle.lq_run.proofs.Ends.{kept_ended}
 use Rattle.lq_table.specs.Sees.{setup}
 use Rattle.lq_table.specs.Step.{LoadState, Standing, Step}
 use Rattle.lq_table.specs.Views.{Setup, View}
@@ -55,8 +56,8 @@ ends_back (Back reason) other r = EndsAtOnce r
 
 pub returns-else-eq : goal.returns-else-eq
 returns-else-eq g c =
-    let k = setup c.args.shared.now in let b = c.args.cpu.now in let a = c.end.new.cpu in let kept = c.end.ensures.kept in
-    let ends : MakesStepsFrom Release c.else-eq.cpu a = releases c.else-eq.cpu a kept.0 kept.1 c.end.ensures.sole c.end.ensures.makes in
+    let k = setup c.args.shared.now in let b = c.args.cpu.now in let a = c.end.new.cpu in let kept = kept_ended c.end.ensures.makes in
+    let ends : MakesStepsFrom Release c.else-eq.cpu a = releases c.else-eq.cpu a c.end.ensures.makes in
     let makes_ : MakesStepsFrom (λ s. RunAfterBypass k s c.args.through) b a = elim c.else-eq.branch [
       | else-eq-via-then-eq+else-is_non_empty w ↦
           let l = w.load_state in let r = subst (λ z. MakesStepsFrom Release z a) w.cpu-is ends in let is : c.args.through ≡ Yes = (search rules) in
