@@ -32,7 +32,8 @@ use Rattle.lq_qdisc.specs.StepLists.{LeadsBy}
 use Rattle.lq_control.specs.Control.{IsKeptByControl, IsPurgeDone, IsPurged, IsServed, KeepsDevice, all_purged}
 use Rattle.lq_control.specs.Comes.{LeavesPurged, Shrinks, SwapsFor}
 use Rattle.lq_control.specs.Steps.{Again, CallInside, ChangesLength, Clear, Deactivates, DeactivatesWhole, Downs, LockHeld, LookClear, LookInside, NoCall, NotYet, PurgesBy, PurgesHeld, PurgesSlot, ResizesLive, Rounds, Scheduled, Swaps, SwapsDevice, TakeLock, Taken, Wait, WaitsUntilClear, known_after, looked, none_yet, open_steps, served}
-use Rattle.lq_control.proofs.StepLemmas.{leaves_then, tells_then}
+use Rattle.lq_ring.proofs.StepsThen.{leave_then}
+use Rattle.lq_control.proofs.StepLemmas.{tells_then}
 use Rattle.lq_control.proofs.Purge.{count_all, emptied, left1, purge1, purge2, left2, purged_of}
 use Rattle.lq_control.proofs.Served.{served_none, served_then}
 
@@ -85,7 +86,7 @@ wait_calm : {look : Bool → List Step → Type 0} → ((answer : Bool) (xs : Li
 wait_calm calm answer xs NotYet s = calm_same s.view
 wait_calm calm got xs (Again {answer} {before} {last} w l) s =
     let m : Standing = steps_leave before s in
-    subst (λ (z : Standing). IsCalmly s.view z.view) (sym (leaves_then before last s)) (calm_then s.view m.view (steps_leave last m).view (wait_calm calm false before w s) (calm answer last l m))
+    subst (λ (z : Standing). IsCalmly s.view z.view) (sym (leave_then before last s)) (calm_then s.view m.view (steps_leave last m).view (wait_calm calm false before w s) (calm answer last l m))
 
 inside_calm : (answer : Bool) (xs : List Step) → LookInside answer xs → (s : Standing) → IsCalmly s.view (steps_leave xs s).view
 inside_calm answer xs (CallInside {found} some) s = record { share = refl; packets = refl; turns = refl; first = refl; origin = refl; gone = refl; told = refl; state = refl; settled = refl; trail = refl }
@@ -105,7 +106,7 @@ try_calm answer xs Lost s = held_calm s.view
 try_calm answer xs (Got {d}) s = got_calm d s.view
 
 take_calm : (xs : List Step) → TakeLock xs → (s : Standing) → IsCalmly s.view (steps_leave xs s).view
-take_calm xs (Taken {tries} w) s = subst (λ (z : Standing). IsCalmly s.view z.view) (sym (leaves_then tries (MoveStation ∷ []) s)) (wait_calm try_calm true tries w s)
+take_calm xs (Taken {tries} w) s = subst (λ (z : Standing). IsCalmly s.view z.view) (sym (leave_then tries (MoveStation ∷ []) s)) (wait_calm try_calm true tries w s)
 
 waits_calm : (old new : Known) → LeadsBy (λ s. Wait LookInside true) old new → IsCalmly old.view new.view
 waits_calm old new = of_calm old new (wait_calm inside_calm true)
@@ -135,12 +136,12 @@ wait_told : (answer : Bool) (xs : List Step) → answer ≡ true → Wait TryRun
 wait_told answer xs is NotYet s t = absurd (false≢true is)
 wait_told got xs is (Again {answer} {before} {last} w l) s t =
     let m : Standing = steps_leave before s in let calm = wait_calm try_calm false before w s in let told = try_told answer last is l m (tells_then before last s t).1 in
-    subst (λ (z : Standing). FindsTold s.view z.view) (sym (leaves_then before last s)) (λ first. told.0 (calm.first ∙ first) ∙ ap units_of calm.trail, λ sole. told.1 (sole_calm s.view m.view calm sole))
+    subst (λ (z : Standing). FindsTold s.view z.view) (sym (leave_then before last s)) (λ first. told.0 (calm.first ∙ first) ∙ ap units_of calm.trail, λ sole. told.1 (sole_calm s.view m.view calm sole))
 
 take_told : (xs : List Step) → TakeLock xs → (s : Standing) → steps_tell xs s → FindsTold s.view (steps_leave xs s).view
 take_told xs (Taken {tries} w) s t =
     let move : List Step = MoveStation ∷ [] in
-    subst (λ (z : Standing). FindsTold s.view z.view) (sym (leaves_then tries move s)) (wait_told true tries refl w s (tells_then tries move s t).0)
+    subst (λ (z : Standing). FindsTold s.view z.view) (sym (leave_then tries move s)) (wait_told true tries refl w s (tells_then tries move s t).0)
 
 takes_told : (old new : Known) → LeadsBy (λ s. TakeLock) old new → FindsTold old.view new.view
 takes_told old new h = subst (λ (z : View × View). FindsTold z.0 z.1) (λ j. (h.3 j, sym h.5 j)) (take_told h.1 h.2 h.0 h.7)
@@ -350,7 +351,7 @@ changes_leaves k event len count old new bare (clear, changed, whole, (taken_at,
 opened_part : {X : Type 0} (part : View → X) → ((n : ℕ) (v : View) → part (open_xoff_view n v) ≡ part v) → (more : ℕ) (s : Standing) → part (steps_leave (open_steps more) s).view ≡ part s.view
 opened_part part kept zero s = refl
 opened_part part kept (suc more) s =
-    ap (λ (z : Standing). part z.view) (leaves_then (open_steps more) (OpenXoff (suc more) ∷ []) s) ∙ (kept (suc more) (steps_leave (open_steps more) s).view ∙ opened_part part kept more s)
+    ap (λ (z : Standing). part z.view) (leave_then (open_steps more) (OpenXoff (suc more) ∷ []) s) ∙ (kept (suc more) (steps_leave (open_steps more) s).view ∙ opened_part part kept more s)
 
 module _ (k : Setup) (unit : ℕ) (came went : DeviceState) (old new : Known) (x : SwapsDevice k unit came went old new) where
   abbrev more : ℕ
@@ -378,7 +379,7 @@ module _ (k : Setup) (unit : ℕ) (came went : DeviceState) (old new : Known) (x
 
   given : IsCalmly opened.view new.view
   given = released_calm opened.view new.view (x.swaps.5
-      ∙ (ap (λ (xs : List Step). (steps_leave xs x.swaps.0).view) x.swaps.2 ∙ ap (λ (z : Standing). z.view) (leaves_then (open_steps more) last placed)))
+      ∙ (ap (λ (xs : List Step). (steps_leave xs x.swaps.0).view) x.swaps.2 ∙ ap (λ (z : Standing). z.view) (leave_then (open_steps more) last placed)))
 
   away : GoesAway changed.view
   away = (subst (λ (xs : List Step). steps_tell xs x.swaps.0) x.swaps.2 x.swaps.7).1.0

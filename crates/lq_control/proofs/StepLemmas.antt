@@ -12,6 +12,7 @@ use Rattle.lq_table.specs.declared.shared.Cpu.{Cpu}
 use Rattle.lq_run.specs.Steps.{MakesStepsOf}
 use Rattle.lq_run.proofs.StepsThen.{makes_then}
 use Rattle.lq_ring.specs.StepLists.{MakesStepsFrom, ResizeAll}
+use Rattle.lq_ring.proofs.StepsThen.{makes_none}
 use Rattle.lq_qdisc.specs.StepLists.{LeadsBy}
 use Rattle.lq_control.specs.Steps.{Again, Clear, LookClear, NotYet, Reopens, ResizesAll, Rounds, Scheduled, ServesBy, Wait, known_after, looked, none_yet, open_steps, served}
 
@@ -20,10 +21,6 @@ pub both : (a b : Known) → a.view ≡ b.view → a.steps ≡ b.steps → a ≡
 both a b v s = λ j. record { view = v j; steps = s j }
 
 -- LISTS
-
-pub leaves_then : (xs ys : List Step) (s : Standing) → steps_leave (xs ++ ys) s ≡ steps_leave ys (steps_leave xs s)
-leaves_then [] ys s = refl
-leaves_then (x ∷ xs) ys s = leaves_then xs ys (step_leaves x s)
 
 pub tells_then : (xs ys : List Step) (s : Standing) → steps_tell (xs ++ ys) s → steps_tell xs s × steps_tell ys (steps_leave xs s)
 tells_then [] ys s t = (tt, t)
@@ -40,11 +37,8 @@ module _ {D : Type 0} where
       → view a ≡ having_resized len event (all_lost len held) (view b) → count ≡ length (all_lost len held) → ResizesAll k len event count (known b) (known a)
   resizes_of held makes packets is_known is counted = record { held = held; steps = steps_from makes; packets = packets; is_known = is_known; is = is; counted = counted }
 
-  pub makes_none : {c : Cpu D} → MakesSteps [] c c
-  makes_none = record { seat = (refl, refl); knows = refl; has = refl; carries = refl; places = refl; made = refl; told = tt }
-
   pub no_look : {look : Bool → List Step → Type 0} {c : Cpu D} → MakesStepsOf (Wait look false) c c
-  no_look = ([], NotYet, makes_none)
+  no_look {look} {c} = ([], NotYet, makes_none c)
 
   pub look_again : {look : Bool → List Step → Type 0} {answer : Bool} {b m a : Cpu D} → MakesStepsOf (Wait look false) b m → MakesStepsOf (look answer) m a → MakesStepsOf (Wait look answer) b a
   look_again w l = (w.0 ++ l.0, Again w.1 l.1, makes_then w.2 l.2)

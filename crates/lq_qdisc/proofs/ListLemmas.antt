@@ -3,13 +3,12 @@ use Rattle.std.proofs.Common.{◌≡◌, List, [], ◌∷◌, ◌++◌, Option, 
 use Rattle.std.specs.Option.{unwrap_or}
 use Rattle.lq_device.specs.Station.{StationState}
 use Rattle.lq_ring.proofs.StepsThen.{leave_then, makes_then, stands_after}
-use Rattle.lq_ring.specs.Calls.{ChangesStation}
-use Rattle.lq_ring.specs.Seats.{KeepsSeatAndView}
 use Rattle.lq_ring.specs.StepLists.{MakesStepsFrom}
 use Rattle.lq_table.specs.Sees.{view, known, steps, carried}
 use Rattle.lq_table.specs.Step.{MakesSteps, SetStation, Standing, Step, standing, step_leaves, step_tells, steps_leave, steps_tell}
 use Rattle.lq_table.specs.Views.{View, no_station}
 use Rattle.lq_table.specs.declared.shared.Cpu.{Cpu}
+use Rattle.lq_qdisc.specs.Seats.{ChangesStation, KeepsSeatAndView}
 use Rattle.lq_qdisc.specs.StepLists.{Coming, LeadsBy, Then}
 
 -- each step of a list tells what it tells

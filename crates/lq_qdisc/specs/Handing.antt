@@ -10,7 +10,6 @@ use Rattle.lq_model.specs.declared.fate.Fate.{Fate}
 use Rattle.lq_model.specs.declared.machine.Blocked.TheVariants.{InHand}
 use Rattle.lq_model.specs.declared.machine.Position.{Position}
 use Rattle.lq_model.specs.declared.machine.Position.TheVariants.{BlockedClear, Unlock, Xmit}
-use Rattle.lq_ring.specs.Seats.{KeepsSeatAndView}
 use Rattle.lq_ring.specs.StepLists.{MakesStepsFrom}
 use Rattle.lq_table.specs.Step.{MakesSteps, Requeue, SetMissed, SetStation, Standing, Step}
 use Rattle.lq_table.specs.Views.{View}
@@ -24,7 +23,7 @@ use Rattle.lq_table.specs.declared.shared.Cpu.{Cpu}
 use Rattle.lq_table.specs.declared.shared.Shared.{Shared}
 use Rattle.lq_qdisc.specs.Calls.{ClearsMissedAlone, IsServing, IsKeptInRun, IsSettledSame}
 use Rattle.lq_qdisc.specs.Direct.{SeesOpen, StaysAt, hearing_stops, run_after, sent_leads, stopped_by}
-use Rattle.lq_qdisc.specs.Seats.{GoesOnFrom}
+use Rattle.lq_qdisc.specs.Seats.{GoesOnFrom, KeepsSeatAndView}
 use Rattle.lq_qdisc.specs.StepLists.{MaybeClearMissed, stop_steps}
 use Rattle.lq_qdisc.specs.declared.answers.Through.{Through}
 use Rattle.lq_qdisc.specs.declared.answers.Through.TheVariants.{Yes}

@@ -5,7 +5,7 @@ use Rattle.lq_model.specs.Alone.{RunningStation, opened}
 use Rattle.lq_model.specs.Plan.{owner_in, rank_in}
 use Rattle.lq_model.specs.declared.machine.Position.{Position}
 use Rattle.lq_table.specs.Views.{first_account}
-use Rattle.lq_table.specs.Sees.{view, steps, setup, position, IsAccounts, solo}
+use Rattle.lq_table.specs.Sees.{view, steps, setup, position, slot, IsAccounts, IsSameSeat, solo}
 use Rattle.lq_table.specs.Made.{◌⊳◌}
 use Rattle.lq_table.specs.Turns.{take_turn_log}
 use Rattle.lq_table.specs.declared.shared.Cpu.{Cpu}
@@ -15,6 +15,19 @@ use Rattle.lq_qdisc.specs.Direct.{position_after}
 use Rattle.lq_qdisc.specs.declared.answers.Sending.{Sending}
 use Rattle.lq_qdisc.specs.declared.answers.Sending.TheVariants as sending
 use Rattle.lq_qdisc.specs.declared.answers.Through.{Through}
+
+-- THE STATION THAT THE SEAT CARRIES
+
+module _ {D : Type 0} where
+  -- the same seat with the same view: only the station that it carries changes, and the steps
+  abbrev pub KeepsSeatAndView : Cpu D → Cpu D → Type 0
+  KeepsSeatAndView b a = IsSameSeat b a × (a.indices ≡ b.indices) × (slot a ≡ slot b) × (view a ≡ view b)
+
+  -- Of the seat only the station that it carries changes, in this way.
+  pub record ChangesStation (change : StationState → StationState) (b a : Cpu D) : Type 0 where
+    pub same : KeepsSeatAndView b a
+    pub made : steps a ≡ steps b
+    pub station : (st : StationState) → b.station ≡ Some st → a.station ≡ Some (change st)
 
 -- DIRECT TRANSMITS
 

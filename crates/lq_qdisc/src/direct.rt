@@ -7,11 +7,10 @@ ghost use Rattle.lq_model.specs.declared.device.Tx.TheVariants.{SentHang};
 ghost use Rattle.lq_model.specs.declared.machine.Position.TheVariants.{Gate, StoreXoff, Xmit};
 ghost use Rattle.lq_table.specs.Step.{MakesSteps, Settle};
 ghost use Rattle.lq_table.specs.Sees.{view, position, packet_at, IsSeatOf};
-ghost use Rattle.lq_ring.specs.Calls.{ChangesStation};
 ghost use Rattle.lq_qdisc.specs.Direct.{Directs};
 ghost use Rattle.lq_qdisc.specs.StepLists.{DirectXmit, StartXmit};
 ghost use Rattle.lq_qdisc.specs.Handing.{AsksDevice, MayRequeueBusy, MayRequeueStopped, MaySettleSent, MayStartXmit, MayStop, RequeuesBusy, RequeuesStopped, StoresStops, XmitsBy};
-ghost use Rattle.lq_qdisc.specs.Seats.{CarriesDeviceWithRoom};
+ghost use Rattle.lq_qdisc.specs.Seats.{CarriesDeviceWithRoom, ChangesStation};
 ghost use Rattle.lq_qdisc.specs.Takes.{MayXmit};
 
 use crate::answers::{Through, Why};

@@ -8,7 +8,7 @@ ghost use Rattle.lq_table.specs.Sees.{view, setup, position, slot, CarriesSlot, 
 ghost use Rattle.lq_table.specs.Moves.{IsPacketOf};
 ghost use Rattle.lq_device.specs.Station.{StationState, with_slot};
 ghost use Rattle.lq_table.specs.Rule.{shown};
-ghost use Rattle.lq_ring.specs.Calls.{ChangesStation};
+ghost use Rattle.lq_qdisc.specs.Seats.{ChangesStation};
 ghost use Rattle.lq_qdisc.specs.Calls.{IsServing, Looks, cleared};
 ghost use Rattle.lq_table.specs.States.{some_bit};
 ghost use Rattle.lq_table.specs.Step.{ClearDraining, ClearMissed as ClearMissedStep, LoadState, MakesSteps};

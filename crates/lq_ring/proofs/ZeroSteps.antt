@@ -7,10 +7,11 @@ use Rattle.lq_device.specs.Station.{StationState, with_ends}
 use Rattle.lq_model.specs.Band.{batch}
 use Rattle.lq_band_laws.specs.Three.{at}
 use Rattle.lq_band_laws.specs.Ring.{Ends, all_empty, is_emptying}
+use Rattle.lq_table.specs.Made.{Made, ◌⊳◌}
+use Rattle.lq_table.specs.Producers.{store_slot_log}
 use Rattle.lq_table.specs.Step.{SetEnds, Standing, Step, ZeroSlot, step_leaves, steps_leave}
-use Rattle.lq_table.specs.Views.{View}
+use Rattle.lq_table.specs.Views.{Setup, View}
 use Rattle.lq_ring.specs.StepLists.{discard_steps, zero_steps}
-use Rattle.lq_ring.specs.Steps.{zeroed}
 use Rattle.lq_ring.specs.Take.{emptied_count, emptied_times, having_ends}
 use Rattle.lq_ring.proofs.StepsThen.{leave_then}
 use Rattle.lq_ring.proofs.TakeSteps.{emptying_having, ends_left, having_same, times_all}
@@ -21,6 +22,11 @@ zero_next b head zero = ap (λ (i : ℕ). ZeroSlot b i ∷ []) (let q : head - 1
 zero_next b head (suc n) =
     let q : head - 1 - suc n ≡ head - 1 - 1 - n = omega arith in
     (λ j. ZeroSlot b (head - 1) ∷ (zero_steps b (head - 1) n ++ ZeroSlot b (q j) ∷ [])) ∙ ap (λ (xs : List Step). ZeroSlot b (head - 1) ∷ xs) (zero_next b (head - 1) n)
+
+-- the log, where so many slots below head are emptied, the highest first
+abbrev pub zeroed : Setup → ℕ → ℕ → ℕ → List Made → List Made
+zeroed k band head zero steps = steps
+zeroed k band head (suc n) steps = zeroed k band head n steps ⊳ store_slot_log k band (head - 1 - n) 0
 
 -- the ends, where so many slots are emptied of rings of this size
 abbrev emptied_view : ℕ → ℕ → View → View

@@ -1,6 +1,5 @@
 -- What the calls on the rings require of the seat that makes them (`May..`), and what they ensure of it.
-use Rattle.std.specs.Prelude.{◌≡◌, ℕ, ◌+◌, ◌-◌, ◌<◌, ◌≤◌, Bool, true, false, List, Some, None, [], length, slice_index}
-use Rattle.lq_device.specs.Station.{StationState}
+use Rattle.std.specs.Prelude.{◌≡◌, ℕ, ◌+◌, ◌-◌, ◌<◌, ◌≤◌, Bool, true, false, List, None, [], length, slice_index}
 use Rattle.lq_model.specs.Words.{HasWord}
 use Rattle.lq_model.specs.declared.fate.Cause.{Cause}
 use Rattle.lq_model.specs.declared.fate.Fate.TheVariants as fate
@@ -8,28 +7,19 @@ use Rattle.lq_model.specs.declared.machine.Position.TheVariants.{Put, Scan}
 use Rattle.lq_band_laws.specs.Ring.{is_emptying, locked_at, word_at}
 use Rattle.lq_band_laws.specs.Three.{at, put}
 use Rattle.lq_table.specs.Rule.{IsResting}
-use Rattle.lq_table.specs.Sees.{view, steps, position, slot, packet_at, ends_at, lock_at, IsSameSeat, Brings}
+use Rattle.lq_table.specs.Sees.{view, position, slot, packet_at, ends_at, lock_at, IsSameSeat, Brings}
 use Rattle.lq_table.specs.Consumers.{CarriesEndsBeforeTake}
 use Rattle.lq_table.specs.declared.shared.Cpu.{Cpu}
 use Rattle.lq_table.specs.declared.shared.Shared.{Shared}
 use Rattle.lq_ring.specs.Put.{no_locks}
 use Rattle.lq_ring.specs.Resized.{HoldOwnPackets, IsKnownHeld, all_lost, having_resized}
-use Rattle.lq_ring.specs.Seats.{HasRingToPurge, KeepsSeatAndView, MayResize}
+use Rattle.lq_ring.specs.Seats.{HasRingToPurge, MayResize}
 use Rattle.lq_ring.specs.StepLists.{MakesStepsFrom, ResizeAll}
 use Rattle.lq_ring.specs.Take.{CarriesStation}
 use Rattle.lq_ring.specs.Work.{ArePacketsOf, IsTurner, IsWorkBegun, event_of_work, work_at}
 use Rattle.lq_ring.specs.declared.turns.Ends.{Ends}
 use Rattle.lq_ring.specs.declared.turns.Resize.{Resize}
 use Rattle.lq_model.specs.Positions.{holds_lock}
-
--- THE STATION THAT THE SEAT CARRIES
-
-module _ {D : Type 0} where
-  -- Of the seat only the station that it carries changes, in this way.
-  pub record ChangesStation (change : StationState → StationState) (b a : Cpu D) : Type 0 where
-    pub same : KeepsSeatAndView b a
-    pub made : steps a ≡ steps b
-    pub station : (st : StationState) → b.station ≡ Some st → a.station ≡ Some (change st)
 
 -- PUTS
 

@@ -12,8 +12,6 @@ pub mod Fates
 pub mod Purged
 -- its calls, each with the lists of steps that it may make
 pub mod StepLists
--- what a put and a take leave in the log
-pub mod Steps
 -- what its calls ask of a seat, and what they leave of it
 pub mod Seats
 -- what each call requires, and what it ensures

@@ -10,7 +10,7 @@ use Rattle.lq_band_laws.specs.Three.{at}
 use Rattle.lq_table.specs.Views.{Left, View, machine_packet}
 use Rattle.lq_table.specs.Moves.{seen_by}
 use Rattle.lq_table.specs.Resizes.{may_resize}
-use Rattle.lq_table.specs.Sees.{view, position, slot, packet_at, IsElseSame, IsSameSeat}
+use Rattle.lq_table.specs.Sees.{view, position, packet_at, IsElseSame}
 use Rattle.lq_table.specs.declared.shared.Cpu.{Cpu}
 use Rattle.lq_table.specs.declared.shared.Shared.{Shared}
 
@@ -30,10 +30,6 @@ module _ {D : Type 0} where
 -- TAKES
 
 module _ {D : Type 0} where
-  -- the same seat with the same view: only the station that it carries changes, and the steps
-  abbrev pub KeepsSeatAndView : Cpu D → Cpu D → Type 0
-  KeepsSeatAndView b a = IsSameSeat b a × (a.indices ≡ b.indices) × (slot a ≡ slot b) × (view a ≡ view b)
-
   -- from the scan of the band it goes on to the next where it found nothing, and with a packet to the gate
   abbrev pub GoesOnFromScan : ℕ → Option ℕ → Cpu D → Cpu D → Type 0
   GoesOnFromScan band found b a = MatchOption found ((second : Bool) → position b ≡ Scan band second → position a ≡ after_band band second)

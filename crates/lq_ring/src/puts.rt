@@ -2,13 +2,13 @@
 ghost use Rattle.std.specs.Prelude.{◌≡◌, ◌<◌, ◌+◌, MatchResult};
 ghost use Rattle.lq_band_laws.specs.Ring.{locked_at, unlocked};
 ghost use Rattle.lq_band_laws.specs.Three.{at};
+ghost use Rattle.lq_model.specs.Account.{Join, Full as FullEvent};
 ghost use Rattle.lq_table.specs.Producers.{with_lock_at, SeesEnd};
-ghost use Rattle.lq_table.specs.Sees.{known, lock_at, setup, slot, view, IsSameSeat, IsSeatOf};
+ghost use Rattle.lq_table.specs.Sees.{heard, lock_at, slot, solo, view, IsSameSeat, IsSeatOf};
 ghost use Rattle.lq_ring.specs.Calls.{MayPut, MayPutLocked};
-ghost use Rattle.lq_ring.specs.Put.{dropping_full, putting, HearsPut};
+ghost use Rattle.lq_ring.specs.Put.{dropping_full, putting};
 ghost use Rattle.lq_ring.specs.Seats.{GoesOnFromPut};
 ghost use Rattle.lq_ring.specs.StepLists.{LockProducer, MakesStepsFrom, Produce, ProduceLocked};
-ghost use Rattle.lq_ring.specs.Steps.{FindsFull, Puts};
 
 use crossbeam_utils::Backoff;
 use lq_device::TxDevice;
@@ -93,9 +93,8 @@ pub fn produce<'a, D: TxDevice, R: Wait>(
     ensures knows { MatchResult result (λ _. view cpu.new ≡ putting band n (view cpu.old))
         (λ full. view cpu.new ≡ dropping_full n full.seen (view cpu.old)) }
     ensures at { GoesOnFromPut shared.now n cpu.old cpu.new }
-    ensures puts { MatchResult result (λ _. Puts (setup shared.now) band n (known cpu.old) (known cpu.new))
-        (λ full. FindsFull (setup shared.now) band n full.seen (known cpu.old) (known cpu.new)) }
-    ensures step { HearsPut band n result (view cpu.old) (view cpu.new) }
+    ensures step { MatchResult result (λ _. solo (view cpu.new) ≡ heard (Join n band) (solo (view cpu.old)))
+        (λ full. solo (view cpu.new) ≡ heard (FullEvent n full.seen) (solo (view cpu.old))) }
     ensures sole { MatchResult result (λ _. SeesEnd band (view cpu.old) 0) (λ full. SeesEnd band (view cpu.old) (full.seen + 1)) }
 {
     let index = lock_producer(rt, shared, cpu, band);

@@ -5,11 +5,10 @@ ghost use Rattle.lq_model.specs.Account.{held_in, Take};
 ghost use Rattle.lq_table.specs.Consumers.{head_slot_view_empty};
 ghost use Rattle.lq_table.specs.Moves.{IsPacketOf};
 ghost use Rattle.lq_table.specs.Rule.{IsResting};
-ghost use Rattle.lq_table.specs.Sees.{account_of, ends_at, heard, known, setup, slot, solo, view, IsSameSeat, IsSeatOf, IsSole};
+ghost use Rattle.lq_table.specs.Sees.{account_of, ends_at, heard, slot, solo, view, IsSameSeat, IsSeatOf, IsSole};
 ghost use Rattle.lq_table.specs.Step.{MakesSteps, SetEnds};
 ghost use Rattle.lq_ring.specs.Seats.{GoesOnFromScan};
 ghost use Rattle.lq_ring.specs.StepLists.{discard_steps, zero_steps, Consume, MakesStepsFrom};
-ghost use Rattle.lq_ring.specs.Steps.{FindsSlotEmpty, Takes};
 ghost use Rattle.lq_ring.specs.Take.{consuming, CarriesStation};
 ghost use Rattle.lq_ring.specs.Calls.{MayConsume, MayDiscard, MayZero};
 
@@ -97,8 +96,6 @@ pub fn consume<'a, D: TxDevice>(shared: &Shared<'a, D>, cpu: &mut Cpu<D>, band: 
     ensures rests { IsResting (view cpu.new).holder.size (view cpu.new).holder.ends }
     ensures station { CarriesStation cpu.new }
     ensures packet { IfSome result (λ n. IsPacketOf (view cpu.old).share.about n) }
-    ensures takes { MatchOption result (FindsSlotEmpty (setup shared.now) band (known cpu.old) (known cpu.new))
-        (λ n. Takes (setup shared.now) band n (known cpu.old) (known cpu.new)) }
     ensures step { MatchOption result (solo (view cpu.new) ≡ solo (view cpu.old))
         (λ n. solo (view cpu.new) ≡ heard (Take band) (solo (view cpu.old))) }
     ensures sole { IsSole (view cpu.old) → slice_get (held_in (account_of (view cpu.old)) band) 0 ≡ result }

@@ -2,7 +2,8 @@ use Rattle.std.proofs.Common.{rules, ◌≡◌, ◌+◌, ◌-◌, refl, ap, ◌�
 use Rattle.lq_table.specs.Views.{View, Setup}
 use Rattle.lq_table.specs.Controls.{shut_after, open_xoff_view}
 use Rattle.lq_table.specs.Sees.{view, solo}
-use Rattle.lq_control.proofs.StepLemmas.{makes_none, opened_more}
+use Rattle.lq_control.proofs.StepLemmas.{opened_more}
+use Rattle.lq_ring.proofs.StepsThen.{makes_none}
 use Rattle.lq_ring.proofs.Seats.{seat_on}
 use Rattle.lq_control.specs.Control.{all_opened}
 use Rattle.lq_control.proofs.swaps.open_queues.Goals as goal
@@ -14,7 +15,7 @@ loop-queue-init g c = let v = view c.args.cpu.now in record {
   opened = (v.whole, (λ j. record v { holder = record v.holder { shut = c.requires.shut j } }), refl);
   step = refl;
   from = omega arith;
-  makes = makes_none;
+  makes = makes_none c.args.cpu.now;
 }
 
 pub loop-queue-preserved : goal.loop-queue-preserved

@@ -13,7 +13,7 @@ use Rattle.lq_ring.proofs.PurgeSteps.{few_left, none_purged, next_purged, all_pu
 use Rattle.lq_band_laws.proofs.Three.{at_put_same}
 use Rattle.lq_table.specs.Step.{LoadSize, MakesSteps, PurgeSlot, Standing, Step, standing}
 use Rattle.lq_ring.specs.StepLists.{EmptiesBand, NoneYet, OneMore, PurgeOne}
-use Rattle.lq_ring.proofs.ListLogs.{pass_leaves, passes, purge_leaves}
+use Rattle.lq_ring.proofs.ListLemmas.{pass_leaves, passes, purge_leaves}
 use Rattle.lq_ring.proofs.StepsThen.{makes_then, stands_after}
 use Rattle.lq_ring.proofs.purges.purge_band.Goals as goal
 

@@ -9,7 +9,7 @@ use Rattle.lq_table.specs.Sees.{view, setup}
 use Rattle.lq_table.specs.Step.{LoadSize, SetEnds, standing}
 use Rattle.lq_ring.specs.Resized.{HoldOwnPackets, IsKnownHeld, all_lost, having_resized, locked_three}
 use Rattle.lq_ring.specs.StepLists.{ResizesThree, unlock_steps}
-use Rattle.lq_ring.proofs.ListLogs.{all_told}
+use Rattle.lq_ring.proofs.ListLemmas.{all_told}
 use Rattle.lq_ring.proofs.StepsThen.{makes_then}
 use Rattle.lq_ring.proofs.resize.resize_all.Goals as goal
 

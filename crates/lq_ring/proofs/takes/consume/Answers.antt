@@ -6,11 +6,8 @@ use Rattle.lq_band_laws.proofs.Three.{at_put_same}
 use Rattle.lq_table.specs.Views.{View}
 use Rattle.lq_table.specs.Rule.{shown}
 use Rattle.lq_table.specs.Consumers.{head_slot_view_empty, head_slot_view}
-use Rattle.lq_table.specs.Sees.{view, setup, steps, solo}
-use Rattle.lq_table.specs.Made.{◌⊳◌}
-use Rattle.lq_table.specs.Producers.{load_size_log, load_slot_log}
-use Rattle.lq_ring.specs.Steps.{zeroed}
-use Rattle.lq_ring.specs.Take.{consuming, emptied_count}
+use Rattle.lq_table.specs.Sees.{view, solo}
+use Rattle.lq_ring.specs.Take.{consuming}
 use Rattle.std.specs.Prelude.{option_map}
 use Rattle.lq_device.specs.Station.{StationState, with_ends}
 use Rattle.lq_table.specs.Step.{HeadSlot, LoadSize, MakesSteps, Standing, standing, steps_leave}
@@ -81,14 +78,6 @@ returns-then-found-eq0 g c = record {
   same = search rules;
   knows =
       let b = c.args.band in c.head_slot-found.ensures.none c.if-found-eq0.true ∙ ap (λ (x : View). head_slot_view_empty b x) (c.load_size-size.ensures.size.0 ∙ sized_none c.load_size-size.result (view c.args.cpu.now) c.requires.may.idle);
-  takes =
-      let b = c.args.band in let v = view c.args.cpu.now in let k = setup c.args.shared.now in let zero_ = c.if-found-eq0.true in
-      let loaded = c.load_size-size.ensures.size.0 ∙ sized_none c.load_size-size.result v c.requires.may.idle in
-      let head = ap (λ (x : View). (at b x.holder.ends).head) loaded in (
-        c.head_slot-found.ensures.none zero_ ∙ ap (λ (x : View). head_slot_view_empty b x) loaded,
-        c.load_size-size.result,
-        c.head_slot-found.ensures.made ∙ (λ j. c.load_size-size.ensures.made j ⊳ load_slot_log k b (head j) (zero_ j)),
-      );
   packet = search rules;
   at = λ second here. let b = c.args.band in let v = view c.args.cpu.now in let loaded = c.load_size-size.ensures.size.0 ∙ sized_none c.load_size-size.result v c.requires.may.idle in
       let none_ = c.head_slot-found.ensures.none c.if-found-eq0.true ∙ ap (λ (x : View). head_slot_view_empty b x) loaded in
@@ -117,18 +106,6 @@ returns g c = record {
       let l = c.load_size-size.ensures.makes in let h = c.head_slot-found.ensures.makes in let d = c.discard_one.ensures in let left = left-is g c in
       ((d.seat.0 ∙ (h.seat.0 ∙ l.seat.0), d.seat.1 ∙ (h.seat.1 ∙ l.seat.1)), ap (λ (x : Standing). x.indices) left ∙ (h.places ∙ l.places), ap (λ (x : Standing). x.slot) left ∙ (h.has ∙ l.has));
   knows = taken-is g c;
-  takes =
-      let b = c.args.band in let v = view c.args.cpu.now in let found = c.head_slot-found.result in let n = found - 1 in let own : Ends = at b v.holder.ends in let k = setup c.args.shared.now in
-      let loaded = c.load_size-size.ensures.size.0 ∙ sized_none c.load_size-size.result v c.requires.may.idle in
-      let took = c.head_slot-found.ensures.taken c.if-found-eq0.false ∙ ap (λ (x : View). head_slot_view b n x) loaded in
-      let ends : at b (view c.head_slot-found.new.cpu).holder.ends ≡ taken_on own = ap (λ (x : View). at b x.holder.ends) took ∙ at_put_same b (taken_on own) v.holder.ends in
-      let some_ = c.if-found-eq0.false in let back : found ≡ n + 1 = omega arith in
-      let head = ap (λ (x : View). (at b x.holder.ends).head) loaded in
-      let size : c.load_size-size.result ≡ v.holder.size = c.load_size-size.ensures.holder (ap holds_lock c.requires.may.at.1) in
-      let about : (view c.head_slot-found.new.cpu).share.about ≡ k = ap (λ (x : View). x.share.about) took ∙ c.requires.seat.2 in
-      let looked : steps c.head_slot-found.new.cpu ≡ steps c.args.cpu.now ⊳ load_size_log c.load_size-size.result ⊳ load_slot_log k b own.head (n + 1) =
-      c.head_slot-found.ensures.made ∙ (λ j. c.load_size-size.ensures.made j ⊳ load_slot_log k b (head j) (back j)) in
-      (taken-is g c, c.load_size-size.result, ap (λ (x : Standing). x.steps) (left-is g c) ∙ (λ j. zeroed (about j) b (own.head + 1) (emptied_count (size j) (taken_on own)) (looked j)));
   packet =
       let loaded = c.load_size-size.ensures.size.0 ∙ sized_none c.load_size-size.result (view c.args.cpu.now) c.requires.may.idle in
       subst (λ (x : View). IsPacketOf x.share.about (c.head_slot-found.result - 1)) loaded (c.head_slot-found.ensures.known c.if-found-eq0.false);

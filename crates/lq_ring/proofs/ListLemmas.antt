@@ -1,21 +1,17 @@
--- What lists of steps leave in the log, said as the crates above cite it.
+-- What the lists of the calls leave of a seat, and what they tell of it.
 use Rattle.std.proofs.Common.{◌≡◌, ◌≢◌, Bool, true, false, Option, Some, slice_get, ne_eqb, arith, ℕ, ◌+◌, ◌-◌, List, [], ◌∷◌, Result, refl, sym, ap, ◌∙◌}
 use Rattle.std.specs.Prelude.{MatchResult, Ok, Err, if◌then◌else◌}
 use Rattle.lq_model.specs.declared.fate.Fate.TheVariants as fate
-use Rattle.lq_ring_core.specs.Ring.{next_place}
 use Rattle.lq_ring_core.specs.declared.ring.Full.{Full}
-use Rattle.lq_band_laws.specs.Ring.{Ends, IsAtRest, Lock, locked_at, taken_on, with_room}
+use Rattle.lq_band_laws.specs.Ring.{Ends, IsAtRest, locked_at, taken_on}
 use Rattle.lq_band_laws.specs.Three.{at, put}
 use Rattle.lq_table.specs.Fates.{settle_view_owed}
-use Rattle.lq_table.specs.Made.{Made, ◌⊳◌}
-use Rattle.lq_table.specs.Producers.{SeesEnd, give_producer_log, load_size_log, load_size_view, load_slot_log, store_slot_log, with_lock_at}
-use Rattle.lq_table.specs.Step.{LoadProducer, PurgeSlot, Settle, Standing, Step, TakeProducer, purge_left, purge_of, step_leaves, steps_leave, steps_tell}
-use Rattle.lq_table.specs.Views.{Known, Left, no_left, Setup, View}
-use Rattle.lq_ring.specs.Put.{dropping_full, no_locks, putting}
+use Rattle.lq_table.specs.Producers.{SeesEnd, with_lock_at}
+use Rattle.lq_table.specs.Step.{PurgeSlot, Settle, Standing, Step, purge_left, purge_of, step_leaves, steps_leave, steps_tell}
+use Rattle.lq_table.specs.Views.{Left, no_left, View}
+use Rattle.lq_ring.specs.Put.{dropping_full, putting}
 use Rattle.lq_ring.specs.Resized.{HoldOwnPackets, IsKnownHeld}
-use Rattle.lq_ring.specs.StepLists.{FindsNone, PurgeOne, PurgesNext, DroppedFull, Gets, Joined, LockProducer, Loses, ProduceLocked, TurnAll, TurnsThree, Waits, discard_steps}
-use Rattle.lq_ring.specs.Steps.{FindsFull, FindsFullAt, LocksProducer, Puts, PutsAt, Spins, held as spun_held, lost as spun_lost}
-use Rattle.lq_ring.proofs.PutSteps.{lock1, lock2}
+use Rattle.lq_ring.specs.StepLists.{FindsNone, PurgeOne, PurgesNext, DroppedFull, Joined, ProduceLocked, TurnAll, TurnsThree, discard_steps}
 use Rattle.lq_ring.proofs.TakeSteps.{taken_batch, takes_end}
 use Rattle.lq_ring.proofs.ZeroSteps.{discard_leaves}
 use Rattle.std.specs.Option.{unwrap_or}
@@ -27,27 +23,6 @@ use Rattle.lq_band_laws.proofs.Three.{at_put_same}
 use Rattle.lq_table.specs.Purges.{first_purge, purge_slot_view, purge_slot_view_empty}
 
 -- A PUT
-
-pub locks_log : {band index : ℕ} (xs : List Step) → LockProducer band index xs → (s : Standing) (old : List Made) → Spins band old s.steps → LocksProducer band index old (steps_leave xs s).steps
-locks_log {band} {index} _ (Waits {seen} {rest} odd h) s old w = locks_log rest h (step_leaves (LoadProducer band seen) s) old (spun_held s.steps seen odd w)
-locks_log {band} {index} _ (Loses {seen} {rest} even h) s old w =
-    locks_log rest h (step_leaves (TakeProducer band seen false) (step_leaves (LoadProducer band seen) s)) old (spun_lost s.steps seen even w)
-locks_log {band} {index} _ (Gets {seen} even is) s old w = (s.steps, seen, w, even, is, refl)
-
-module _ (band index n : ℕ) (m : Standing) (had : m.view.locks ≡ put band (locked_at index) no_locks) where
-  looked : (size : ℕ) → (at band (load_size_view size m.view).locks).index ≡ index
-  looked size = ap (λ (l : Lock). l.index) (lock1 band size index n m.view (load_size_view size m.view) had refl)
-
-  roomy : (size : ℕ) → (let v = load_size_view size m.view in at band (with_lock_at band (with_room (at band v.locks)) v).locks).index ≡ index
-  roomy size = let v = load_size_view size m.view in ap (λ (l : Lock). l.index) (lock2 band size index n m.view v had refl (with_lock_at band (with_room (at band v.locks)) v) refl)
-
-  pub put_log : (answer : Result (Unit {0}) Full) (rest : List Step) → ProduceLocked band index n answer rest
-      → MatchResult answer (λ _. PutsAt m.view.share.about band index n m.steps (steps_leave rest m).steps) (λ full. FindsFullAt m.view.share.about band index full.seen m.steps (steps_leave rest m).steps)
-  put_log _ _ (Joined {size}) = (
-    size,
-    (λ j. m.steps ⊳ load_size_log size ⊳ load_slot_log m.view.share.about band (looked size j) 0 ⊳ store_slot_log m.view.share.about band (roomy size j) (n + 1) ⊳ give_producer_log band (next_place size index)),
-  )
-  put_log _ _ (DroppedFull {size} {full}) = (size, (λ j. m.steps ⊳ load_size_log size ⊳ load_slot_log m.view.share.about band (looked size j) (full.seen + 1) ⊳ give_producer_log band index))
 
 pub put_keeps : {band index n : ℕ} (answer : Result (Unit {0}) Full) (rest : List Step) → ProduceLocked band index n answer rest → (s : Standing) → ((steps_leave rest s).station ≡ s.station) × ((steps_leave rest s).slot ≡ s.slot)
 put_keeps _ _ (Joined {size}) s = (refl, refl)
@@ -63,12 +38,6 @@ pub put_knows : (answer : Result (Unit {0}) Full) (b n i : ℕ) (v m w : View) �
     → MatchResult answer (λ _. w ≡ putting b n v) (λ full. w ≡ dropping_full n full.seen v)
 put_knows (Ok x) b n i v m w l e = e ∙ ap (putting b n) l
 put_knows (Err full) b n i v m w l e = e ∙ ap (dropping_full n full.seen) l
-
-pub put_says : (answer : Result (Unit {0}) Full) (k : Setup) (b n i : ℕ) (old new : Known) (locked : List Made) → LocksProducer b i old.steps locked
-    → MatchResult answer (λ _. new.view ≡ putting b n old.view) (λ full. new.view ≡ dropping_full n full.seen old.view)
-    → MatchResult answer (λ _. PutsAt k b i n locked new.steps) (λ full. FindsFullAt k b i full.seen locked new.steps) → MatchResult answer (λ _. Puts k b n old new) (λ full. FindsFull k b n full.seen old new)
-put_says (Ok x) k b n i old new locked h e at_ = (e, i, locked, h, at_)
-put_says (Err full) k b n i old new locked h e at_ = (e, i, locked, h, at_)
 
 -- A BAND IS TURNED
 
