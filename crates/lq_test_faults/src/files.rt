@@ -21,7 +21,7 @@ const FILES: [&str; 5] = [
 
 /// The plan and the capture are read from real files, and the outputs are written to real files.
 #[test]
-#[tactic(auto, using(lq_top::proofs::NameLemmas::may_any))]
+#[tactic(auto, using(lq_test_fixture::proofs::NameLemmas::may_any))]
 fn two_stations_over_real_files(rt: HostRuntime) -> Result<(), Fail> {
     let alloc = rt.alloc();
     let [plan, captured, first, second, told] = FILES;
@@ -117,7 +117,7 @@ impl<H: Host + Drop> Host for Listening<H> {
 /// One byte more than a capture may have, whatever the bytes are: these have no magic number either. The file has a length
 /// and no bytes of its own, so that none of them are made or copied before they are read.
 #[test]
-#[tactic(auto, using(lq_top::proofs::NameLemmas::may_any))]
+#[tactic(auto, using(lq_test_fixture::proofs::NameLemmas::may_any))]
 fn refuses_a_capture_that_is_too_long(rt: HostRuntime) -> Result<(), Fail> {
     let alloc = rt.alloc();
     let [plan, captured, first] = [
@@ -185,7 +185,7 @@ const OUTPUTS: [(&str, &[usize]); 4] = [
 ];
 
 #[test]
-#[tactic(auto, using(lq_top::proofs::NameLemmas::may_any))]
+#[tactic(auto, using(lq_test_fixture::proofs::NameLemmas::may_any))]
 fn a_root_over_real_files(rt: HostRuntime) -> Result<(), Fail> {
     let alloc = rt.alloc();
     let folder = "lq_test_faults_group";
@@ -221,7 +221,7 @@ fn a_root_over_real_files(rt: HostRuntime) -> Result<(), Fail> {
 }
 
 #[test]
-#[tactic(auto, using(lq_top::proofs::NameLemmas::may_any))]
+#[tactic(auto, using(lq_test_fixture::proofs::NameLemmas::may_any))]
 fn a_tap_over_real_files(rt: HostRuntime) -> Result<(), Fail> {
     let alloc = rt.alloc();
     let folder = "lq_test_faults_tap";

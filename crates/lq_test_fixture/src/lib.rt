@@ -97,7 +97,7 @@ pub fn unheld<R>(rt: &R, alloc: Global) -> Resources<'_, R, Free> {
 }
 
 /// The top call with these words, on a bench of so many devices.
-#[tactic(auto, using(lq_top::proofs::NameLemmas::may_any))]
+#[tactic(auto, using(crate::proofs::NameLemmas::may_any))]
 pub fn call_on<R: Threads + Wait + Sync, G: Gate>(
     on: &Resources<'_, R, G>,
     words: &[&str],
