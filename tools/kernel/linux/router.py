@@ -134,7 +134,7 @@ def enter():
     words = ["unshare", "--net", "--mount", *([] if os.geteuid() == 0 else ["--user", "--map-root-user"])]
     if subprocess.run([*words, "true"], capture_output=True, check=False).returncode:
         raise Failed(f"this machine gives no network namespaces: `{' '.join(words)} true` fails", CANT_BE_HAD)
-    os.execvpe(words[0], [*words, sys.executable, *sys.argv], {**os.environ, INSIDE: "1"})
+    os.execvpe(words[0], [*words, sys.executable, "-B", *sys.argv], {**os.environ, INSIDE: "1"})
 
 
 def make_router(mtu):
