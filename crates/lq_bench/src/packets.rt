@@ -78,7 +78,7 @@ pub fn table<'a>(
     let Ok(station) = Station::new(alloc, 0, device) else {
         return None;
     };
-    match Shared::make(alloc, infos, 0, plan, 1, OWNERS, station) {
+    match Shared::make(alloc, infos, 0, plan, OWNERS, station) {
         Ok(made) => Some(made),
         Err(_) => None,
     }

@@ -60,7 +60,7 @@ fn empty_table<'a>(alloc: Global) -> Result<(Shared<'a, BenchDevice>, Cpu<BenchD
     let Ok(station) = Station::new(alloc, 0, BenchDevice::new(alloc)) else {
         return Err(NoMemory);
     };
-    match Shared::make(alloc, &[], 0, PLAIN, 1, SEATS, station) {
+    match Shared::make(alloc, &[], 0, PLAIN, SEATS, station) {
         Ok(made) => Ok(made),
         Err(_) => Err(NoMemory),
     }

@@ -1,54 +1,51 @@
 -- Steps of the end of a station: one more, and one after the other.
-use Rattle.std.proofs.Common.{◌≡◌, ℕ, suc, ◌+◌, inr, Bool, true, false, not, [], ◌∷◌, Option, Some, slice_get, sym, subst, ap, ◌∙◌, arith}
+use Rattle.std.proofs.Common.{◌≡◌, ℕ, suc, ◌+◌, ◌*◌, ◌<◌, ◌≤◌, Bool, true, false, not, List, [], ◌∷◌, ◌++◌, Option, Some, slice_get, sym, subst, ap, ◌∙◌, arith}
 use Rattle.std.specs.Option.{option_map_or}
-use Rattle.lq_model.specs.Plan.{owner_in}
+use Rattle.lq_model.specs.Plan.{owner_in, rank_in, station_in}
 use Rattle.lq_model.specs.declared.fate.Info.{Info}
-use Rattle.lq_table.specs.Views.{Setup, Known}
-use Rattle.lq_table.specs.Controls.{begin_control_view, end_control_view}
+use Rattle.lq_table.specs.Views.{Setup}
 use Rattle.lq_table.specs.Moves.{is_set}
-use Rattle.lq_table.specs.Made.{◌⊳◌, load_base_log}
-use Rattle.lq_table.specs.Step.{BeginControl, EndControl, LoadInside, LoadState, LoadTurn, LoadXoff, MakesSteps}
-use Rattle.lq_table.specs.Turns.{load_turn_log}
+use Rattle.lq_table.specs.Step.{BeginControl, EndControl, LoadInside, LoadState, LoadTurn, LoadXoff, MakesSteps, Standing, Step}
 use Rattle.lq_table.specs.declared.shared.Cpu.{Cpu}
-use Rattle.lq_run.proofs.StepsThen.{makes_then}
-use Rattle.lq_qdisc.specs.StepLists.{LeadsBy}
-use Rattle.lq_control.specs.Control.{IsServed}
-use Rattle.lq_control.specs.Steps.{DrainsBy, known_after}
-use Rattle.lq_qdisc.specs.Sends.{WakesBelow}
-use Rattle.lq_control.specs.EndSteps.{AllLeft, Look, LookLeft, SendsIfLeft, SendsLeft, SendsLeftBelow, ServesOn, ServesToEnd, StillScheduled, one_more, xoff_steps}
-use Rattle.lq_control.specs.declared.finishes.Seen.{Seen}
+use Rattle.lq_ring.specs.StepLists.{MakesStepsFrom}
+use Rattle.lq_ring.proofs.StepsThen.{makes_then}
+use Rattle.lq_qdisc.specs.StepLists.{Then, WakeEach}
+use Rattle.lq_qdisc.specs.declared.answers.Sending.{Sending}
+use Rattle.lq_qdisc.proofs.ListLemmas.{from_there}
+use Rattle.lq_control.specs.Steps.{Drain, Finding}
+use Rattle.lq_control.specs.EndSteps.{AllLeft, IsLeft, Look, LookLeft, SendLeft, SendLeftBelow, ServeEach, ServedMore, StillScheduled, Transmit, WasSent, xoff_steps}
 use Rattle.lq_control.specs.declared.finishes.Seen.TheVariants as seen
-use Rattle.lq_control.proofs.StepLemmas.{both}
+use Rattle.lq_control.proofs.StepLemmas.{and_then, finds}
 
-pub sends_more : (k : Setup) (n : ℕ) (old a b : Known) → SendsLeftBelow k n old a → SendsIfLeft k n a b → SendsLeftBelow k (n + 1) old b
-sends_more k n old a b h one = let up : suc n ≡ n + 1 = omega arith in subst (λ (m : ℕ). SendsLeftBelow k m old b) up (a, h, one)
+-- the station of a packet with this entry
+station_of : (k : Setup) (n : ℕ) (info : Info) → slice_get k.infos n ≡ Some info → info.station ≡ k.station → station_in k.infos n ≡ k.station
+station_of k n info here own = ap (λ (o : Option Info). option_map_or (λ (i : Info). i.station) o 0) here ∙ own
 
--- a packet of the station, whose owner's turn word was loaded
-pub sends_if_left : (k : Setup) (n turn : ℕ) (info : Info) (old mid new : Known) → slice_get k.infos n ≡ Some info → info.station ≡ k.station → mid.view ≡ old.view → mid.steps ≡ old.steps ⊳ load_turn_log info.owner turn
-    → SendsLeft k n turn mid new → SendsIfLeft k n old new
-sends_if_left k n turn info old mid new here at same made h =
-    let owner : info.owner ≡ owner_in k.infos n = sym (ap (λ (o : Option Info). option_map_or (λ (i : Info). i.owner) o 0) here) in
-    inr (
-      ap (λ (o : Option Info). option_map_or (λ (i : Info). i.station) o 0) here ∙ at,
-      turn,
-      subst (λ (x : Known). SendsLeft k n turn x new) (both mid (known_after (LoadTurn info.owner turn ∷ []) old) same made ∙ ap (λ (o : ℕ). known_after (LoadTurn o turn ∷ []) old) owner) h,
-    )
+module _ {D : Type 0} (k : Setup) where
+  pub sends_more : (n : ℕ) {b m a : Cpu D} → MakesStepsFrom (SendLeftBelow k n) b m → MakesStepsFrom (SendLeft k n) m a → MakesStepsFrom (SendLeftBelow k (n + 1)) b a
+  sends_more n {b} {m} {a} h one = let up : suc n ≡ n + 1 = omega arith in subst (λ (i : ℕ). MakesStepsFrom (SendLeftBelow k i) b a) up (and_then (SendLeftBelow k n) (SendLeft k n) h one)
 
-pub serves_more : (k : Setup) (opened : Bool) (old a begun looked left woken next : Known) → ServesOn k old a → begun.view ≡ begin_control_view a.view → (found : ℕ) × (begun.steps ≡ a.steps ⊳ load_base_log found) → LeadsBy (λ s. Look k.queues seen.Going) begun looked
-    → left.view ≡ end_control_view looked.view → (found : ℕ) × (left.steps ≡ looked.steps ⊳ load_base_log found) → WakesBelow k k.queues opened left woken → DrainsBy k woken next → ServesOn k old next
-serves_more k opened old a begun looked left woken next h bv b l ev e w d =
-    one_more a looked woken next b.0 e.0 opened h (subst (λ (x : Known). LeadsBy (λ s. Look k.queues seen.Going) x looked) (both begun (known_after (BeginControl b.0 ∷ []) a) bv b.1) l)
-    (subst (λ (x : Known). WakesBelow k k.queues opened x woken) (both left (known_after (EndControl e.0 ∷ []) looked) ev e.1) w) d
+  -- a packet of the station, whose owner's turn word was loaded
+  module _ (n turn : ℕ) (info : Info) (here : slice_get k.infos n ≡ Some info) (own : info.station ≡ k.station) where
+    loaded : {b m : Cpu D} → MakesSteps (LoadTurn info.owner turn ∷ []) b m → MakesSteps (LoadTurn (owner_in k.infos n) turn ∷ []) b m
+    loaded {b} {m} x = subst (λ (o : ℕ). MakesSteps (LoadTurn o turn ∷ []) b m) (sym (ap (λ (o : Option Info). option_map_or (λ (i : Info). i.owner) o 0) here)) x
 
-pub serves_to_end : (k : Setup) (answer is : Seen) (old a begun looked : Known) → answer ≡ is → ServesOn k old a → begun.view ≡ begin_control_view a.view → (found : ℕ) × (begun.steps ≡ a.steps ⊳ load_base_log found) → LeadsBy (λ s. Look k.queues answer) begun looked
-    → IsServed old.view looked.view → ServesToEnd k is old looked
-serves_to_end k answer is old a begun looked same h v b l served = record {
-  last = a;
-  begun = b.0;
-  serves = h;
-  looks = subst (λ (x : Known). LeadsBy (λ s. Look k.queues is) x looked) (both begun (known_after (BeginControl b.0 ∷ []) a) v b.1) (subst (λ (x : Seen). LeadsBy (λ s. Look k.queues x) begun looked) same l);
-  served = served;
-}
+    pub sends_left : (answer : Sending) {b m a : Cpu D} → turn ≤ 2 * rank_in k.infos n → MakesSteps (LoadTurn info.owner turn ∷ []) b m → MakesStepsFrom (Then (Transmit k n answer) (Drain k)) m a
+        → MakesStepsFrom (SendLeft k n) b a
+    sends_left answer {b} {m} {a} low x y = let l = loaded x in (LoadTurn (owner_in k.infos n) turn ∷ y.0, IsLeft {turn = turn} {answer = answer} (station_of k n info here own) low (from_there (Then (Transmit k n answer) (Drain k)) l y.1), makes_then l y.2)
+
+    pub sends_none : {b a : Cpu D} → 2 * rank_in k.infos n < turn → MakesSteps (LoadTurn info.owner turn ∷ []) b a → MakesStepsFrom (SendLeft k n) b a
+    sends_none past x = (LoadTurn (owner_in k.infos n) turn ∷ [], WasSent (station_of k n info here own) past, loaded x)
+
+  -- one more round of looks, wakes and soft interrupts
+  pub serves_more : (opened : Bool) {b one two three four five a : Cpu D} → MakesStepsFrom (ServeEach k) b one → (found : ℕ) × MakesSteps (BeginControl found ∷ []) one two
+      → MakesStepsFrom (λ s. Look k.queues seen.Going) two three → (found : ℕ) × MakesSteps (EndControl found ∷ []) three four → MakesStepsFrom (λ s. WakeEach k.queues opened) four five → MakesStepsFrom (Drain k) five a
+      → MakesStepsFrom (ServeEach k) b a
+  serves_more opened h begin look end wake drain =
+      let looks : Standing → List Step → Type 0 = λ s. Look k.queues seen.Going in let wakes : Standing → List Step → Type 0 = λ s. WakeEach k.queues opened in
+      let third : Standing → List Step → Type 0 = Then wakes (Drain k) in let second : Standing → List Step → Type 0 = Then (Finding EndControl) third in let first : Standing → List Step → Type 0 = Then looks second in
+      let y = and_then (Finding BeginControl) first (finds BeginControl begin) (and_then looks second look (and_then (Finding EndControl) third (finds EndControl end) (and_then wakes (Drain k) wake drain))) in
+      (h.0 ++ y.0, ServedMore {opened = opened} h.1 (from_there (Then (Finding BeginControl) first) h.2 y.1), makes_then h.2 y.2)
 
 -- what the state tells where no call was found inside
 pub left_by : (answer : Bool) (state : ℕ) → is_set 1 state ≡ not answer → LookLeft answer (LoadInside 0 ∷ LoadState state ∷ [])

@@ -14,7 +14,7 @@ use Rattle.lq_table.specs.declared.shared.Cpu.{Cpu}
 use Rattle.lq_control.specs.Finish.{AreKept, AreStopsBelow, Hangs, IsActiveOrPurged, IsLook, IsOver}
 use Rattle.lq_control.specs.EndSteps.{are_quiet}
 use Rattle.lq_control.specs.Seats.{IsFirstReadyAt}
-use Rattle.lq_run.proofs.StepsThen.{makes_then}
+use Rattle.lq_table.proofs.StepsThen.{makes_then}
 use Rattle.lq_control.proofs.FinishSteps.{control_looked, hangs, is_up, kept_of, look_none, over_down}
 
 -- LOOKS

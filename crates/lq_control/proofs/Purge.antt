@@ -24,6 +24,10 @@ use Rattle.lq_ring.proofs.FatesOnto.{fates_append}
 use Rattle.lq_ring.proofs.TakeSteps.{rest_put}
 use Rattle.lq_control.specs.Control.{all_purged, IsPurgeDone, IsPurged}
 
+-- all packets of the band that a purge has come to are purged, and so many they are
+abbrev pub IsEmptied : ℕ → ℕ → View → View → Type 0
+IsEmptied band count v w = (u : Purge) (l : Left) → v.control.purge ≡ Some u → v.holder.left ≡ Some l → IsBandPurged band u l v w × (count ≡ length (held_of (at band l.bands)))
+
 -- what the takes of a purge leave as it was
 pub record IsStill (v w : View) : Type 0 where
   pub place : w.place ≡ v.place
@@ -134,7 +138,7 @@ purge3 = next_band purge2
 abbrev pub purge4 : Purge
 purge4 = record purge3 { missed = true }
 
-abbrev paid_slot : Cause → Option ℕ → View → View
+abbrev pub paid_slot : Cause → Option ℕ → View → View
 paid_slot cause s v = record v { packets = record v.packets { owed = None }; settled = fates_onto (fate.Purged cause) (option_to_list s) v.settled }
 
 module _ (cause : Cause) (s : Option ℕ) (l : Left) (v v1 v2 v3 v4 v5 v6 : View) (cause_is : l.cause ≡ cause) (e1 : v1 ≡ paid_slot cause s v) (p0 : IsBandPurged 0 first_purge l v1 v2) (p1 : IsBandPurged 1 purge1 (left1 l) v2 v3) (p2 : IsBandPurged 2 purge2 (left2 l) v3 v4)

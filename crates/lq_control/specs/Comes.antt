@@ -1,5 +1,5 @@
--- What the relations of control's calls come to.
-use Rattle.std.specs.Prelude.{◌≡◌, ◌⊎◌, ℕ, List, ◌∷◌, ◌++◌, length}
+-- What the steps of control's calls come to.
+use Rattle.std.specs.Prelude.{◌≡◌, ◌⊎◌, ℕ, List, ◌∷◌, ◌++◌, length, true, Contains}
 use Rattle.lq_model.specs.Account.{Event, Purge, Resize, held, dropped_in}
 use Rattle.lq_model.specs.Device.{DeviceState}
 use Rattle.lq_model.specs.declared.fate.Cause.TheVariants as cause
@@ -10,7 +10,7 @@ use Rattle.lq_table.specs.Sees.{IsSole, account_of}
 use Rattle.lq_table.specs.Views.{View, Setup}
 use Rattle.lq_qdisc.specs.Calls.{KeepsFates}
 use Rattle.lq_control.specs.Control.{IsKeptByControl, KeepsDevice, Stores}
-use Rattle.lq_control.specs.Finish.{AreAllDone, ArePurgesHung}
+use Rattle.lq_control.specs.Finish.{AreAllDone}
 
 -- these events came, what control keeps is kept, and so many packets are purged by this event: for a seat that has the table alone all
 -- that its account holds
@@ -39,15 +39,14 @@ pub record SwapsFor (came went : DeviceState) (v w : View) : Type 0 where
   pub gone : w.control.gone ≡ (latest_unit v.share.about.station (units_of v.trail), went.accepted) ∷ v.control.gone
   pub has_served : HasServed v.share.about.infos v.share.about.station v.control.origin went
 
--- nothing comes on the trail, and 0 is counted; or the purge of what a hung device left, by the account's unit
-abbrev pub PurgesAtMost : ℕ → View → View → Type 0
-PurgesAtMost count v w = ((w.trail ≡ v.trail) × (count ≡ 0)) ⊎ (w.trail ≡ Purge (cause.Hung (account_of w).unit) ∷ v.trail)
-
 -- all packets of the station were transmitted, and fates that were stored stay so
 pub record ComesToEnd (k : Setup) (count : ℕ) (v w : View) : Type 0 where
   pub done : AreAllDone k w.turns
   pub fates : KeepsFates v w
-  pub hung : ArePurgesHung v w
-  -- where all were transmitted before
+  -- each purge of a hung station on the trail came before, or is by the present unit, whose device hangs
+  pub hung : (unit : ℕ) → Contains w.trail (Purge (cause.Hung unit))
+      → Contains v.trail (Purge (cause.Hung unit)) ⊎ (((account_of w).unit ≡ unit) × (w.whole.state.station.device.hung ≡ true))
+  -- Where all were transmitted before, nothing comes on the trail, and 0 is counted; or the purge of what a hung device left, by the
+  -- account's unit.
   pub turns : AreAllDone k v.turns → w.turns ≡ v.turns
-  pub purges : AreAllDone k v.turns → PurgesAtMost count v w
+  pub purges : AreAllDone k v.turns → ((w.trail ≡ v.trail) × (count ≡ 0)) ⊎ (w.trail ≡ Purge (cause.Hung (account_of w).unit) ∷ v.trail)

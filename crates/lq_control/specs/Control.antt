@@ -1,11 +1,9 @@
 -- What the calls of control make of what the first seat knows.
-use Rattle.std.specs.Prelude.{◌≡◌, ◌<◌, ℕ, true, false, List, ◌∷◌, ◌++◌, length, Option, Some, None, Contains}
+use Rattle.std.specs.Prelude.{◌≡◌, ◌<◌, ℕ, true, false, List, ◌∷◌, ◌++◌, Option, None, Contains}
 use Rattle.std.specs.Option.{option_map, option_to_list}
-use Rattle.lq_account_laws.specs.Trail.{down_of}
-use Rattle.lq_model.specs.Account.{Event, Down, Purge as PurgeEvent, Resize, Swap}
+use Rattle.lq_model.specs.Account.{Event, Down, Purge as PurgeEvent}
 use Rattle.lq_model.specs.Band.{Band, held_of}
 use Rattle.lq_model.specs.Control.{after_purge}
-use Rattle.lq_model.specs.Device.{DeviceState}
 use Rattle.lq_model.specs.declared.fate.Cause.{Cause}
 use Rattle.lq_model.specs.declared.fate.Cause.TheVariants as cause
 use Rattle.lq_model.specs.declared.fate.Fate.{Fate}
@@ -14,12 +12,10 @@ use Rattle.lq_model.specs.declared.machine.Phase.{Phase}
 use Rattle.lq_model.specs.declared.machine.Position.TheVariants.{Control}
 use Rattle.lq_band_laws.specs.Three.{Three}
 use Rattle.lq_band_laws.specs.Ring.{Ends}
-use Rattle.lq_table.specs.Views.{View, HolderPart, Left, WholePart}
-use Rattle.lq_table.specs.Purges.{AreKnown}
+use Rattle.lq_table.specs.Views.{View, WholePart}
 use Rattle.lq_table.specs.Rule.{IsResting, units_of}
-use Rattle.lq_table.specs.Moves.{IsKnownSlot}
-use Rattle.lq_table.specs.Locks.{try_lock_view_in_control, locked_to}
-use Rattle.lq_table.specs.Sees.{Solo, IsSole, solo, heard, device_to}
+use Rattle.lq_table.specs.Locks.{locked_to}
+use Rattle.lq_table.specs.Sees.{Solo, IsSole, solo, heard}
 use Rattle.lq_table.specs.States.{missed_to, draining_to}
 use Rattle.lq_qdisc.specs.Calls.{KeepsFates}
 use Rattle.lq_ring.specs.Fates.{fates_onto}
@@ -71,20 +67,6 @@ OwesNoInterrupt v = (v.place.raised ≡ false) × (IsSole v → v.whole.qdisc.sc
 abbrev pub deactivated_solo : ℕ → Solo → Solo
 deactivated_solo event s = locked_to false (missed_to false (draining_to false (heard (PurgeEvent (cause.Event event)) (locked_to true (heard (Down event) s)))))
 
--- the empty rings of the station have this length
-abbrev pub relengthed_solo : ℕ → ℕ → Solo → Solo
-relengthed_solo len event s = locked_to false (heard (Resize len event) (locked_to true s))
-
--- the station has this unit and its device
-abbrev pub swapped_solo : ℕ → DeviceState → Solo → Solo
-swapped_solo unit device s = locked_to false (device_to device (heard (Swap unit) (locked_to true s)))
-
--- THE RUN LOCK
-
--- the run lock is got, with the station: no take, no resize and no swap is half done
-abbrev pub GetsStation : View → View → Type 0
-GetsStation v w = (d : HolderPart) × (w ≡ try_lock_view_in_control d v) × IsResting d.size d.ends × (0 < d.size) × (d.hand ≡ None) × (d.resizing ≡ None) × (d.shut ≡ None) × IsKnownSlot v.share.about d.slot
-
 -- SWAPS
 
 -- the unit is above every one that the station had
@@ -105,14 +87,6 @@ all_purged slot bands = option_to_list slot ++ (held_of bands.low ++ (held_of ba
 -- a purge by this cause owes its fate to the packet that lay in the requeue slot, if there was one
 abbrev pub OwesPurged : Cause → Option ℕ → View → Type 0
 OwesPurged cause s v = v.packets.owed ≡ option_map (λ n. (n, fate.Purged cause)) s
-
--- that fate is stored
-abbrev pub with_slot_purged : Cause → Option ℕ → View → View
-with_slot_purged cause s v = record v { packets = record v.packets { owed = None }; settled = fates_onto (fate.Purged cause) (option_to_list s) v.settled }
-
--- and the packet counted
-abbrev pub IsSlotPurged : Cause → ℕ → View → View → Type 0
-IsSlotPurged cause count v w = (s : Option ℕ) → OwesPurged cause s v → (w ≡ with_slot_purged cause s v) × (count ≡ length (option_to_list s))
 
 -- A purge is done, whose event came before: each of these packets has Purged as its fate, which is stored, and MISSED and
 -- DRAINING are clear.
@@ -144,12 +118,3 @@ pub record IsPurged (cause : Cause) (purged : List ℕ) (v w : View) : Type 0 wh
   pub rests : IsResting v.holder.size ends
   pub told : whole.told ≡ v.whole.told
   pub alone : solo (record v { whole = whole }) ≡ missed_to false (draining_to false (heard (PurgeEvent cause) (solo v)))
-
--- all that a purge has begun with is purged and counted
-abbrev pub AllArePurged : Cause → ℕ → View → View → Type 0
-AllArePurged cause count v w = (s : Option ℕ) (l : Left) → OwesPurged cause s v → v.holder.left ≡ Some l → IsPurgeDone cause (all_purged s l.bands) v w × (count ≡ length (all_purged s l.bands))
-
--- all that the requeue slot and these bands hold is purged, by the event that deactivated the station, and counted
-abbrev pub IsPurgedByDown : ℕ → View → View → Type 0
-IsPurgedByDown count v w = (event : ℕ) × (bands : Three Band) × (down_of v.trail ≡ Some event) × IsPurged (cause.Event event) (all_purged v.holder.slot bands) v w
-    × (count ≡ length (all_purged v.holder.slot bands)) × AreKnown v bands

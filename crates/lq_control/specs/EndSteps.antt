@@ -1,46 +1,47 @@
--- What the end of a station does: the steps in the order in which they are made, and what the seat knows after them, with the values that
--- they found.
-use Rattle.std.specs.Prelude.{◌≡◌, ◌≢◌, ◌⊎◌, ◌*◌, ◌<◌, ◌≤◌, ℕ, zero, suc, Bool, true, false, not, ◌&&◌, ◌==◌, List, [], ◌∷◌, ◌++◌, length}
+-- The end of a station, by the lists of steps that its calls may make from where the seat stands, the first step first.
+use Rattle.std.specs.Prelude.{◌≡◌, ◌≢◌, ◌⊎◌, ◌*◌, ◌+◌, ◌<◌, ◌≤◌, ℕ, zero, suc, Bool, true, false, not, ◌&&◌, ◌==◌, List, [], ◌∷◌, ◌++◌, length, slice_set, is_some}
 use Rattle.lq_model.specs.Plan.{owner_in, rank_in, station_in}
 use Rattle.lq_model.specs.declared.fate.Cause.TheVariants as cause
-use Rattle.lq_qdisc.specs.Sends.{WakesBelow}
-use Rattle.lq_qdisc.specs.StepLists.{LeadsBy}
-use Rattle.lq_qdisc.specs.Steps.{ReleasesBy, TransmitsBy}
+use Rattle.lq_qdisc.specs.Sends.{came_as, trail_with}
+use Rattle.lq_run.specs.Steps.{End}
+use Rattle.lq_qdisc.specs.StepLists.{Coming, QueueXmit, Then, WakeEach}
 use Rattle.lq_qdisc.specs.declared.answers.Sending.{Sending}
-use Rattle.lq_table.specs.Views.{Setup, Known}
+use Rattle.lq_table.specs.Views.{Setup}
 use Rattle.lq_table.specs.Moves.{is_set}
-use Rattle.lq_table.specs.Step.{BeginControl, BeginHungPurge, EndControl, LoadInside, LoadLock, LoadState, LoadTurn, LoadXoff, Step}
+use Rattle.lq_table.specs.Step.{BeginControl, BeginHungPurge, EndControl, LoadInside, LoadLock, LoadState, LoadTurn, LoadXoff, Standing, Step, step_leaves, steps_leave}
 use Rattle.lq_control.specs.Control.{IsServed}
 use Rattle.lq_control.specs.Finish.{AreAllDone, IsSent, PurgesHung}
-use Rattle.lq_control.specs.Steps.{DrainsBy, LookInside, PurgesBy, TakeLock, Wait, known_after}
+use Rattle.lq_control.specs.Steps.{DevResetQueue, Drain, Finding, LookInside, Only, TakeLock, Wait}
 use Rattle.lq_control.specs.declared.finishes.Seen.{Seen}
 use Rattle.lq_control.specs.declared.finishes.Seen.TheVariants as seen
 
 -- WHAT IS LEFT
 
--- where its owner's turn word is at most twice the packet's rank it was left: it is transmitted, and soft interrupts are done
-abbrev pub SendsLeft : Setup → ℕ → ℕ → Known → Known → Type 0
-SendsLeft k n turn old new =
-    ((2 * rank_in k.infos n < turn) × (new ≡ old))
-    ⊎ ((turn ≤ 2 * rank_in k.infos n) × (answer : Sending) × (sent : Known) × TransmitsBy k n answer old sent × DrainsBy k sent new)
+-- a packet in its turn: what the seat then knows of turns and trail
+abbrev pub Transmit : Setup → ℕ → Sending → Standing → List Step → Type 0
+Transmit k n answer = Coming
+    (λ v w. (is_some (came_as k.infos n answer) ≡ true) × (w.turns ≡ slice_set v.turns (owner_in k.infos n) (2 * rank_in k.infos n + 2))
+    × (w.trail ≡ trail_with (came_as k.infos n answer) v))
+    (QueueXmit k n answer)
 
--- a packet of another station is passed over; else the turn word of its owner is loaded
-abbrev pub SendsIfLeft : Setup → ℕ → Known → Known → Type 0
-SendsIfLeft k n old new =
-    ((station_in k.infos n ≢ k.station) × (new ≡ old))
-    ⊎ ((station_in k.infos n ≡ k.station) × (turn : ℕ) × SendsLeft k n turn (known_after (LoadTurn (owner_in k.infos n) turn ∷ []) old) new)
+-- A packet of another station is passed over; else the turn word of its owner is loaded. Where that is at most twice the packet's rank the
+-- packet was left: it is transmitted, and soft interrupts are done.
+pub data SendLeft (k : Setup) (n : ℕ) (before : Standing) : List Step → Type 0 where
+  IsElsewhere : station_in k.infos n ≢ k.station → SendLeft k n before []
+  WasSent : {turn : ℕ} → station_in k.infos n ≡ k.station → 2 * rank_in k.infos n < turn
+      → SendLeft k n before (LoadTurn (owner_in k.infos n) turn ∷ [])
+  IsLeft : {turn : ℕ} {answer : Sending} {xs : List Step} → station_in k.infos n ≡ k.station → turn ≤ 2 * rank_in k.infos n
+      → Then (Transmit k n answer) (Drain k) (step_leaves (LoadTurn (owner_in k.infos n) turn) before) xs
+      → SendLeft k n before (LoadTurn (owner_in k.infos n) turn ∷ xs)
 
 -- the first so many packets, in ascending order
-abbrev pub SendsLeftBelow : Setup → ℕ → Known → Known → Type 0
-SendsLeftBelow k zero old new = new ≡ old
-SendsLeftBelow k (suc n) old new = (between : Known) × SendsLeftBelow k n old between × SendsIfLeft k n between new
+abbrev pub SendLeftBelow : Setup → ℕ → Standing → List Step → Type 0
+SendLeftBelow k zero = Only []
+SendLeftBelow k (suc n) = Then (SendLeftBelow k n) (SendLeft k n)
 
 -- all packets are, in ascending order: so each of the station was transmitted, and where each was before nothing changes
-pub record SendsAllLeft (k : Setup) (old new : Known) : Type 0 where
-  pub sends : SendsLeftBelow k (length k.infos) old new
-  pub brings : IsSent k old.view new.view
-  pub done : AreAllDone k new.view.turns
-  pub none : AreAllDone k old.view.turns → new.view ≡ old.view
+abbrev pub SendAllLeft : Setup → Standing → List Step → Type 0
+SendAllLeft k = Coming (λ v w. IsSent k v w × AreAllDone k w.turns × (AreAllDone k v.turns → w ≡ v)) (SendLeftBelow k (length k.infos))
 
 -- A LOOK AT THE WORDS
 
@@ -78,19 +79,16 @@ pub data Look (queues : ℕ) : Seen → List Step → Type 0 where
 -- SERVED TO THE END
 
 -- A look finds the station going on, the call of control is left, the queues are woken, and soft interrupts are done; and so on.
-pub data ServesOn (k : Setup) (old : Known) : Known → Type 0 where
-  none_yet : ServesOn k old old
-  one_more : (last looked woken next : Known) (begun left : ℕ) (opened : Bool) → ServesOn k old last
-      → LeadsBy (λ s. Look k.queues seen.Going) (known_after (BeginControl begun ∷ []) last) looked
-      → WakesBelow k k.queues opened (known_after (EndControl left ∷ []) looked) woken → DrainsBy k woken next → ServesOn k old next
+pub data ServeEach (k : Setup) (before : Standing) : List Step → Type 0 where
+  ServedNone : ServeEach k before []
+  ServedMore : {opened : Bool} {xs ys : List Step} → ServeEach k before xs
+      → Then (Finding BeginControl) (Then (λ s. Look k.queues seen.Going) (Then (Finding EndControl) (Then (λ s. WakeEach k.queues opened) (Drain k))))
+      (steps_leave xs before) ys
+      → ServeEach k before (xs ++ ys)
 
 -- up to a look that finds it otherwise; no event of control or the first sender came
-pub record ServesToEnd (k : Setup) (answer : Seen) (old new : Known) : Type 0 where
-  pub last : Known
-  pub begun : ℕ
-  pub serves : ServesOn k old last
-  pub looks : LeadsBy (λ s. Look k.queues answer) (known_after (BeginControl begun ∷ []) last) new
-  pub served : IsServed old.view new.view
+abbrev pub ServeToEnd : Setup → Seen → Standing → List Step → Type 0
+ServeToEnd k answer = Coming IsServed (Then (ServeEach k) (Then (Finding BeginControl) (λ before. Look k.queues answer)))
 
 -- THE PURGE OF A HUNG STATION
 
@@ -102,27 +100,14 @@ pub data LookLeft : Bool → List Step → Type 0 where
 
 -- Under the run lock, with the unit of the station that came with that as the cause: so many packets are purged, which are all that were
 -- held.
-pub record PurgesHungBy (k : Setup) (count : ℕ) (old new : Known) : Type 0 where
-  pub left : Known
-  pub locked : Known
-  pub purged : Known
-  pub waits : LeadsBy (λ s. Wait LookLeft true) old left
-  pub takes : LeadsBy (λ s. TakeLock) left locked
-  pub purges : PurgesBy k BeginHungPurge (cause.Hung locked.view.holder.station.unit) count locked purged
-  pub releases : ReleasesBy purged new
-  pub comes_to : PurgesHung count old.view new.view
+abbrev pub PurgeHung : ℕ → Standing → List Step → Type 0
+PurgeHung count = Coming (PurgesHung count) (Then (λ before. Wait LookLeft true) (Then (λ before. TakeLock)
+    (Then (λ before. DevResetQueue BeginHungPurge (cause.Hung before.view.holder.station.unit) count before) (λ before. End))))
 
 -- THE CALL
 
--- the station is served until it hangs, and purged: the number of packets purged is answered
-abbrev pub EndsHung : Setup → ℕ → Known → Known → Type 0
-EndsHung k count old new = (hung : Known) × ServesToEnd k seen.Hung old hung × PurgesHungBy k count hung new
-
--- it is served until it is deactivated or its words are quiet, and the call of control is left: 0 is answered
-abbrev pub EndsQuiet : Setup → ℕ → Known → Known → Type 0
-EndsQuiet k count old new = (over : Known) × (found : ℕ) × ServesToEnd k seen.Ended old over × (count ≡ 0)
-    × (new ≡ known_after (EndControl found ∷ []) over)
-
--- what is left is sent, and the station brought to its end
-abbrev pub FinishesBy : Setup → ℕ → Known → Known → Type 0
-FinishesBy k count old new = (sent : Known) × SendsAllLeft k old sent × (EndsHung k count sent new ⊎ EndsQuiet k count sent new)
+-- What is left is sent. The station is served until it hangs, and purged, and the number of packets purged is answered; or until it is
+-- deactivated or its words are quiet, the call of control is left, and 0 is answered.
+abbrev pub EndStation : Setup → ℕ → Standing → List Step → Type 0
+EndStation k count = Then (SendAllLeft k) (λ before xs. Then (ServeToEnd k seen.Hung) (PurgeHung count) before xs
+    ⊎ ((count ≡ 0) × Then (ServeToEnd k seen.Ended) (Finding EndControl) before xs))

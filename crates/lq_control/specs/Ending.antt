@@ -4,8 +4,7 @@ use Rattle.lq_model.specs.Account.{Account, Purge, is_hung}
 use Rattle.lq_model.specs.Alone.{RunningStation, finished}
 use Rattle.lq_model.specs.declared.fate.Cause.TheVariants as cause
 use Rattle.lq_model.specs.declared.fate.Info.{Info}
-use Rattle.lq_table.specs.Views.{View, Setup, first_account}
-use Rattle.lq_table.specs.Sees.{Solo, solo, heard}
+use Rattle.lq_table.specs.Sees.{Solo, heard}
 use Rattle.lq_table.specs.Locks.{locked_to}
 use Rattle.lq_table.specs.States.{missed_to, draining_to}
 use Rattle.lq_qdisc.specs.Alone.{IsAlone, account_in, running}
@@ -15,10 +14,6 @@ pub record IsEndedAlike (infos : List Info) (start : Account) (old now : Solo) :
   pub alone : IsAlone infos start now
   pub down : (account_in start now).down ≡ (account_in start old).down
   pub ends : finished infos (running start now) ≡ finished infos (running start old)
-
--- those of a seat that has the table alone do
-abbrev pub EndsAlike : Setup → View → View → Type 0
-EndsAlike k old new = IsAlone k.infos (first_account k) (solo old) → IsEndedAlike k.infos (first_account k) (solo old) (solo new)
 
 -- what it held was purged as hung by this unit, and MISSED and DRAINING are clear
 abbrev pub purged_as_hung : ℕ → Solo → Solo
@@ -34,6 +29,3 @@ pub record IsFinishedAlone (infos : List Info) (start : Account) (old new : Solo
   pub alone : IsAlone infos start new
   pub fates : (account_in start new).fates ≡ (finished infos (running start old)).account.fates
   pub active : (account_in start old).down ≡ None → running start new ≡ cleared_if_hung (finished infos (running start old))
-
-abbrev pub FinishesAlone : Setup → View → View → Type 0
-FinishesAlone k old new = IsAlone k.infos (first_account k) (solo old) → IsFinishedAlone k.infos (first_account k) (solo old) (solo new)

@@ -128,7 +128,3 @@ pub record PurgesHung (count : ℕ) (v w : View) : Type 0 where
   pub device : w.whole.state.station.device ≡ v.whole.state.station.device
   -- so its event is the only one that came after what the seat knew before
   pub step : solo w ≡ purged_as_hung v.whole.state.station.unit (solo v)
-
--- Each purge of a hung station on the trail came before, or is by the present unit, whose device hangs.
-abbrev pub ArePurgesHung : View → View → Type 0
-ArePurgesHung v w = (unit : ℕ) → Contains w.trail (Purge (cause.Hung unit)) → Contains v.trail (Purge (cause.Hung unit)) ⊎ (((account_of w).unit ≡ unit) × (w.whole.state.station.device.hung ≡ true))

@@ -1,39 +1,35 @@
--- What the calls of control do: the steps in the order in which they are made, and what the seat knows after them, with the values that
--- they found.
+-- The calls of control, each with the lists of steps that it may make from where the seat stands, the first step first. The end of a station
+-- is in EndSteps.
 use Rattle.std.specs.Prelude.{◌≡◌, ◌≢◌, ◌+◌, ◌-◌, ℕ, zero, suc, Bool, true, false, List, [], ◌∷◌, ◌++◌, Option, Some, None, length}
 use Rattle.std.specs.Option.{option_to_list}
-use Rattle.lq_device.specs.Station.{with_device}
+use Rattle.lq_device.specs.Station.{with_device, with_slot}
 use Rattle.lq_model.specs.Device.{DeviceState}
 use Rattle.lq_model.specs.Band.{Band, held_of}
 use Rattle.lq_model.specs.Machine.{Purge}
-use Rattle.lq_model.specs.Words.{word_of}
 use Rattle.lq_model.specs.declared.fate.Cause.{Cause}
 use Rattle.lq_model.specs.declared.fate.Cause.TheVariants as cause
-use Rattle.lq_model.specs.declared.fate.Fate.{Fate}
 use Rattle.lq_model.specs.declared.fate.Fate.TheVariants as fate
 use Rattle.lq_band_laws.specs.Three.{Three, at}
-use Rattle.lq_run.specs.Steps.{TryRunLock}
+use Rattle.lq_run.specs.Steps.{End, TryRunLock}
 use Rattle.lq_ring.specs.Purged.{IsBandPurged}
-use Rattle.lq_ring.specs.Resized.{HoldOwnPackets, IsKnownHeld, all_lost, having_resized}
+use Rattle.lq_ring.specs.Resized.{all_lost, having_resized}
 use Rattle.lq_ring.specs.StepLists.{PurgeBand, ResizeAll}
-use Rattle.lq_qdisc.specs.StepLists.{LeadsBy}
-use Rattle.lq_qdisc.specs.Steps.{InterruptsBy, ReleasesBy}
-use Rattle.lq_table.specs.Views.{Setup, Known, Left}
+use Rattle.lq_qdisc.specs.StepLists.{Coming, NetTxAction, Then}
+use Rattle.lq_table.specs.Views.{Setup, Left}
 use Rattle.lq_table.specs.Rule.{shown}
 use Rattle.lq_table.specs.Moves.{is_set}
-use Rattle.lq_table.specs.Fates.{settle_view_owed, settle_log}
-use Rattle.lq_table.specs.Purges.{AreKnown}
-use Rattle.lq_table.specs.Step.{BeginControl, BeginPurge, ClearDeactivated, EndControl, LoadInside, LoadLock, LoadState, MoveStation, OpenXoff, ResetDraining, ResetMissed, SetDeactivated, SetStation, Standing, Step, SwapDevice, Unlock, steps_leave}
-use Rattle.lq_table.specs.Made.{◌⊳◌}
+use Rattle.lq_table.specs.Step.{BeginControl, BeginPurge, ClearDeactivated, EndControl, LoadInside, LoadLock, LoadState, MoveStation, OpenXoff, ResetDraining, ResetMissed, SetDeactivated, SetStation, Settle, Standing, Step, SwapDevice, Unlock, carried_station, steps_leave}
 use Rattle.lq_control.specs.Control.{IsServed}
 
--- LISTS OF STEPS
+-- LISTS
 
--- what a seat knows after these steps, in which nothing depends on what it carries
-abbrev pub known_after : List Step → Known → Known
-known_after xs k =
-    let bare : Standing = record { view = k.view; slot = []; station = None; indices = record { low = 0; mid = 0; high = 0 }; steps = k.steps } in
-    record { view = (steps_leave xs bare).view; steps = (steps_leave xs bare).steps }
+-- just these steps
+abbrev pub Only : List Step → Standing → List Step → Type 0
+Only steps before xs = xs ≡ steps
+
+-- one step, with what it finds
+abbrev pub Finding : {X : Type 0} → (X → Step) → Standing → List Step → Type 0
+Finding {X} step before xs = (found : X) × (xs ≡ step found ∷ [])
 
 -- WAITS
 
@@ -57,133 +53,108 @@ pub data LookClear : Bool → List Step → Type 0 where
   Scheduled : {state : ℕ} → is_set 1 state ≡ true → LookClear false (LoadLock 0 ∷ LoadState state ∷ [])
   Clear : {state : ℕ} → is_set 1 state ≡ false → LookClear true (LoadLock 0 ∷ LoadState state ∷ [])
 
--- a seat that isn't raised looks so; neither load tells control anything of its own call
-pub record FindsClear (answer : Bool) (old new : Known) : Type 0 where
-  pub low : old.view.place.raised ≡ false
-  pub same : new.view ≡ old.view
-  pub looks : LeadsBy (λ s. LookClear answer) old new
+-- SOFT INTERRUPTS
 
--- a soft interrupt, and what it leaves as it was
-pub record ServesBy (k : Setup) (old new : Known) : Type 0 where
-  pub by : InterruptsBy k old new
-  pub served : IsServed old.view new.view
+-- `net_tx_action` of net/core/dev.c, and what it leaves as it was
+abbrev pub Softirq : Setup → Standing → List Step → Type 0
+Softirq k = Coming IsServed (NetTxAction k)
 
--- Rounds of the wait until the run lock is free and SCHED is clear. In each the seat was raised and did its soft interrupt, for which the
--- call of control was left; or it wasn't, and looked in vain.
-pub data Rounds (k : Setup) (old : Known) : Known → Type 0 where
-  none_yet : Rounds k old old
-  served : (last next : Known) (found : ℕ) → Rounds k old last → last.view.place.raised ≡ true
-      → ServesBy k last next → Rounds k old (known_after (BeginControl found ∷ []) next)
-  looked : (last next : Known) → Rounds k old last → FindsClear false last next → Rounds k old next
+-- it is done again and again, each time by a raised seat
+pub data SoftirqEach (k : Setup) (before : Standing) : List Step → Type 0 where
+  NoneYet : SoftirqEach k before []
+  OneMore : {xs ys : List Step} → SoftirqEach k before xs → (steps_leave xs before).view.place.raised ≡ true
+      → Softirq k (steps_leave xs before) ys → SoftirqEach k before (xs ++ ys)
 
--- for that `dev_deactivate_many` waits
-abbrev pub WaitsUntilClear : Setup → Known → Known → Type 0
-WaitsUntilClear k old new = (last : Known) × Rounds k old last × FindsClear true last new
+-- and it comes again as long as the seat is raised
+abbrev pub Drain : Setup → Standing → List Step → Type 0
+Drain k before xs = SoftirqEach k before xs × ((steps_leave xs before).view.place.raised ≡ false)
 
--- soft interrupts, one after the other, each of a raised seat
-pub data Interrupted (k : Setup) (old : Known) : Known → Type 0 where
-  not_yet : Interrupted k old old
-  once_more : (last next : Known) → Interrupted k old last → last.view.place.raised ≡ true → ServesBy k last next → Interrupted k old next
+-- A raised seat does its soft interrupt, for which the call of control was left, and begins that again; one that isn't looks whether the run
+-- lock is free and SCHED clear, by which it learns nothing of its own call.
+pub data ServeOrLook (k : Setup) (before : Standing) : Bool → List Step → Type 0 where
+  Serves : (found : ℕ) {xs : List Step} → before.view.place.raised ≡ true → Softirq k before xs
+      → ServeOrLook k before false (xs ++ BeginControl found ∷ [])
+  Looks : {answer : Bool} {xs : List Step} → before.view.place.raised ≡ false → Coming (λ v w. w ≡ v) (λ from. LookClear answer) before xs
+      → ServeOrLook k before answer xs
 
--- `net_tx_action` of net/core/dev.c comes again as long as the seat is raised
-abbrev pub DrainsBy : Setup → Known → Known → Type 0
-DrainsBy k old new = Interrupted k old new × (new.view.place.raised ≡ false)
+-- for that `dev_deactivate_many` of net/sched/sch_generic.c waits: each but the last was in vain
+pub data WaitUntilClear (k : Setup) (before : Standing) : Bool → List Step → Type 0 where
+  NotClear : WaitUntilClear k before false []
+  OnceMore : {answer : Bool} {xs ys : List Step} → WaitUntilClear k before false xs → ServeOrLook k (steps_leave xs before) answer ys
+      → WaitUntilClear k before answer (xs ++ ys)
 
 -- PURGES
 
--- the fate of the packet that was in the requeue slot is stored, if there was one
-abbrev pub PurgesSlot : Setup → Fate → Option ℕ → Known → Known → Type 0
-PurgesSlot k f None old new = new ≡ old
-PurgesSlot k f (Some n) old new = new ≡ record { view = settle_view_owed old.view; steps = old.steps ⊳ settle_log k n (word_of f) }
+-- the packet is taken out of the requeue slot and its fate stored, if there was one
+abbrev pub ResetSlot : Cause → Option ℕ → Standing → List Step → Type 0
+ResetSlot cause None = Only []
+ResetSlot cause (Some n) = λ before xs. xs ≡ SetStation (with_slot (carried_station before) None) ∷ Settle n (fate.Purged cause) ∷ []
 
--- `pfifo_fast_reset` of net/sched/sch_generic.c, at the band that a purge has come to: all packets that the band held are purged
-pub record PurgesBand (band : ℕ) (cause : Cause) (count : ℕ) (old new : Known) : Type 0 where
-  pub steps : LeadsBy (λ s. PurgeBand band cause s count) old new
-  pub purged : (u : Purge) (l : Left) → old.view.control.purge ≡ Some u → old.view.holder.left ≡ Some l
-      → IsBandPurged band u l old.view new.view × (count ≡ length (held_of (at band l.bands)))
+-- `pfifo_fast_reset` of net/sched/sch_generic.c, at the band that a purge has come to: all packets that the band held are purged, and so many
+-- they are
+abbrev pub PfifoFastReset : Cause → ℕ → ℕ → Standing → List Step → Type 0
+PfifoFastReset cause band count = Coming
+    (λ v w. (u : Purge) (l : Left) → v.control.purge ≡ Some u → v.holder.left ≡ Some l
+    → IsBandPurged band u l v w × (count ≡ length (held_of (at band l.bands))))
+    (λ before. PurgeBand band cause before count)
 
--- a purge that has begun with this packet in the requeue slot: that and then the three bands are purged, and both bits cleared. So many
--- packets were purged.
-pub record PurgesHeld (k : Setup) (cause : Cause) (slot : Option ℕ) (count : ℕ) (old new : Known) : Type 0 where
-  pub low : ℕ
-  pub mid : ℕ
-  pub high : ℕ
-  pub emptied : Known
-  pub one : Known
-  pub two : Known
-  pub three : Known
-  pub requeued : PurgesSlot k (fate.Purged cause) slot old emptied
-  pub first : PurgesBand 0 cause low emptied one
-  pub second : PurgesBand 1 cause mid one two
-  pub third : PurgesBand 2 cause high two three
-  pub cleared : new ≡ known_after (ResetMissed ∷ ResetDraining ∷ []) three
-  pub counted : count ≡ length (option_to_list slot) + low + mid + high
+-- `qdisc_reset` of net/sched/sch_generic.c, where this packet was in the requeue slot: that and the three bands are purged, and both bits
+-- cleared
+abbrev pub QdiscReset : Cause → Option ℕ → ℕ → Standing → List Step → Type 0
+QdiscReset cause slot count before xs = (low mid high : ℕ) × (count ≡ length (option_to_list slot) + low + mid + high)
+    × Then (ResetSlot cause slot) (Then (PfifoFastReset cause 0 low) (Then (PfifoFastReset cause 1 mid) (Then (PfifoFastReset cause 2 high)
+    (Only (ResetMissed ∷ ResetDraining ∷ []))))) before xs
 
--- `dev_reset_queue` and `qdisc_reset` of net/sched/sch_generic.c with `pfifo_fast_reset`: a purge by this cause begins, with a load of the
--- state; what lies in the requeue slot and in the bands is purged. A seat that has the table alone finds in the bands what its account
--- says.
-pub record PurgesBy (k : Setup) (begin : Three Band → ℕ → Step) (cause : Cause) (count : ℕ) (old new : Known) : Type 0 where
-  pub bands : Three Band
-  pub state : ℕ
-  pub knows : AreKnown old.view bands
-  pub purges : PurgesHeld k cause old.view.holder.slot count (known_after (begin bands state ∷ []) old) new
+-- `dev_reset_queue` of net/sched/sch_generic.c: a purge begins by this step, with a load of the state, and what lies in the requeue slot and
+-- in the bands is purged
+abbrev pub DevResetQueue : (Three Band → ℕ → Step) → Cause → ℕ → Standing → List Step → Type 0
+DevResetQueue begin cause count before xs = (bands : Three Band) × (state : ℕ)
+    × Then (Only (begin bands state ∷ [])) (QdiscReset cause before.view.holder.slot count) before xs
 
--- A DEACTIVATION
+-- ACTIVATION
 
--- `dev_deactivate_many` of net/sched/sch_generic.c up to the release of the run lock: DEACTIVATED is set, no call is inside, the lock is
--- taken, and so many packets are purged
-pub record Deactivates (k : Setup) (event count : ℕ) (old new : Known) : Type 0 where
-  pub was : Bool
-  pub calm : Known
-  pub locked : Known
-  pub purged : Known
-  pub waits : LeadsBy (λ s. Wait LookInside true) (known_after (SetDeactivated event was ∷ []) old) calm
-  pub takes : LeadsBy (λ s. TakeLock) calm locked
-  pub purges : PurgesBy k (BeginPurge event) (cause.Event event) count locked purged
-  pub released : new ≡ known_after (MoveStation ∷ Unlock ∷ []) purged
+-- DEACTIVATED is set, no call is inside, and under the run lock so many packets are purged
+abbrev pub Deactivate : ℕ → ℕ → Standing → List Step → Type 0
+Deactivate event count = Then (Finding (SetDeactivated event)) (Then (λ before. Wait LookInside true) (Then (λ before. TakeLock)
+    (Then (DevResetQueue (BeginPurge event) (cause.Event event) count) (Only (MoveStation ∷ Unlock ∷ [])))))
 
--- and to the end of its waits
-abbrev pub DeactivatesWhole : Setup → ℕ → ℕ → Known → Known → Type 0
-DeactivatesWhole k event count old new = (free : Known) × Deactivates k event count old free × WaitsUntilClear k free new
+-- `dev_deactivate_many` of net/sched/sch_generic.c: then the run lock is free, and SCHED clear
+abbrev pub DevDeactivateMany : Setup → ℕ → ℕ → Standing → List Step → Type 0
+DevDeactivateMany k event count = Then (Deactivate event count) (λ before. WaitUntilClear k before true)
 
--- THE CALLS
+-- a call that is only that
+abbrev pub DevDeactivate : Setup → ℕ → ℕ → Standing → List Step → Type 0
+DevDeactivate k event count = Then (DevDeactivateMany k event count) (Finding EndControl)
 
-abbrev pub Downs : Setup → ℕ → ℕ → Known → Known → Type 0
-Downs k event count old new = (clear : Known) × (found : ℕ) × DeactivatesWhole k event count old clear
-    × (new ≡ known_after (EndControl found ∷ []) clear)
+-- `transition_one_qdisc` of net/sched/sch_generic.c: DEACTIVATED is cleared; and the call ends
+abbrev pub Reactivate : Standing → List Step → Type 0
+Reactivate = Then (Only (ClearDeactivated ∷ [])) (Finding EndControl)
 
--- `transition_one_qdisc` of net/sched/sch_generic.c, for `dev_activate`: DEACTIVATED is cleared
-abbrev pub Ups : Known → Known → Type 0
-Ups old new = (first last : ℕ) × (new ≡ known_after (BeginControl first ∷ ClearDeactivated ∷ EndControl last ∷ []) old)
+-- a call that is only that, for `dev_activate` of net/sched/sch_generic.c
+abbrev pub DevActivate : Standing → List Step → Type 0
+DevActivate = Then (Finding BeginControl) Reactivate
 
--- so it is, and the call ends
-abbrev pub Reopens : Known → Known → Type 0
-Reopens old new = (found : ℕ) × (new ≡ known_after (ClearDeactivated ∷ EndControl found ∷ []) old)
+-- RESIZES
 
 -- `ptr_ring_resize_multiple` of include/linux/ptr_ring.h: each band keeps the first packets of those that it held, and so many are
 -- dropped
-pub record ResizesAll (k : Setup) (len event count : ℕ) (old new : Known) : Type 0 where
-  pub held : ℕ → List ℕ
-  pub steps : LeadsBy (λ s. ResizeAll len event held) old new
-  pub packets : HoldOwnPackets k.infos held
-  pub is_known : IsKnownHeld old.view held
-  pub is : new.view ≡ having_resized len event (all_lost len held) old.view
-  pub counted : count ≡ length (all_lost len held)
+abbrev pub ResizeRings : ℕ → ℕ → ℕ → Standing → List Step → Type 0
+ResizeRings len event count before xs = (held : ℕ → List ℕ) × (count ≡ length (all_lost len held))
+    × Coming (λ v w. w ≡ having_resized len event (all_lost len held) v) (λ before. ResizeAll len event held) before xs
 
 -- a live resize: `pfifo_fast_change_tx_queue_len` of net/sched/sch_generic.c under the run lock
-abbrev pub ResizesLive : Setup → ℕ → ℕ → ℕ → Known → Known → Type 0
-ResizesLive k event len count old new = (found : ℕ) × (locked resized : Known)
-    × LeadsBy (λ s. TakeLock) (known_after (BeginControl found ∷ []) old) locked × ResizesAll k len event count locked resized × ReleasesBy resized new
+abbrev pub ResizeLive : ℕ → ℕ → ℕ → Standing → List Step → Type 0
+ResizeLive event len count = Then (Finding BeginControl) (Then (λ before. TakeLock) (Then (ResizeRings len event count) (λ before. End)))
 
 -- the empty rings of a station that was purged: no packet is dropped
-abbrev pub Relengths : Setup → ℕ → ℕ → Known → Known → Type 0
-Relengths k event len old new = (locked resized : Known) × LeadsBy (λ s. TakeLock) old locked × ResizesAll k len event 0 locked resized
-    × (new ≡ known_after (MoveStation ∷ Unlock ∷ []) resized)
+abbrev pub Relength : ℕ → ℕ → Standing → List Step → Type 0
+Relength event len = Then (λ before. TakeLock) (Then (ResizeRings len event 0) (Only (MoveStation ∷ Unlock ∷ [])))
 
 -- `dev_qdisc_change_tx_queue_len` of net/sched/sch_generic.c
-abbrev pub ChangesLength : Setup → ℕ → ℕ → ℕ → Known → Known → Type 0
-ChangesLength k event len count old new = (clear changed : Known) × DeactivatesWhole k event count old clear
-    × Relengths k event len clear changed × Reopens changed new
+abbrev pub ChangeTxQueueLen : Setup → ℕ → ℕ → ℕ → Standing → List Step → Type 0
+ChangeTxQueueLen k event len count = Then (DevDeactivateMany k event count) (Then (Relength event len) Reactivate)
+
+-- SWAPS
 
 -- the stop words of so many queues after the first are stored as open, in ascending order
 abbrev pub open_steps : ℕ → List Step
@@ -192,14 +163,11 @@ open_steps (suc more) = open_steps more ++ OpenXoff (suc more) ∷ []
 
 -- Under the run lock the station gets this unit and its device: a driver's open, with `netif_tx_start_all_queues` of
 -- include/linux/netdevice.h. The device that goes is the one that came with the latest unit, and has served the station.
-pub record SwapsDevice (k : Setup) (unit : ℕ) (came went : DeviceState) (old new : Known) : Type 0 where
-  pub locked : Known
-  pub takes : LeadsBy (λ s. TakeLock) old locked
-  pub goes : went ≡ locked.view.holder.station.device
-  pub swaps : LeadsBy
-      (λ s xs. xs ≡ SetStation (with_device (shown s.view.holder) unit came) ∷ SwapDevice ∷ open_steps (k.queues - 1) ++ MoveStation ∷ Unlock ∷ []) locked new
+abbrev pub ChangeDevice : Setup → ℕ → DeviceState → DeviceState → Standing → List Step → Type 0
+ChangeDevice k unit came went = Then (λ before. TakeLock) (λ before xs. (went ≡ before.view.holder.station.device)
+    × (xs ≡ SetStation (with_device (shown before.view.holder) unit came) ∷ SwapDevice ∷ open_steps (k.queues - 1) ++ MoveStation ∷ Unlock ∷ []))
 
 -- a swap of the device, while the station is deactivated; so many packets are purged
-abbrev pub Swaps : Setup → ℕ → ℕ → DeviceState → DeviceState → Known → Known → Type 0
-Swaps k event unit came went old new = (clear changed : Known) × (count : ℕ) × DeactivatesWhole k event count old clear
-    × SwapsDevice k unit came went clear changed × Reopens changed new
+abbrev pub SwapAt : Setup → ℕ → ℕ → DeviceState → DeviceState → Standing → List Step → Type 0
+SwapAt k event unit came went before xs = (count : ℕ)
+    × Then (DevDeactivateMany k event count) (Then (ChangeDevice k unit came went) Reactivate) before xs

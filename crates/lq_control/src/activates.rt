@@ -4,11 +4,12 @@ ghost use Rattle.lq_model.specs.declared.machine.Phase.TheVariants.{Active, Purg
 ghost use Rattle.lq_model.specs.declared.machine.Position.TheVariants.{Control, Idle};
 ghost use Rattle.lq_model.specs.declared.plan.EventKind.TheVariants as kind;
 ghost use Rattle.lq_table.specs.Controls.{clear_deactivated_view};
-ghost use Rattle.lq_table.specs.Sees.{view, known, setup, position, IsSeatOf, IsElseSame, IsSole, solo};
+ghost use Rattle.lq_table.specs.Sees.{view, setup, position, IsSeatOf, IsElseSame, IsSole, solo};
 ghost use Rattle.lq_control.specs.Alone.{DoesEventAlone};
 ghost use Rattle.lq_control.specs.Control.{IsIn, deactivated_solo};
 ghost use Rattle.lq_control.specs.Calls.{ControlsStation, MayControl, deactivated_by};
-ghost use Rattle.lq_control.specs.Steps.{Deactivates, Downs, Ups};
+ghost use Rattle.lq_control.specs.Steps.{Deactivate, DevDeactivate, DevActivate};
+ghost use Rattle.lq_ring.specs.StepLists.{MakesStepsFrom};
 
 use crate::drains::wait_until_clear;
 use crate::purges::purge_all;
@@ -25,7 +26,7 @@ pub fn up<'a, D: TxDevice>(shared: &Shared<'a, D>, cpu: &mut Cpu<D>)
     requires deactivated { IsIn Purged (view cpu.old) }
     ensures same { IsElseSame cpu.old cpu.new }
     ensures opened { view cpu.new ≡ clear_deactivated_view (view cpu.old) }
-    ensures ups { Ups (known cpu.old) (known cpu.new) }
+    ensures makes { MakesStepsFrom DevActivate cpu.old cpu.new }
     ensures alone { (event : ℕ) → DoesEventAlone (setup shared.now) event kind.Up (view cpu.old) (view cpu.new) }
 {
     shared.begin_control(cpu);
@@ -44,7 +45,7 @@ pub fn down<'a, D: TxDevice, R: Wait>(
 ) -> u32
     requires seat { IsSeatOf shared.now cpu.old }
     requires may { MayControl Idle Active cpu.old }
-    ensures { ControlsStation Idle Purged (deactivated_by event) (Downs (setup shared.now) event result)
+    ensures { ControlsStation Idle Purged (deactivated_by event) (DevDeactivate (setup shared.now) event result)
         (DoesEventAlone (setup shared.now) event kind.Down) cpu.old cpu.new }
 {
     let purged = deactivate(rt, shared, cpu, event);
@@ -62,7 +63,7 @@ pub(crate) fn deactivate<'a, D: TxDevice, R: Wait>(
 ) -> u32
     requires seat { IsSeatOf shared.now cpu.old }
     requires may { MayControl Idle Active cpu.old }
-    ensures { ControlsStation (Control false) Purged (deactivated_by event) (Deactivates (setup shared.now) event result)
+    ensures { ControlsStation (Control false) Purged (deactivated_by event) (Deactivate event result)
         (λ v w. IsSole v → solo w ≡ deactivated_solo event (solo v)) cpu.old cpu.new }
 {
     shared.set_deactivated(cpu, event);

@@ -1,14 +1,18 @@
 //! The soft interrupts of control's own seat.
 ghost use Rattle.std.specs.Prelude.{◌≡◌, true, false, IsSome};
 ghost use Rattle.lq_model.specs.declared.machine.Position.TheVariants.{Idle, Control};
-ghost use Rattle.lq_table.specs.Sees.{view, known, setup, position, IsSeatOf, IsSameSeat, IsElseSame, IsSole, account_of, solo};
+ghost use Rattle.lq_table.specs.Sees.{view, setup, position, IsSeatOf, IsSameSeat, IsElseSame, IsSole, account_of, solo};
 ghost use Rattle.lq_run.specs.Steps.{MakesStepsOf};
 ghost use Rattle.lq_qdisc.specs.Sends.{IsReadyToSend};
-ghost use Rattle.lq_control.specs.Alone.{ServesAlone, unmarked};
-ghost use Rattle.lq_control.specs.Calls.{ServesInterrupts, UnmarksAlone};
+ghost use Rattle.lq_control.specs.Alone.{unmarked};
+ghost use Rattle.lq_control.specs.Calls.{ServesInterrupts};
 ghost use Rattle.lq_control.specs.Control.{IsServed, OwesNoInterrupt};
 ghost use Rattle.lq_control.specs.Seats.{IsFirstReadyAt};
-ghost use Rattle.lq_control.specs.Steps.{DrainsBy, FindsClear, LookClear, Rounds, WaitsUntilClear};
+ghost use Rattle.lq_control.specs.Steps.{LookClear, Drain, ServeOrLook, WaitUntilClear};
+ghost use Rattle.lq_model.specs.Alone.{served};
+ghost use Rattle.lq_table.specs.Views.{first_account};
+ghost use Rattle.lq_qdisc.specs.Alone.{Does};
+ghost use Rattle.lq_ring.specs.StepLists.{MakesStepsFrom};
 
 use crossbeam_utils::Backoff;
 use lq_device::TxDevice;
@@ -22,7 +26,8 @@ use std::sync::Wait;
 pub fn drain<'a, D: TxDevice, R: Wait>(rt: &R, shared: &Shared<'a, D>, cpu: &mut Cpu<D>)
     requires seat { IsSeatOf shared.now cpu.old }
     requires at { (position cpu.old ≡ Idle) × IsReadyToSend cpu.old }
-    ensures { ServesInterrupts Idle (DrainsBy (setup shared.now)) (ServesAlone (setup shared.now)) cpu.old cpu.new }
+    ensures { ServesInterrupts Idle (Drain (setup shared.now))
+        (λ v w. Does shared.now.infos.now (first_account (setup shared.now)) (served shared.now.infos.now) (solo v) (solo w)) cpu.old cpu.new }
 {
     for _ in rt.forever() {
         if !cpu.raised() {
@@ -53,8 +58,7 @@ fn serve_or_look<'a, D: TxDevice>(shared: &Shared<'a, D>, cpu: &mut Cpu<D>) -> b
     ensures at { (position cpu.new ≡ Control false) × IsReadyToSend cpu.new }
     ensures clear { result ≡ true → OwesNoInterrupt (view cpu.new) }
     ensures off { IsSole (view cpu.old) → IsSome (account_of (view cpu.old)).down → unmarked (solo (view cpu.new)) ≡ unmarked (solo (view cpu.old)) }
-    ensures found { result ≡ true → FindsClear true (known cpu.old) (known cpu.new) }
-    ensures again { result ≡ false → Rounds (setup shared.now) (known cpu.old) (known cpu.new) }
+    ensures makes { MakesStepsFrom (λ s. ServeOrLook (setup shared.now) s result) cpu.old cpu.new }
 {
     if cpu.raised() {
         softirq(shared, cpu);
@@ -73,7 +77,8 @@ pub(crate) fn wait_until_clear<'a, D: TxDevice, R: Wait>(
 )
     requires seat { IsSeatOf shared.now cpu.old }
     requires at { IsFirstReadyAt (Control false) cpu.old }
-    ensures { ServesInterrupts (Control false) (WaitsUntilClear (setup shared.now)) UnmarksAlone cpu.old cpu.new }
+    ensures { ServesInterrupts (Control false) (λ s. WaitUntilClear (setup shared.now) s true)
+        (λ v w. IsSole v → IsSome (account_of v).down → solo w ≡ unmarked (solo v)) cpu.old cpu.new }
 {
     let backoff = Backoff::new();
     for _ in rt.forever() {

@@ -2,17 +2,20 @@
 ghost use Rattle.std.specs.Prelude.{◌≡◌, ◌<◌, ◌+◌, None, true, false, length, if◌then◌else◌};
 ghost use Rattle.lq_model.specs.declared.machine.Phase.TheVariants.{Active};
 ghost use Rattle.lq_model.specs.declared.machine.Position.TheVariants.{Idle, Control};
-ghost use Rattle.lq_table.specs.Sees.{view, known, setup, position, IsSeatOf, IsSameSeat, IsElseSame, IsSole};
+ghost use Rattle.lq_table.specs.Sees.{view, setup, position, IsSeatOf, IsSameSeat, IsElseSame, IsSole, solo};
 ghost use Rattle.lq_run.specs.Steps.{MakesStepsOf};
 ghost use Rattle.lq_qdisc.specs.Sends.{IsCallKept, IsReadyToSend};
 ghost use Rattle.lq_control.specs.declared.finishes.Seen.TheVariants.{Hung, Ended};
 ghost use Rattle.lq_control.specs.Control.{IsIn};
-ghost use Rattle.lq_control.specs.EndSteps.{FinishesBy, LoadStops, Look, LookLeft, PurgesHungBy, SendsAllLeft, SendsIfLeft, ServesToEnd, are_quiet as quiet};
-ghost use Rattle.lq_control.specs.Ending.{EndsAlike, FinishesAlone};
-ghost use Rattle.lq_control.specs.Finish.{AreAllDone, AreKept, AreStopsBelow, AreTurnsFrom, IsActiveOrPurged, IsFinished, IsLook, IsSent, Hangs, Shows};
+ghost use Rattle.lq_control.specs.EndSteps.{LoadStops, Look, LookLeft, are_quiet as quiet, SendLeft, SendAllLeft, ServeToEnd, PurgeHung, EndStation};
+ghost use Rattle.lq_control.specs.Ending.{IsEndedAlike, IsFinishedAlone};
+ghost use Rattle.lq_control.specs.Finish.{AreAllDone, AreKept, AreStopsBelow, AreTurnsFrom, IsActiveOrPurged, IsFinished, IsLook, IsSent, Hangs, Shows, AreFor};
 ghost use Rattle.lq_control.specs.Seats.{IsFirstReadyAt, IsReadyAt};
 ghost use Rattle.lq_control.specs.Steps.{Wait};
-ghost use Rattle.lq_control.specs.Calls.{MayEndStation, MaySendLeft};
+ghost use Rattle.lq_control.specs.Calls.{MaySendLeft};
+ghost use Rattle.lq_table.specs.Views.{first_account};
+ghost use Rattle.lq_qdisc.specs.Alone.{IsAlone};
+ghost use Rattle.lq_ring.specs.StepLists.{MakesStepsFrom};
 
 use crate::drains::drain;
 use crate::purges::purge_held;
@@ -47,7 +50,7 @@ fn send_left<'a, D: TxDevice, R: Wait>(rt: &R, shared: &Shared<'a, D>, cpu: &mut
     ensures turns { AreTurnsFrom (setup shared.now) (n + 1) (view cpu.new).turns }
     ensures sent { IsSent (setup shared.now) (view cpu.old) (view cpu.new) }
     ensures done { AreAllDone (setup shared.now) (view cpu.old).turns → view cpu.new ≡ view cpu.old }
-    ensures sends { SendsIfLeft (setup shared.now) n (known cpu.old) (known cpu.new) }
+    ensures makes { MakesStepsFrom (SendLeft (setup shared.now) n) cpu.old cpu.new }
 {
     let info = shared.infos()[n as usize];
     if info.station as u32 != shared.number() {
@@ -66,7 +69,7 @@ fn send_all_left<'a, D: TxDevice, R: Wait>(rt: &R, shared: &Shared<'a, D>, cpu: 
     ensures kept { IsCallKept cpu.old cpu.new }
     ensures at { (position cpu.new ≡ Idle) × IsReadyToSend cpu.new }
     ensures raised { (view cpu.new).place.raised ≡ false }
-    ensures sends { SendsAllLeft (setup shared.now) (known cpu.old) (known cpu.new) }
+    ensures makes { MakesStepsFrom (SendAllLeft (setup shared.now)) cpu.old cpu.new }
 {
     for n in 0..shared.infos().len() {
         send_left(rt, shared, cpu, n as u32);
@@ -137,8 +140,9 @@ fn serve_to_end<'a, D: TxDevice, R: Wait>(rt: &R, shared: &Shared<'a, D>, cpu: &
     ensures at { (position cpu.new ≡ Control false) × IsReadyToSend cpu.new × ((view cpu.new).place.raised ≡ false) }
     ensures kept { AreKept (setup shared.now) (view cpu.new) }
     ensures shows { Shows (if result then Hung else Ended) (view cpu.new) }
-    ensures alone { EndsAlike (setup shared.now) (view cpu.old) (view cpu.new) }
-    ensures serves { ServesToEnd (setup shared.now) (if result then Hung else Ended) (known cpu.old) (known cpu.new) }
+    ensures alone { let k = setup shared.now in IsAlone k.infos (first_account k) (solo (view cpu.old))
+        → IsEndedAlike k.infos (first_account k) (solo (view cpu.old)) (solo (view cpu.new)) }
+    ensures makes { MakesStepsFrom (ServeToEnd (setup shared.now) (if result then Hung else Ended)) cpu.old cpu.new }
 {
     let backoff = Backoff::new();
     for _ in rt.forever() {
@@ -194,7 +198,7 @@ fn purge_hung<'a, D: TxDevice, R: Wait>(rt: &R, shared: &Shared<'a, D>, cpu: &mu
     ensures kept { IsCallKept cpu.old cpu.new }
     ensures at { IsReadyAt Idle Active cpu.new }
     ensures raised { (view cpu.new).place.raised ≡ (view cpu.old).place.raised }
-    ensures purges { PurgesHungBy (setup shared.now) result (known cpu.old) (known cpu.new) }
+    ensures makes { MakesStepsFrom (PurgeHung result) cpu.old cpu.new }
 {
     wait_until_left(rt, shared, cpu);
     take_lock(rt, shared, cpu);
@@ -211,12 +215,16 @@ fn purge_hung<'a, D: TxDevice, R: Wait>(rt: &R, shared: &Shared<'a, D>, cpu: &mu
 /// of the station has a fate. Where no packet is left this is the end of the run of one sender.
 pub fn finish<'a, D: TxDevice, R: Wait>(rt: &R, shared: &Shared<'a, D>, cpu: &mut Cpu<D>) -> u32
     requires seat { IsSeatOf shared.now cpu.old }
-    requires may { MayEndStation (setup shared.now) cpu.old }
+    requires at { IsFirstReadyAt Idle cpu.old × ((view cpu.old).place.raised ≡ false) }
+    requires sole { IsSole (view cpu.old) × IsActiveOrPurged (view cpu.old) }
+    requires made { AreFor (setup shared.now) (view cpu.old) }
+    requires turns { AreTurnsFrom (setup shared.now) 0 (view cpu.old).turns }
     ensures kept { IsCallKept cpu.old cpu.new }
     ensures at { (position cpu.new ≡ Idle) × ((view cpu.new).place.raised ≡ false) × IsReadyToSend cpu.new }
     ensures finished { IsFinished (setup shared.now) (view cpu.new) }
-    ensures alone { AreAllDone (setup shared.now) (view cpu.old).turns → FinishesAlone (setup shared.now) (view cpu.old) (view cpu.new) }
-    ensures finishes { FinishesBy (setup shared.now) result (known cpu.old) (known cpu.new) }
+    ensures alone { let k = setup shared.now in AreAllDone k (view cpu.old).turns → IsAlone k.infos (first_account k) (solo (view cpu.old))
+        → IsFinishedAlone k.infos (first_account k) (solo (view cpu.old)) (solo (view cpu.new)) }
+    ensures makes { MakesStepsFrom (EndStation (setup shared.now) result) cpu.old cpu.new }
 {
     send_all_left(rt, shared, cpu);
     if serve_to_end(rt, shared, cpu) {

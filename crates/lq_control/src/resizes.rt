@@ -1,15 +1,17 @@
 //! The length of a station's rings is changed.
-ghost use Rattle.std.specs.Prelude.{◌≡◌, ◌<◌, ◌≤◌, false, [], ◌∷◌};
+ghost use Rattle.std.specs.Prelude.{◌≡◌, ◌<◌, ◌≤◌, false, [], ◌∷◌, true};
 ghost use Rattle.lq_model.specs.Account.{Resize, Up};
 ghost use Rattle.lq_model.specs.declared.machine.Phase.TheVariants.{Active, Purged};
 ghost use Rattle.lq_model.specs.declared.machine.Position.TheVariants.{Idle, Control};
 ghost use Rattle.lq_model.specs.declared.plan.EventKind.TheVariants as kind;
-ghost use Rattle.lq_table.specs.Sees.{view, setup, position, IsSeatOf, IsSole, solo};
+ghost use Rattle.lq_table.specs.Sees.{view, setup, position, IsSeatOf, IsSole, solo, heard};
 ghost use Rattle.lq_qdisc.specs.Sends.{IsReadyToSend};
 ghost use Rattle.lq_control.specs.Alone.{DoesEventAlone};
-ghost use Rattle.lq_control.specs.Control.{IsIn, relengthed_solo};
-ghost use Rattle.lq_control.specs.Calls.{ControlsStation, MayControl, ResizesAlone, deactivated_by};
-ghost use Rattle.lq_control.specs.Steps.{ChangesLength, Relengths, ResizesLive};
+ghost use Rattle.lq_control.specs.Control.{IsIn};
+ghost use Rattle.lq_control.specs.Calls.{ControlsStation, MayControl, deactivated_by};
+ghost use Rattle.lq_control.specs.Steps.{ResizeLive, Relength, ChangeTxQueueLen};
+ghost use Rattle.lq_run.specs.Runs.{ended};
+ghost use Rattle.lq_table.specs.Locks.{locked_to};
 
 use crate::activates::deactivate;
 use crate::drains::wait_until_clear;
@@ -33,8 +35,9 @@ pub fn resize<'a, D: TxDevice, R: Wait>(
     requires seat { IsSeatOf shared.now cpu.old }
     requires may { MayControl Idle Active cpu.old }
     requires len { (0 < len) × (len ≤ shared.now.max_len) }
-    ensures { ControlsStation Idle Active (Resize len event ∷ []) (ResizesLive (setup shared.now) event len result)
-        (ResizesAlone (setup shared.now) len event) cpu.old cpu.new }
+    ensures { ControlsStation Idle Active (Resize len event ∷ []) (ResizeLive event len result)
+        (λ v w. (IsSole v → solo w ≡ ended (heard (Resize len event) (locked_to true (solo v))))
+        × DoesEventAlone (setup shared.now) event (kind.Resize len) v w) cpu.old cpu.new }
 {
     shared.begin_control(cpu);
     take_lock(rt, shared, cpu);
@@ -55,8 +58,8 @@ fn relength<'a, D: TxDevice, R: Wait>(
     requires at { (position cpu.old ≡ Control false) × IsReadyToSend cpu.old }
     requires purged { IsIn Purged (view cpu.old) }
     requires len { (0 < len) × (len ≤ shared.now.max_len) }
-    ensures { ControlsStation (Control false) Purged (Resize len event ∷ []) (Relengths (setup shared.now) event len)
-        (λ v w. IsSole v → solo w ≡ relengthed_solo len event (solo v)) cpu.old cpu.new }
+    ensures { ControlsStation (Control false) Purged (Resize len event ∷ []) (Relength event len)
+        (λ v w. IsSole v → solo w ≡ locked_to false (heard (Resize len event) (locked_to true (solo v)))) cpu.old cpu.new }
 {
     take_lock(rt, shared, cpu);
     resize_all(rt, shared, cpu, len, event);
@@ -76,7 +79,7 @@ pub fn tx_queue_len<'a, D: TxDevice, R: Wait>(
     requires seat { IsSeatOf shared.now cpu.old }
     requires may { MayControl Idle Active cpu.old }
     requires len { (0 < len) × (len ≤ shared.now.max_len) }
-    ensures { ControlsStation Idle Active (Up ∷ Resize len event ∷ deactivated_by event) (ChangesLength (setup shared.now) event len result)
+    ensures { ControlsStation Idle Active (Up ∷ Resize len event ∷ deactivated_by event) (ChangeTxQueueLen (setup shared.now) event len result)
         (DoesEventAlone (setup shared.now) event (kind.TxQueueLen len)) cpu.old cpu.new }
 {
     let purged = deactivate(rt, shared, cpu, event);

@@ -3,16 +3,21 @@ ghost use Rattle.std.specs.Prelude.{◌≡◌, ◌-◌, [], true, false, Some, N
 ghost use Rattle.lq_device.specs.Station.{with_device};
 ghost use Rattle.lq_model.specs.declared.machine.Phase.TheVariants.{Active, Purged};
 ghost use Rattle.lq_model.specs.declared.machine.Position.TheVariants.{Idle, Control};
-ghost use Rattle.lq_table.specs.Views.{HolderPart, WholePart};
+ghost use Rattle.lq_table.specs.Views.{HolderPart, WholePart, first_account};
 ghost use Rattle.lq_table.specs.Rule.{shown};
 ghost use Rattle.lq_table.specs.Controls.{shut_after};
-ghost use Rattle.lq_table.specs.Sees.{view, position, IsSeatOf, IsElseSame, solo, setup, IsSole};
-ghost use Rattle.lq_control.specs.Control.{IsIn, all_opened, swapped_solo};
+ghost use Rattle.lq_table.specs.Sees.{view, position, IsSeatOf, IsElseSame, solo, setup, IsSole, heard, device_to};
+ghost use Rattle.lq_control.specs.Control.{IsIn, all_opened};
 ghost use Rattle.lq_control.specs.Calls.{MaySwapAt, SwapsUnderControl, deactivated_by};
-ghost use Rattle.lq_control.specs.Steps.{Swaps, SwapsDevice, open_steps};
-ghost use Rattle.lq_control.specs.Alone.{DoesSwapAlone};
+ghost use Rattle.lq_control.specs.Steps.{open_steps, ChangeDevice, SwapAt};
 ghost use Rattle.lq_model.specs.Account.{Swap, Up};
 ghost use Rattle.lq_table.specs.Step.{MakesSteps, SetStation};
+ghost use Rattle.lq_model.specs.declared.plan.EventKind.TheVariants as kind;
+ghost use Rattle.lq_model.specs.Alone.{changed, new_device};
+ghost use Rattle.lq_model.specs.Plan.{Plan, unit_of_swap};
+ghost use Rattle.lq_model.specs.declared.device.Params.{Params};
+ghost use Rattle.lq_qdisc.specs.Alone.{Does};
+ghost use Rattle.lq_table.specs.Locks.{locked_to};
 
 use crate::activates::deactivate;
 use crate::drains::wait_until_clear;
@@ -56,8 +61,8 @@ fn swap_device<'a, D: TxDevice, R: Wait>(
 ) -> D
     requires seat { IsSeatOf shared.now cpu.old }
     requires may { MaySwapAt shared.now (Control false) Purged unit (D.state device) cpu.old }
-    ensures { SwapsUnderControl (Control false) Purged (Swap unit ∷ []) (SwapsDevice (setup shared.now) unit (D.state device) (D.state result))
-        (λ v w. IsSole v → solo w ≡ swapped_solo unit (D.state device) (solo v)) cpu.old cpu.new }
+    ensures { SwapsUnderControl (Control false) Purged (Swap unit ∷ []) (ChangeDevice (setup shared.now) unit (D.state device) (D.state result))
+        (λ v w. IsSole v → solo w ≡ locked_to false (device_to (D.state device) (heard (Swap unit) (locked_to true (solo v))))) cpu.old cpu.new }
 {
     take_lock(rt, shared, cpu);
     let old = change_device(cpu, unit, device);
@@ -83,8 +88,9 @@ pub fn swap<'a, D: TxDevice, R: Wait>(
     requires seat { IsSeatOf shared.now cpu.old }
     requires may { MaySwapAt shared.now Idle Active unit (D.state device) cpu.old }
     ensures { SwapsUnderControl Idle Active (Up ∷ Swap unit ∷ deactivated_by event)
-        (Swaps (setup shared.now) event unit (D.state device) (D.state result))
-        (DoesSwapAlone (setup shared.now) event unit (D.state device)) cpu.old cpu.new }
+        (SwapAt (setup shared.now) event unit (D.state device) (D.state result))
+        (λ v w. (plan : Plan) (params : Params) → unit_of_swap plan event ≡ unit → (D.state device).told ≡ Some (new_device params)
+        → Does shared.now.infos.now (first_account (setup shared.now)) (changed plan event (kind.Swap params)) (solo v) (solo w)) cpu.old cpu.new }
 {
     deactivate(rt, shared, cpu, event);
     wait_until_clear(rt, shared, cpu);

@@ -1,17 +1,19 @@
 //! The loops in which control waits for senders. Each pauses between two looks by a `Backoff`, and looks at nothing but one word.
-ghost use Rattle.std.specs.Prelude.{◌≡◌, true, false, [], ◌∷◌};
+ghost use Rattle.std.specs.Prelude.{◌≡◌, true, false, [], ◌∷◌, ◌<◌, None};
 ghost use Rattle.lq_model.specs.declared.machine.Phase.{Phase};
 ghost use Rattle.lq_model.specs.declared.machine.Phase.TheVariants.{Closing, Quiet};
 ghost use Rattle.lq_model.specs.declared.machine.Position.TheVariants.{Control};
-ghost use Rattle.lq_table.specs.Locks.{locked_to};
-ghost use Rattle.lq_table.specs.Rule.{units_of};
+ghost use Rattle.lq_table.specs.Locks.{locked_to, try_lock_view_in_control};
+ghost use Rattle.lq_table.specs.Rule.{units_of, IsResting};
 ghost use Rattle.lq_table.specs.Sees.{view, position, IsSeatOf, IsSameSeat, IsElseSame, IsSole, IsAccounts, solo};
 ghost use Rattle.lq_table.specs.Step.{MakesSteps, MoveStation, Unlock};
 ghost use Rattle.lq_run.specs.Runs.{HasNone, HasStation, MayReleaseRunLock};
 ghost use Rattle.lq_run.specs.Steps.{MakesStepsOf};
-ghost use Rattle.lq_control.specs.Control.{GetsStation, phased, with_lock_free};
+ghost use Rattle.lq_control.specs.Control.{phased, with_lock_free};
 ghost use Rattle.lq_control.specs.Seats.{MayRelease};
 ghost use Rattle.lq_control.specs.Steps.{LookInside, TakeLock, Wait};
+ghost use Rattle.lq_table.specs.Views.{HolderPart};
+ghost use Rattle.lq_table.specs.Moves.{IsKnownSlot};
 
 use crossbeam_utils::Backoff;
 use lq_device::TxDevice;
@@ -49,7 +51,8 @@ pub(crate) fn take_lock<'a, D: TxDevice, R: Wait>(rt: &R, shared: &Shared<'a, D>
     requires empty { HasNone cpu.old }
     ensures makes { MakesStepsOf TakeLock cpu.old cpu.new }
     ensures same { IsSameSeat cpu.old cpu.new × (cpu.new.indices ≡ cpu.old.indices) }
-    ensures got { GetsStation (view cpu.old) (view cpu.new) }
+    ensures got { (d : HolderPart) × (view cpu.new ≡ try_lock_view_in_control d (view cpu.old)) × IsResting d.size d.ends × (0 < d.size)
+        × (d.hand ≡ None) × (d.resizing ≡ None) × (d.shut ≡ None) × IsKnownSlot (view cpu.old).share.about d.slot }
     ensures units { (view cpu.old).control.first ≡ true → (view cpu.new).holder.units ≡ units_of (view cpu.old).trail }
     ensures station { HasStation cpu.new }
     ensures sole { IsSole (view cpu.old) → (solo (view cpu.new) ≡ locked_to true (solo (view cpu.old))) × IsAccounts (view cpu.new) }

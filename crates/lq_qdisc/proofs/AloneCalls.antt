@@ -21,9 +21,8 @@ use Rattle.lq_table.specs.States.{SeesState, clear_sched_alone, set_sched_alone,
 use Rattle.lq_table.specs.Inside.{lowered, call_of, enter_view}
 use Rattle.lq_table.specs.Moves.{is_set, seen_by, stepped}
 use Rattle.lq_model.specs.declared.machine.Answer.TheVariants.{Plain}
-use Rattle.lq_qdisc.proofs.ViewRelations.{Attempts, FollowsDirect, Goes, GoesPast, GoesThrough, Interrupts, RunsToEnd, TriesToPass, transmitting, WakesAt, WakesFirst, IsRefused}
+use Rattle.lq_qdisc.proofs.ViewRelations.{Enqueues, Attempts, FollowsDirect, Goes, GoesPast, GoesThrough, Interrupts, RunsToEnd, TriesToPass, transmitting, WakesAt, WakesFirst, IsRefused}
 use Rattle.lq_qdisc.specs.Alone.{BringsAlone, Does, HasAll, IsAlone, IsOneSender, RunsAlone, account_in, bits_are_clear, running}
-use Rattle.lq_qdisc.specs.Outcomes.{Enqueues}
 use Rattle.lq_qdisc.specs.declared.answers.Sending.{Sending}
 use Rattle.lq_qdisc.specs.declared.answers.Sending.TheVariants as sending
 use Rattle.lq_qdisc.specs.declared.answers.Through.{Through}
@@ -187,7 +186,7 @@ module _ (k : Setup) (infos : List Info) (n : ℕ) where
         same_bits : some_bit f.0 ≡ ((solo last).whole.missed || (solo last).whole.draining)
         same_bits = ap₂ (λ (x y : Bool). x || y) (f.1 all).missed (f.1 all).draining
 
-        by_state : (((some_bit f.0 ≡ true) × RunsToEnd infos (load_state_view f.0 last) new) ⊎ ((some_bit f.0 ≡ false) × Rattle.lq_qdisc.specs.Outcomes.IsLockReleased (load_state_view f.0 last) new)) → solo new ≡ ended (solo last)
+        by_state : (((some_bit f.0 ≡ true) × RunsToEnd infos (load_state_view f.0 last) new) ⊎ ((some_bit f.0 ≡ false) × Rattle.lq_qdisc.proofs.ViewRelations.IsLockReleased (load_state_view f.0 last) new)) → solo new ≡ ended (solo last)
         by_state (inl t) = absurd (both_clear (solo last).whole.missed (solo last).whole.draining (still refl) (sym same_bits ∙ t.0))
         by_state (inr t) = t.1.sole all ∙ (ended_is (solo (load_state_view f.0 last)) ∙ ap ended f.2)
     follows_is (through.Back reason) last f all still = f.sole all ∙ ended_is (solo last)

@@ -8,8 +8,7 @@ use Rattle.lq_model.specs.declared.fate.Info.{Info}
 use Rattle.lq_table.specs.Views.{View}
 use Rattle.lq_table.specs.Moves.{is_set}
 use Rattle.lq_table.specs.States.{load_state_view, some_bit}
-use Rattle.lq_qdisc.proofs.ViewRelations.{Goes, GoesPast, GoesThrough, GoesThroughHeld, TriesToPass, transmitting}
-use Rattle.lq_qdisc.specs.Outcomes.{Enqueues}
+use Rattle.lq_qdisc.proofs.ViewRelations.{Enqueues, Goes, GoesPast, GoesThrough, GoesThroughHeld, TriesToPass, transmitting}
 use Rattle.lq_qdisc.specs.declared.answers.Sending.{Sending}
 use Rattle.lq_qdisc.specs.declared.answers.Sending.TheVariants as sending
 

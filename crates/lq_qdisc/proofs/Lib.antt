@@ -24,3 +24,5 @@ pub mod StepLemmas
 pub mod ViewLemmas
 pub mod OfferLemmas
 pub mod LockLemmas
+-- what a put comes to
+pub mod PutLemmas

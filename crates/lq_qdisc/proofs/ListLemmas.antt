@@ -2,6 +2,7 @@
 use Rattle.std.proofs.Common.{◌≡◌, List, [], ◌∷◌, ◌++◌, Option, Some, refl, sym, ap, ◌∙◌, subst}
 use Rattle.std.specs.Option.{unwrap_or}
 use Rattle.lq_device.specs.Station.{StationState}
+use Rattle.lq_table.proofs.StepsThen.{tell_first, tell_last}
 use Rattle.lq_ring.proofs.StepsThen.{leave_then, makes_then, stands_after}
 use Rattle.lq_ring.specs.StepLists.{MakesStepsFrom}
 use Rattle.lq_table.specs.Sees.{view, known, steps, carried}
@@ -18,24 +19,16 @@ tells_first x xs s f = f.0
 pub tells_rest : (x : Step) (xs : List Step) (s : Standing) → steps_tell (x ∷ xs) s → steps_tell xs (step_leaves x s)
 tells_rest x xs s f = f.1
 
-pub tells_before : (xs ys : List Step) (s : Standing) → steps_tell (xs ++ ys) s → steps_tell xs s
-tells_before [] ys s f = tt
-tells_before (x ∷ xs) ys s f = (f.0, tells_before xs ys (step_leaves x s) f.1)
-
-pub tells_after : (xs ys : List Step) (s : Standing) → steps_tell (xs ++ ys) s → steps_tell ys (steps_leave xs s)
-tells_after [] ys s f = f
-tells_after (x ∷ xs) ys s f = tells_after xs ys (step_leaves x s) f.1
-
 -- one after the other
 module _ {one two : Standing → List Step → Type 0} {s : Standing} {all : List Step} (t : Then one two s all) where
   pub left_then : steps_leave all s ≡ steps_leave t.ys (steps_leave t.xs s)
   left_then = ap (λ (zs : List Step). steps_leave zs s) t.whole ∙ leave_then t.xs t.ys s
 
   pub told_first : steps_tell all s → steps_tell t.xs s
-  told_first told = tells_before t.xs t.ys s (subst (λ (zs : List Step). steps_tell zs s) t.whole told)
+  told_first told = tell_first t.xs t.ys s (subst (λ (zs : List Step). steps_tell zs s) t.whole told)
 
   pub told_then : steps_tell all s → steps_tell t.ys (steps_leave t.xs s)
-  told_then told = tells_after t.xs t.ys s (subst (λ (zs : List Step). steps_tell zs s) t.whole told)
+  told_then told = tell_last t.xs t.ys s (subst (λ (zs : List Step). steps_tell zs s) t.whole told)
 
 module _ {D : Type 0} where
   -- what is such from where a seat stands is such from where the steps before it left the seat

@@ -21,9 +21,9 @@ use Rattle.lq_ring.specs.StepLists.{MakesStepsFrom}
 use Rattle.lq_table.specs.Step.{Standing, Step}
 use Rattle.lq_qdisc.specs.Parts.{BringsBy, EndsCallBy, IsFreeInside, LeavesBy}
 use Rattle.lq_qdisc.specs.Sends.{HasCome, IsBringing, IsCallKept, came_as, trail_with}
-use Rattle.lq_qdisc.specs.Outcomes.{Enqueues}
 use Rattle.lq_qdisc.specs.declared.answers.Sending.{Sending}
 use Rattle.lq_qdisc.specs.declared.answers.Sending.TheVariants as sending
+use Rattle.lq_qdisc.proofs.ViewRelations.{Enqueues}
 use Rattle.lq_qdisc.proofs.RunLemmas.{fates_same, fates_then}
 use Rattle.lq_qdisc.proofs.TakeLemmas.{seat_same}
 

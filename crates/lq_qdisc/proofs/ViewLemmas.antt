@@ -1,5 +1,5 @@
 -- What the calls come to, as relations of views alone.
-use Rattle.std.proofs.Common.{◌≡◌, ◌||◌, eq-eqb, ◌≢◌, ℕ, suc, ◌+◌, Bool, true, false, if◌then◌else◌, List, [], ◌∷◌, ◌++◌, ◌⊎◌, Some, None, ◌-◌, ◌/◌, ◌*◌, refl, sym, ap, ◌∙◌, subst, inl, inr, arith}
+use Rattle.std.proofs.Common.{◌≡◌, ◌||◌, ◌&&◌, not, eq-eqb, ◌≢◌, ℕ, suc, ◌+◌, Bool, true, false, if◌then◌else◌, List, [], ◌∷◌, ◌++◌, ◌⊎◌, Some, None, ◌-◌, ◌/◌, ◌*◌, refl, sym, ap, ◌∙◌, subst, inl, inr, arith}
 use Rattle.std.proofs.lemmas.Bool.{true≢false}
 use Rattle.lq_model.specs.Account.{Direct}
 use Rattle.lq_model.specs.declared.fate.Fate.TheVariants as fate
@@ -13,15 +13,25 @@ use Rattle.lq_table.specs.States.{check_view_refused, clear_sched_alone, load_st
 use Rattle.lq_table.specs.Step.{Standing, Step, step_leaves, steps_leave, steps_tell}
 use Rattle.lq_table.specs.Step.{Check, ClearSched, Enter, Leave, LoadState, LookStop, Recheck, SetSched, Settle, Wake}
 use Rattle.lq_ring.proofs.StepsThen.{leave_then}
-use Rattle.lq_qdisc.proofs.ListLemmas.{left_then, tells_after, tells_before, tells_first, tells_rest, told_first, told_then}
-use Rattle.lq_qdisc.proofs.ViewRelations.{Attempts, FollowsDirect, Goes, GoesPast, GoesThrough, GoesThroughHeld, Hands, Interrupts, IsDue, IsRefused, LastTurn, Runs, RunsToEnd, Sends, TriesToPass, WakesAt, WakesFirst}
+use Rattle.lq_table.proofs.StepsThen.{tell_first, tell_last}
+use Rattle.lq_qdisc.proofs.ListLemmas.{left_then, tells_first, tells_rest, told_first, told_then}
+use Rattle.lq_model.specs.declared.machine.Attempt.TheVariants.{Direct as ToPass}
+use Rattle.lq_model.specs.declared.machine.Packet.{Packet}
+use Rattle.lq_model.specs.declared.machine.Position.{Position}
+use Rattle.lq_model.specs.declared.machine.Position.TheVariants.{Check as AtCheck, Gate, Put, Recheck as AtRecheck, Try1}
+use Rattle.lq_model.specs.declared.machine.Answer.TheVariants.{Plain}
+use Rattle.lq_model.specs.Steps.{step_at}
+use Rattle.lq_table.specs.Moves.{seen_by}
+use Rattle.lq_table.specs.States.{seen_state}
+use Rattle.lq_qdisc.proofs.LockLemmas.{brings_still, gets_lock, got_at, missed_at, misses, releases}
+use Rattle.lq_qdisc.proofs.PutLemmas.{BringsUnlocked, IsAtPut, enqueues}
+use Rattle.lq_qdisc.proofs.SendLemmas.{checked_leads}
+use Rattle.lq_qdisc.proofs.ViewRelations.{Attempts, Enqueues, FollowsDirect, Goes, GoesPast, GoesThrough, GoesThroughHeld, Hands, Interrupts, IsDue, IsLockReleased, IsRefused, LastTurn, Runs, RunsToEnd, Sends, TriesToPass, WakesAt, WakesFirst}
 use Rattle.lq_qdisc.specs.Direct.{Accepts, Directs}
-use Rattle.lq_qdisc.specs.Outcomes.{Enqueues, IsLockReleased}
-use Rattle.lq_qdisc.specs.StepLists.{BeginSoftirq, BypassLocked, EnqueueAndRun, EnqueueAndRunLocked, HandsOver, NetTxAction, QdiscRun, Restart, QdiscRunLocked, RunAfterBypass, RunToEnd, SendEach, TryBypass, WakeEach, WakeQueue, XmitBypass, XmitSkb}
+use Rattle.lq_qdisc.specs.StepLists.{BeginSoftirq, BypassLocked, EnqueueAndRun, EnqueueAndRunLocked, HandsOver, LeadsBy, NetTxAction, QdiscRun, Restart, QdiscRunLocked, RunAfterBypass, RunToEnd, SendEach, TryBypass, WakeEach, WakeQueue, XmitBypass, XmitSkb}
 use Rattle.lq_qdisc.specs.StepLists.{EndsAfter, EndsAtOnce, EndsEarly, IsActive, IsBack, IsDown, IsDueNow, IsLaid, IsNotDue, IsSent, LooksAgain, MayNotPass, MayPass, NothingHeld, Passes, QueueStopped, ReachesQuota, SentMore, SentNone, ServesAfter, Waits}
 use Rattle.lq_qdisc.specs.StepLists.{IsNotStopped, IsOpenBefore, IsOpened, LooksAtNext, LooksAtNone}
 use Rattle.lq_qdisc.specs.Sends.{WakesBelow}
-use Rattle.lq_qdisc.specs.Steps.{InterruptsBy}
 use Rattle.lq_qdisc.specs.declared.answers.Ran.{Ran}
 use Rattle.lq_qdisc.specs.declared.answers.RunEnd.{RunEnd}
 use Rattle.lq_qdisc.specs.declared.answers.RunEnd.TheVariants as end
@@ -92,32 +102,32 @@ run_share : {k : Setup} {s : Standing} {ran : Ran} {xs : List Step} → QdiscRun
 run_share {k} {s} (EndsEarly {xs = xs} {ys = ys} less h last) = ap (λ (z : Standing). z.view.share) (leave_then xs ys s) ∙ (ends_share last ∙ sends_share h)
 run_share (ReachesQuota was h passes tells) = ap (λ (v : View). v.share) passes ∙ sends_share h
 
-to_end_view : (k : Setup) (s : Standing) (xs : List Step) → RunToEnd k s xs → RunsToEnd k.infos s.view (seen xs s)
-to_end_view k s xs (ran, t) = record {
+to_end_view : (k : Setup) (s : Standing) (xs : List Step) → RunToEnd k s xs → steps_tell xs s → RunsToEnd k.infos s.view (seen xs s)
+to_end_view k s xs (ran, t) told = record {
   ran = ran;
   last = seen t.xs s;
   runs = runs_view t.first;
   share = run_share t.first;
-  ended = subst (λ (z : Standing). IsLockReleased (seen t.xs s) z.view) (sym (left_then t)) t.next.came;
+  ended = subst (λ (z : Standing). IsLockReleased (seen t.xs s) z.view) (sym (left_then t)) (releases t.next (steps_leave t.xs s) (told_then t told));
 }
 
-attempts_view : (k : Setup) (s : Standing) (xs : List Step) → QdiscRun k s xs → Attempts k.infos s.view (seen xs s)
-attempts_view k s xs (inl m) = inl m.came
-attempts_view k s xs (inr t) =
-    inr (seen t.xs s, t.first.came, subst (λ (z : Standing). RunsToEnd k.infos (seen t.xs s) z.view) (sym (left_then t)) (to_end_view k (steps_leave t.xs s) t.ys t.next))
+attempts_view : (k : Setup) (s : Standing) (xs : List Step) → QdiscRun k s xs → steps_tell xs s → Attempts k.infos s.view (seen xs s)
+attempts_view k s xs (inl m) told = inl (misses m s told)
+attempts_view k s xs (inr t) told =
+    inr (seen t.xs s, gets_lock t.first s (told_first t told), subst (λ (z : Standing). RunsToEnd k.infos (seen t.xs s) z.view) (sym (left_then t)) (to_end_view k (steps_leave t.xs s) t.ys t.next (told_then t told)))
 
-through_view : (k : Setup) (n : ℕ) (answer : Sending) (s : Standing) (xs : List Step) → EnqueueAndRun k n answer s xs → GoesThrough k.infos n answer s.view (seen xs s)
-through_view k n answer s xs t = record {
+through_view : (k : Setup) (n : ℕ) (answer : Sending) (s : Standing) (xs : List Step) → EnqueueAndRun k n answer s xs → IsAtPut n s.view → steps_tell xs s → GoesThrough k.infos n answer s.view (seen xs s)
+through_view k n answer s xs t due told = record {
   put = seen t.xs s;
-  enqueued = t.first.came;
-  attempted = subst (λ (z : Standing). Attempts k.infos (seen t.xs s) z.view) (sym (left_then t)) (attempts_view k (steps_leave t.xs s) t.ys t.next);
+  enqueued = enqueues t.first s due (told_first t told);
+  attempted = subst (λ (z : Standing). Attempts k.infos (seen t.xs s) z.view) (sym (left_then t)) (attempts_view k (steps_leave t.xs s) t.ys t.next (told_then t told));
 }
 
 follows_view : {k : Setup} {s : Standing} {t : Through} {xs : List Step} → RunAfterBypass k s t xs → steps_tell xs s → FollowsDirect t k.infos s.view (seen xs s)
 follows_view {k} {s} (ServesAfter {state = state} {xs = xs} set h) told =
-    let loaded = tells_first (LoadState state) xs s told in (state, loaded.1, loaded.0, inl (set, to_end_view k (step_leaves (LoadState state) s) xs h))
-follows_view {k} {s} (EndsAfter {state = state} {xs = xs} clear h) told = let loaded = tells_first (LoadState state) xs s told in (state, loaded.1, loaded.0, inr (clear, h.came))
-follows_view (EndsAtOnce h) told = h.came
+    let loaded = tells_first (LoadState state) xs s told in (state, loaded.1, loaded.0, inl (set, to_end_view k (step_leaves (LoadState state) s) xs h (tells_rest (LoadState state) xs s told)))
+follows_view {k} {s} (EndsAfter {state = state} {xs = xs} clear h) told = let loaded = tells_first (LoadState state) xs s told in (state, loaded.1, loaded.0, inr (clear, releases h (step_leaves (LoadState state) s) (tells_rest (LoadState state) xs s told)))
+follows_view {k} {s} (EndsAtOnce h) told = releases h s told
 
 -- after the load under the run lock
 module _ (k : Setup) (n state : ℕ) (s : Standing) (xs : List Step) where
@@ -127,14 +137,22 @@ module _ (k : Setup) (n state : ℕ) (s : Standing) (xs : List Step) where
   seen_as : (b : Bool) → some_bit state ≡ b → after.view ≡ (if b then load_state_view state s.view else recheck_view_direct n state s.view)
   seen_as b is = ap (λ (c : Bool). if c then load_state_view state s.view else recheck_view_direct n state s.view) is
 
-  held_view : (answer : Sending) → some_bit state ≡ true → EnqueueAndRunLocked k n answer after xs → steps_tell (Recheck n state ∷ xs) s → GoesThroughHeld k.infos n answer s.view (seen xs after)
-  held_view answer set t told = record {
+  held_at : (p : Packet) → some_bit state ≡ true → s.view.place.position ≡ AtRecheck p → after.view.place.position ≡ Put p true
+  held_at p set here =
+      ap (λ (v : View). v.place.position) (seen_as true set)
+      ∙ (ap (λ (y : Position). (step_at y Plain (seen_state (seen_by s.view) s.view.share.about.bypass state) s.view.place).seat.position) here
+      ∙ ap (λ (c : Bool). if c then Put p true else Gate p true) set)
+
+  held_view : (answer : Sending) (p : Packet) → some_bit state ≡ true → EnqueueAndRunLocked k n answer after xs → s.view.place.position ≡ AtRecheck p → BringsUnlocked n s.view
+      → steps_tell (Recheck n state ∷ xs) s → GoesThroughHeld k.infos n answer s.view (seen xs after)
+  held_view answer p set t here brings told_ = let told = tells_rest (Recheck n state) xs s told_ in record {
     state = state;
     waits = set;
-    sees = (tells_first (Recheck n state) xs s told).1;
+    sees = (tells_first (Recheck n state) xs s told_).1;
     put = seen t.xs after;
-    enqueued = subst (λ (v : View). Enqueues n (band_in k.infos n) answer v (seen t.xs after)) (seen_as true set) t.first.came;
-    served = subst (λ (z : Standing). RunsToEnd k.infos (seen t.xs after) z.view) (sym (left_then t)) (to_end_view k (steps_leave t.xs after) t.ys t.next);
+    enqueued = subst (λ (v : View). Enqueues n (band_in k.infos n) answer v (seen t.xs after)) (seen_as true set)
+        (enqueues t.first after (p, true, held_at p set here, subst (λ (v : View). BringsUnlocked n v) (sym (seen_as true set)) brings) (told_first t told));
+    served = subst (λ (z : Standing). RunsToEnd k.infos (seen t.xs after) z.view) (sym (left_then t)) (to_end_view k (steps_leave t.xs after) t.ys t.next (told_then t told));
   }
 
   past_view : some_bit state ≡ false → XmitBypass k n after xs → steps_tell (Recheck n state ∷ xs) s → GoesPast k.infos n s.view (seen xs after)
@@ -149,18 +167,21 @@ module _ (k : Setup) (n state : ℕ) (s : Standing) (xs : List Step) where
     follows = subst (λ (z : Standing). FollowsDirect through k.infos (seen t.xs after) z.view) (sym (left_then t)) (follows_view t.next (told_then t (tells_rest (Recheck n state) xs s told)));
   }
 
-locked_view : {k : Setup} {n : ℕ} {s : Standing} {answer : Sending} {xs : List Step} → BypassLocked k n s answer xs → steps_tell xs s
+locked_view : {k : Setup} {n : ℕ} {s : Standing} {answer : Sending} {xs : List Step} (p : Packet) → BypassLocked k n s answer xs → s.view.place.position ≡ AtRecheck p → BringsUnlocked n s.view → steps_tell xs s
     → GoesThroughHeld k.infos n answer s.view (seen xs s) ⊎ ((answer ≡ sending.Direct) × GoesPast k.infos n s.view (seen xs s))
-locked_view {k} {n} {s} {answer} (Waits {state = state} {xs = xs} set t) told = inl (held_view k n state s xs answer set t told)
-locked_view {k} {n} {s} (Passes {state = state} {xs = xs} clear t) told = inr (refl, past_view k n state s xs clear t told)
+locked_view {k} {n} {s} {answer} p (Waits {state = state} {xs = xs} set t) here brings told = inl (held_view k n state s xs answer p set t here brings told)
+locked_view {k} {n} {s} p (Passes {state = state} {xs = xs} clear t) here brings told = inr (refl, past_view k n state s xs clear t told)
 
-tries_view : (k : Setup) (n : ℕ) (answer : Sending) (s : Standing) (xs : List Step) → TryBypass k n answer s xs → steps_tell xs s → TriesToPass k.infos n answer s.view (seen xs s)
-tries_view k n answer s xs (inl t) told =
-    inl (seen t.xs s, t.first.came, subst (λ (z : Standing). GoesThrough k.infos n answer (seen t.xs s) z.view) (sym (left_then t)) (through_view k n answer (steps_leave t.xs s) t.ys t.next))
-tries_view k n answer s xs (inr t) told = inr (
+tries_view : (k : Setup) (n : ℕ) (answer : Sending) (s : Standing) (xs : List Step) (p : Packet) → TryBypass k n answer s xs → s.view.place.position ≡ Try1 (ToPass p) → BringsUnlocked n s.view → steps_tell xs s
+    → TriesToPass k.infos n answer s.view (seen xs s)
+tries_view k n answer s xs p (inl t) here brings told =
+    let first = told_first t told in let due : IsAtPut n (seen t.xs s) = (p, false, missed_at p t.first s first here, brings_still t.first s first brings) in
+    inl (seen t.xs s, misses t.first s first, subst (λ (z : Standing). GoesThrough k.infos n answer (seen t.xs s) z.view) (sym (left_then t)) (through_view k n answer (steps_leave t.xs s) t.ys t.next due (told_then t told)))
+tries_view k n answer s xs p (inr t) here brings told = let first = told_first t told in inr (
   seen t.xs s,
-  t.first.came,
-  subst (λ (z : Standing). GoesThroughHeld k.infos n answer (seen t.xs s) z.view ⊎ ((answer ≡ sending.Direct) × GoesPast k.infos n (seen t.xs s) z.view)) (sym (left_then t)) (locked_view t.next (told_then t told)),
+  gets_lock t.first s first,
+  subst (λ (z : Standing). GoesThroughHeld k.infos n answer (seen t.xs s) z.view ⊎ ((answer ≡ sending.Direct) × GoesPast k.infos n (seen t.xs s) z.view)) (sym (left_then t))
+      (locked_view p t.next (got_at p t.first s first here) (brings_still t.first s first brings) (told_then t told)),
 )
 
 -- after the first load
@@ -168,8 +189,9 @@ module _ (k : Setup) (n state : ℕ) (s : Standing) where
   active_as : is_set 2 state ≡ false → (step_leaves (Check n state) s).view ≡ load_state_view state s.view
   active_as off = ap (λ (b : Bool). if b then check_view_refused n (state / 256 - 1) state s.view else load_state_view state s.view) off
 
-pub goes_view : {k : Setup} {n : ℕ} {s : Standing} {answer : Sending} {xs : List Step} → XmitSkb k n s answer xs → steps_tell xs s → Goes k.infos k.bypass n answer s.view (seen xs s)
-goes_view {k} {n} {s} (IsDown {state = state} on) told =
+pub goes_view : {k : Setup} {n : ℕ} {s : Standing} {answer : Sending} {xs : List Step} (p : Packet) → XmitSkb k n s answer xs → s.view.place.position ≡ AtCheck p → BringsUnlocked n s.view
+    → s.view.share.about.bypass ≡ k.bypass → steps_tell xs s → Goes k.infos k.bypass n answer s.view (seen xs s)
+goes_view {k} {n} {s} p (IsDown {state = state} on) here brings may_is told =
     let event = state / 256 - 1 in let loaded = tells_first (Check n state) (Settle n (fate.Refused event) ∷ []) s told in let h = loaded.0 on in
     let same : h.0 ≡ event = h.5 in
     let r : IsRefused n event state s.view (seen (Check n state ∷ Settle n (fate.Refused event) ∷ []) s) = (
@@ -184,20 +206,22 @@ goes_view {k} {n} {s} (IsDown {state = state} on) told =
       through = λ off. absurd (true≢false (sym on ∙ off));
       past = λ off. absurd (true≢false (sym on ∙ off));
     }
-goes_view {k} {n} {s} {answer} (MayPass {state = state} {xs = xs} off may t) told = let loaded = tells_first (Check n state) xs s told in let m = step_leaves (Check n state) s in record {
+goes_view {k} {n} {s} {answer} p (MayPass {state = state} {xs = xs} off may t) here brings may_is told = let loaded = tells_first (Check n state) xs s told in let m = step_leaves (Check n state) s in let e = active_as k n state s off in record {
   state = state;
   sees = loaded.2;
   first = loaded.3;
   refused = λ on. absurd (true≢false (sym on ∙ off));
   through = λ _ not_. absurd (true≢false (sym may ∙ not_));
-  past = λ _ _. subst (λ (v : View). TriesToPass k.infos n answer v (seen xs m)) (active_as k n state s off) (tries_view k n answer m xs t (tells_rest (Check n state) xs s told));
+  past = λ _ _. subst (λ (v : View). TriesToPass k.infos n answer v (seen xs m)) e
+      (tries_view k n answer m xs p t (checked_leads p state true s.view m.view here off (ap (λ (b : Bool). b && not (some_bit state)) may_is ∙ may) e) (subst (λ (v : View). BringsUnlocked n v) (sym e) brings) (tells_rest (Check n state) xs s told));
 }
-goes_view {k} {n} {s} {answer} (MayNotPass {state = state} {xs = xs} off may_not t) told = let loaded = tells_first (Check n state) xs s told in let m = step_leaves (Check n state) s in record {
+goes_view {k} {n} {s} {answer} p (MayNotPass {state = state} {xs = xs} off may_not t) here brings may_is told = let loaded = tells_first (Check n state) xs s told in let m = step_leaves (Check n state) s in let e = active_as k n state s off in record {
   state = state;
   sees = loaded.2;
   first = loaded.3;
   refused = λ on. absurd (true≢false (sym on ∙ off));
-  through = λ _ _. subst (λ (v : View). GoesThrough k.infos n answer v (seen xs m)) (active_as k n state s off) (through_view k n answer m xs t);
+  through = λ _ _. subst (λ (v : View). GoesThrough k.infos n answer v (seen xs m)) e
+      (through_view k n answer m xs t (p, false, checked_leads p state false s.view m.view here off (ap (λ (b : Bool). b && not (some_bit state)) may_is ∙ may_not) e, subst (λ (v : View). BringsUnlocked n v) (sym e) brings) (tells_rest (Check n state) xs s told));
   past = λ _ may. absurd (true≢false (sym may ∙ may_not));
 }
 
@@ -225,27 +249,27 @@ due_view s (LooksAgain {first = first} {second = second} on) told =
 left_call : {k : Setup} {s : Standing} {xs : List Step} → NetTxAction k s xs → steps_tell xs s
     → (before : View) × Interrupts k.infos (enter_view s.view) before × (seen xs s ≡ pass_view before) × (solo (seen xs s) ≡ solo before)
 left_call {k} {s} (IsDueNow {xs = xs} t) told =
-    let m = step_leaves Enter s in let ended = leave_then xs (Leave ∷ []) m in let last = tells_first Leave [] (steps_leave xs m) (tells_after xs (Leave ∷ []) m (tells_rest Enter (xs ++ Leave ∷ []) s told)) in (
+    let m = step_leaves Enter s in let ended = leave_then xs (Leave ∷ []) m in let last = tells_first Leave [] (steps_leave xs m) (tell_last xs (Leave ∷ []) m (tells_rest Enter (xs ++ Leave ∷ []) s told)) in (
       seen xs m,
       record {
         due = true;
         cleared = seen t.xs m;
-        begins = due_view m t.first (told_first t (tells_before xs (Leave ∷ []) m (tells_rest Enter (xs ++ Leave ∷ []) s told)));
-        serves = λ _. subst (λ (z : Standing). Attempts k.infos (seen t.xs m) z.view) (sym (left_then t)) (attempts_view k (steps_leave t.xs m) t.ys t.next);
+        begins = due_view m t.first (told_first t (tell_first xs (Leave ∷ []) m (tells_rest Enter (xs ++ Leave ∷ []) s told)));
+        serves = λ _. subst (λ (z : Standing). Attempts k.infos (seen t.xs m) z.view) (sym (left_then t)) (attempts_view k (steps_leave t.xs m) t.ys t.next (told_then t (tell_first xs (Leave ∷ []) m (tells_rest Enter (xs ++ Leave ∷ []) s told))));
         leaves = λ off. absurd (true≢false off);
       },
       ap (λ (z : Standing). z.view) ended,
       ap (λ (z : Standing). solo z.view) ended ∙ last,
     )
 left_call {k} {s} (IsNotDue {xs = xs} d) told =
-    let m = step_leaves Enter s in let ended = leave_then xs (Leave ∷ []) m in let last = tells_first Leave [] (steps_leave xs m) (tells_after xs (Leave ∷ []) m (tells_rest Enter (xs ++ Leave ∷ []) s told)) in (
+    let m = step_leaves Enter s in let ended = leave_then xs (Leave ∷ []) m in let last = tells_first Leave [] (steps_leave xs m) (tell_last xs (Leave ∷ []) m (tells_rest Enter (xs ++ Leave ∷ []) s told)) in (
       seen xs m,
-      record { due = false; cleared = seen xs m; begins = due_view m d (tells_before xs (Leave ∷ []) m (tells_rest Enter (xs ++ Leave ∷ []) s told)); serves = λ on. absurd (true≢false (sym on)); leaves = λ _. refl },
+      record { due = false; cleared = seen xs m; begins = due_view m d (tell_first xs (Leave ∷ []) m (tells_rest Enter (xs ++ Leave ∷ []) s told)); serves = λ on. absurd (true≢false (sym on)); leaves = λ _. refl },
       ap (λ (z : Standing). z.view) ended,
       ap (λ (z : Standing). solo z.view) ended ∙ last,
     )
 
-pub interrupts_view : (k : Setup) (old new : Known) → InterruptsBy k old new → (before : View) × Interrupts k.infos (enter_view old.view) before × (new.view ≡ pass_view before) × (solo new.view ≡ solo before)
+pub interrupts_view : (k : Setup) (old new : Known) → LeadsBy (NetTxAction k) old new → (before : View) × Interrupts k.infos (enter_view old.view) before × (new.view ≡ pass_view before) × (solo new.view ≡ solo before)
 interrupts_view k old new (s, xs, such, v, was, w, is, told) =
     let c = left_call such told in (c.0, subst (λ (x : View). Interrupts k.infos (enter_view x) c.0) v c.1, w ∙ c.2, ap solo w ∙ c.3)
 
@@ -268,8 +292,8 @@ each_view s (LooksAtNext {queue = queue} {before = before} {here = here} {xs = x
       seen xs s,
       before,
       here,
-      each_view s h (tells_before xs ys s told),
-      subst (λ (z : Standing). WakesAt queue here (seen xs s) z.view) (sym (leave_then xs ys s)) (wakes_view queue (steps_leave xs s) w (tells_after xs ys s told)),
+      each_view s h (tell_first xs ys s told),
+      subst (λ (z : Standing). WakesAt queue here (seen xs s) z.view) (sym (leave_then xs ys s)) (wakes_view queue (steps_leave xs s) w (tell_last xs ys s told)),
       refl,
     )
 

@@ -1,11 +1,14 @@
 -- What the calls come to, as relations of views alone: what a seat that has the table alone is shown from.
-use Rattle.lq_model.specs.Account.{Direct, Wake}
+use Rattle.lq_model.specs.Account.{Direct, Full, Join, Wake}
+use Rattle.lq_run.specs.Runs.{ended}
+use Rattle.lq_ring.specs.Put.{dropping_full, putting}
+use Rattle.lq_table.specs.Locks.{locked_to}
+use Rattle.lq_table.specs.Producers.{SeesEnd}
 use Rattle.lq_model.specs.Plan.{queue_in, band_in, owner_in, rank_in}
 use Rattle.lq_model.specs.declared.fate.Info.{Info}
 use Rattle.lq_model.specs.declared.state.TheConstants.{QUOTA}
 use Rattle.lq_qdisc.specs.Calls.{Dequeues, SeesOneQueue}
 use Rattle.lq_qdisc.specs.Direct.{Accepts, Directs, IsBusyAt, LaysAside}
-use Rattle.lq_qdisc.specs.Outcomes.{GetsLock, Misses, IsLockReleased, Enqueues}
 use Rattle.lq_qdisc.specs.declared.answers.Ran.{Ran}
 use Rattle.lq_qdisc.specs.declared.answers.RunEnd.{RunEnd}
 use Rattle.lq_qdisc.specs.declared.answers.RunEnd.TheVariants as end
@@ -14,8 +17,7 @@ use Rattle.lq_qdisc.specs.declared.answers.Sending.TheVariants as sending
 use Rattle.lq_qdisc.specs.declared.answers.Taken.TheVariants as taken
 use Rattle.lq_qdisc.specs.declared.answers.Through.{Through}
 use Rattle.lq_qdisc.specs.declared.answers.Through.TheVariants as through
-use Rattle.lq_qdisc.specs.declared.answers.Why.TheVariants as why
-use Rattle.lq_table.specs.Sees.{IsSole, account_of, solo, heard}
+use Rattle.lq_table.specs.Sees.{IsAccounts, IsSole, account_of, solo, heard}
 use Rattle.lq_table.specs.Inside.{enter_view}
 use Rattle.lq_table.specs.Fates.{settle_view_owed}
 use Rattle.lq_table.specs.Turns.{take_turn_view}
@@ -24,6 +26,33 @@ use Rattle.lq_table.specs.Stops.{wake_view}
 use Rattle.lq_table.specs.Moves.{pass_view, is_set}
 use Rattle.lq_table.specs.Views.{View}
 use Rattle.std.specs.Prelude.{◌≡◌, ◌≢◌, ◌||◌, slice_index, ℕ, zero, suc, Bool, true, false, List, ◌⊎◌, ◌↔◌, ◌≤◌, ◌<◌, ◌+◌, ◌*◌, not, ◌&&◌, is_some}
+
+-- a step on the run lock: no event came, and no fate was stored
+pub record IsCalm (old new : View) : Type 0 where
+  pub share : new.share ≡ old.share
+  pub state : new.whole.state ≡ old.whole.state
+  pub settled : new.settled ≡ old.settled
+
+-- the run lock was got
+pub record GetsLock (old new : View) : Type 0 where
+  pub calm : IsCalm old new
+  pub sole : IsSole old → (old.whole.qdisc.locked ≡ false) × (solo new ≡ locked_to true (solo old)) × IsAccounts new
+
+-- it wasn't: it was found held, and MISSED is set by this call or was before
+pub record Misses (old new : View) : Type 0 where
+  pub calm : IsCalm old new
+  pub sole : IsSole old → (old.whole.qdisc.locked ≡ true) × (solo new ≡ locked_to true (missed_to true (solo old)))
+
+-- it was released
+pub record IsLockReleased (old new : View) : Type 0 where
+  pub calm : IsCalm old new
+  pub sole : IsSole old → solo new ≡ ended (solo old)
+
+-- the packet was put into its band, or dropped as full
+abbrev pub Enqueues : ℕ → ℕ → Sending → View → View → Type 0
+Enqueues n band sending.Queued old new = (new ≡ putting band n old) × SeesEnd band old 0 × (solo new ≡ heard (Join n band) (solo old))
+Enqueues n band (sending.FullSeen seen) old new = (new ≡ settle_view_owed (dropping_full n seen old)) × SeesEnd band old (seen + 1) × (solo new ≡ heard (Full n seen) (solo old))
+Enqueues n band _ old new = ⊥
 
 -- A packet was dequeued, and then it was handed to the device with this result.
 pub record Hands (handed : ℕ → ℕ → View → View → Type 0) (infos : List Info) (old new : View) : Type 0 where

@@ -9,22 +9,17 @@ use Rattle.lq_model.specs.declared.machine.Position.TheVariants.{Again, Unlock, 
 use Rattle.lq_run.specs.Runs.{HasStation, Rests}
 use Rattle.lq_ring.specs.Put.{no_locks}
 use Rattle.lq_table.specs.Views.{View, Setup, HolderPart, machine_packet}
-use Rattle.lq_table.specs.Moves.{IsPacketOf, IsKnownSlot}
+use Rattle.lq_table.specs.Moves.{IsPacketOf}
 use Rattle.lq_table.specs.States.{missed_to, draining_to}
 use Rattle.lq_table.specs.Stops.{picking}
-use Rattle.lq_table.specs.Sees.{view, setup, position, IsSameSeat, Solo, IsSole, IsAccounts, HasSent, account_of, solo, heard}
+use Rattle.lq_table.specs.Sees.{view, position, IsSameSeat, Solo, IsSole, IsAccounts, HasSent, account_of, solo, heard}
 use Rattle.lq_model.specs.declared.fate.Fate.{Fate}
 use Rattle.lq_model.specs.declared.fate.Info.{Info}
 use Rattle.lq_qdisc.specs.declared.answers.Taken.{Taken}
 use Rattle.lq_qdisc.specs.declared.answers.Taken.TheVariants as taken
 use Rattle.lq_table.specs.declared.shared.Cpu.{Cpu}
-use Rattle.lq_table.specs.declared.shared.Shared.{Shared}
 
 module _ {D : Type 0} where
-  -- what lies in the requeue slot is a packet of the station
-  abbrev pub IsSlotOf : Shared D → Cpu D → Type 0
-  IsSlotOf t c = IsKnownSlot (setup t) (view c).holder.slot
-
   -- it has the run lock and the station, no take, resize or swap is half done, and it has no producer lock
   abbrev pub IsServing : Cpu D → Type 0
   IsServing c = HasStation c × Rests c × ((view c).locks ≡ no_locks) × ((view c).holder.shut ≡ None)

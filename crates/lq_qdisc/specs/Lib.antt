@@ -8,17 +8,11 @@ pub mod Sends
 pub mod Stations
 -- what the calls do of a seat that has the table alone
 pub mod Alone
--- what parts of its calls come to
-pub mod Outcomes
 -- its calls, each with the lists of steps that it may make
 pub mod StepLists
 -- the steps of its calls
 pub mod Steps
 -- what its calls ask of a seat, and what they leave of it
 pub mod Seats
--- what a transmit, the interrupts and their parts ask, and what each leaves
+-- what the calls and their parts ask, and what each leaves
 pub mod Parts
--- what the parts of handing a packet to the device ask, and what each leaves
-pub mod Handing
--- what the parts of a run ask, and what each leaves
-pub mod Takes

@@ -1,38 +1,27 @@
--- A transmit, the interrupts, and their parts: what each requires of the seat (`May..`), and what each ensures of it.
-use Rattle.std.specs.Prelude.{◌≡◌, ℕ, true, false, Bool, if◌then◌else◌, List, None, [], ◌∷◌, ◌<◌, ◌+◌, ◌*◌, ◌≢◌, Some, ◌↔◌}
+-- The calls and their parts: what each requires of the seat (`May..`), and what each ensures of it.
+use Rattle.std.specs.Prelude.{◌≡◌, ℕ, List, None, Bool, Some}
 use Rattle.lq_model.specs.declared.fate.Info.{Info}
-use Rattle.lq_model.specs.declared.machine.Attempt.{Attempt}
-use Rattle.lq_model.specs.declared.machine.Attempt.TheVariants.{Interrupt}
 use Rattle.lq_model.specs.declared.machine.Position.{Position}
-use Rattle.lq_model.specs.declared.machine.Position.TheVariants.{Idle, Leave, Try1}
-use Rattle.lq_run.specs.Runs.{HasNone, begins}
+use Rattle.lq_model.specs.declared.machine.Position.TheVariants.{Idle, Leave, Gate}
+use Rattle.lq_run.specs.Runs.{HasNone}
 use Rattle.lq_ring.specs.Put.{no_locks}
-use Rattle.lq_ring.specs.Seats.{GoesOnFromPut}
-use Rattle.lq_table.specs.Fates.{settle_view_owed}
-use Rattle.lq_table.specs.Sees.{view, known, setup, position, slot, IsElseSame, IsSameSeat, solo}
-use Rattle.lq_table.specs.Moves.{IsPacketOf}
-use Rattle.lq_table.specs.Views.{View, Known}
-use Rattle.lq_table.specs.Step.{MakesSteps, Settle, Standing, Step}
-use Rattle.lq_model.specs.declared.fate.Fate.TheVariants as fate
-use Rattle.lq_run.specs.Steps.{MakesStepsOf}
+use Rattle.lq_table.specs.Sees.{view, setup, position, slot, packet_at, Solo, solo, IsElseSame}
+use Rattle.lq_table.specs.Moves.{IsKnownSlot, IsPacketOf}
+use Rattle.lq_table.specs.Views.{View}
+use Rattle.lq_table.specs.Step.{Standing, Step, MakesSteps}
 use Rattle.lq_ring.specs.StepLists.{MakesStepsFrom}
 use Rattle.lq_table.specs.declared.shared.Cpu.{Cpu}
 use Rattle.lq_table.specs.declared.shared.Shared.{Shared}
-use Rattle.lq_qdisc.specs.Calls.{IsServing, IsSlotOf, KeepsFates}
-use Rattle.lq_qdisc.specs.Direct.{position_after}
-use Rattle.lq_qdisc.specs.Seats.{FindsOtherTurn, IsTurnOf, turn_word, BringsStation}
-use Rattle.lq_qdisc.specs.Sends.{HasCome, IsBringing, IsCallKept, IsReadyToSend, IsStill, serves_bands}
-use Rattle.lq_qdisc.specs.Outcomes.{Enqueues}
-use Rattle.lq_qdisc.specs.StepLists.{BeginSoftirq, PfifoFastEnqueue}
-use Rattle.lq_qdisc.specs.Steps.{TransmitsBy}
+use Rattle.lq_qdisc.specs.Calls.{IsServing, KeepsFates, IsKeptInRun, IsSettledSame, IsTakenOf, after_dequeue}
+use Rattle.lq_qdisc.specs.Direct.{StaysAt, hearing_stops, run_after, sent_leads, stopped_by}
+use Rattle.lq_qdisc.specs.Sends.{HasCome, IsBringing, IsCallKept, IsReadyToSend, IsStill}
 use Rattle.lq_qdisc.specs.declared.answers.Sending.{Sending}
 use Rattle.lq_qdisc.specs.declared.answers.Through.{Through}
 use Rattle.lq_qdisc.specs.declared.answers.Through.TheVariants.{Yes}
-use Rattle.lq_model.specs.Plan.{band_in, station_in, owner_in, rank_in}
-use Rattle.lq_table.specs.Rule.{times}
-use Rattle.lq_model.specs.Alone.{brought_in}
-use Rattle.lq_qdisc.specs.declared.answers.Sending.TheVariants as sending
-use Rattle.lq_account_laws.specs.Trail.{down_of}
+use Rattle.lq_qdisc.specs.declared.answers.Taken.{Taken}
+use Rattle.lq_model.specs.declared.device.Tx.{Tx}
+use Rattle.lq_qdisc.specs.Seats.{GoesOnFrom}
+use Rattle.lq_qdisc.specs.StepLists.{stop_steps}
 
 -- WHAT THEY REQUIRE
 
@@ -41,32 +30,18 @@ module _ {D : Type 0} where
   abbrev pub IsFreeInside : Cpu D → Type 0
   IsFreeInside c = HasNone c × ((view c).locks ≡ no_locks) × ((view c).holder.resizing ≡ None)
 
-  -- no producer lock, and no resize half done
-  abbrev pub IsUnlocked : Cpu D → Type 0
-  IsUnlocked c = ((view c).locks ≡ no_locks) × ((view c).holder.resizing ≡ None)
-
   -- The seat has the run lock and the station, and no packet in hand.
   pub record MayServe (t : Shared D) (c : Cpu D) : Type 0 where
     pub serving : IsServing c
     pub hand : (view c).holder.hand ≡ None
-    pub slot : IsSlotOf t c
+    pub slot : IsKnownSlot (setup t) (view c).holder.slot
 
-  -- The seat may serve the bands, and then release the run lock.
-  pub record MayRun (t : Shared D) (c : Cpu D) : Type 0 where
-    pub at : position c ≡ begins (view c)
-    pub serves : MayServe t c
-    pub begun : (view c).place.run ≡ 0
-
-  -- The seat may try the run lock, in order to serve the bands.
-  pub record MayTryRun (c : Cpu D) : Type 0 where
-    pub at : (a : Attempt) × (position c ≡ Try1 a) × (serves_bands a ≡ true)
-    pub free : IsFreeInside c
-
-  -- The seat has handed a packet to the device past the bands, with this result.
-  pub record MayFollow (through : Through) (c : Cpu D) : Type 0 where
-    pub at : position c ≡ position_after through true (view c)
+  -- Packet n, which the holder has in hand, may be handed to the device: past the bands (`direct`) or out of them.
+  pub record MayXmit (t : Shared D) (n : ℕ) (direct : Bool) (c : Cpu D) : Type 0 where
+    pub packet : IsPacketOf (setup t) n
+    pub at : position c ≡ Gate (packet_at t n) direct
     pub serving : IsServing c
-    pub empty : through ≡ Yes → ((view c).holder.hand ≡ None) × ((view c).holder.slot ≡ None)
+    pub hand : (view c).holder.hand ≡ Some n
 
   -- The seat brings packet n, stands here in its call, and has the run lock or is without it as this says.
   pub record MayBring (t : Shared D) (n : ℕ) (here : Position) (has : Cpu D → Type 0) (c : Cpu D) : Type 0 where
@@ -75,14 +50,51 @@ module _ {D : Type 0} where
     pub packet : IsPacketOf (setup t) n
     pub holds : has c
 
-  -- The seat is in no call, has nothing in hand, and has the owner of packet n, which is one of the station.
-  pub record MayTransmit (t : Shared D) (n : ℕ) (c : Cpu D) : Type 0 where
-    pub at : position c ≡ Idle
-    pub ready : IsReadyToSend c
-    pub packet : IsPacketOf (setup t) n × (station_in t.infos.now n ≡ t.station) × (band_in t.infos.now n < 3)
-    pub owner : (0 < times (owner_in t.infos.now n) (view c).share.owners) × (owner_in t.infos.now n < t.senders)
+-- WHAT A RUN AND ITS PARTS ENSURE
 
--- WHAT THEY ENSURE
+module _ {D : Type 0} where
+  -- A dequeue answered this, by such steps; it came to this, and the run goes on from there.
+  pub record DequeuesAs (t : Shared D) (answer : Taken) (comes : View → View → Type 0) (such : Standing → List Step → Type 0) (b a : Cpu D) : Type 0 where
+    pub kept : IsKeptInRun b a
+    pub run : (view a).place.run ≡ (view b).place.run
+    pub serving : IsServing a
+    pub at : position a ≡ after_dequeue answer t.infos.now
+    pub fates : IsSettledSame b a
+    pub packet : IsTakenOf (setup t) answer
+    pub came : comes (view b) (view a)
+    pub makes : MakesStepsFrom such b a
+
+  -- After a scan that found nothing the seat goes on to this position, by these steps. A seat that has the table alone knows this.
+  pub record TakesNothing (next : Position) (told : Solo → Solo) (by : Cpu D → Cpu D → Type 0) (b a : Cpu D) : Type 0 where
+    pub kept : IsKeptInRun b a
+    pub run : (view a).place.run ≡ (view b).place.run
+    pub station : (a.station ≡ b.station) × (slot a ≡ slot b)
+    pub at : position a ≡ next
+    pub fates : IsSettledSame b a
+    pub same : ((view a).holder ≡ (view b).holder) × ((view a).whole.state ≡ (view b).whole.state) × (solo (view a) ≡ told (solo (view b)))
+    pub makes : by b a
+
+  -- From this position the holder handed the packet in hand to the device with this result, by such steps; it came to this.
+  pub record XmitsBy (from : Bool → Position) (result : Through) (comes : View → View → Type 0) (such : Standing → List Step → Type 0) (b a : Cpu D) : Type 0 where
+    pub kept : IsKeptInRun b a
+    pub serving : IsServing a
+    pub at : GoesOnFrom from result b a
+    pub run : (view a).place.run ≡ run_after result (view b).place.run
+    pub empty : result ≡ Yes → ((view a).holder.hand ≡ None) × ((view a).holder.slot ≡ None)
+    pub trail : (view a).trail ≡ (view b).trail
+    pub came : comes (view b) (view a)
+    pub makes : MakesStepsFrom such b a
+
+  -- The stop words that follow this answer of the device to a packet of the queue were stored.
+  pub record StoresStops (t : Shared D) (queue : ℕ) (answer : Tx) (b a : Cpu D) : Type 0 where
+    pub same : IsElseSame b a
+    pub at : GoesOnFrom (λ direct. sent_leads answer queue direct (view b)) Yes b a
+    pub stays : StaysAt (view b) (view a)
+    pub past : (view a).whole.state.past ≡ stopped_by answer queue t.queues (view b).whole.state.past
+    pub step : solo (view a) ≡ hearing_stops answer queue t.queues (solo (view b))
+    pub makes : MakesSteps (stop_steps answer queue t.queues) b a
+
+-- WHAT A TRANSMIT, THE INTERRUPTS AND THEIR PARTS ENSURE
 
 module _ {D : Type 0} where
   -- The seat is at the end of its call, without the run lock, by such steps; this came of what it knew.
@@ -102,48 +114,13 @@ module _ {D : Type 0} where
   abbrev pub BringsBy : List Info → ℕ → Sending → (Standing → List Step → Type 0) → Cpu D → Cpu D → Type 0
   BringsBy infos n answer such b a = LeavesBy (HasCome infos n answer) such b a
 
-  -- Packet n was put into its band, or dropped as full with its fate stored, as the answer says.
-  pub record EnqueuesAs (t : Shared D) (n : ℕ) (answer : Sending) (b a : Cpu D) : Type 0 where
-    pub same : IsSameSeat b a × (a.station ≡ b.station) × (slot a ≡ slot b)
-    pub at : GoesOnFromPut t n b a
-    pub came : Enqueues n (band_in t.infos.now n) answer (view b) (view a)
-    pub makes : MakesStepsOf (PfifoFastEnqueue (setup t) n answer) b a
-
-  -- Packet n was refused by the event that this word of the state tells, and its fate is stored.
-  pub record RefusesAs (t : Shared D) (n state : ℕ) (answer : Sending) (b a : Cpu D) : Type 0 where
-    pub same : IsElseSame b a
-    pub settled : view a ≡ settle_view_owed (view b)
-    pub event : (event : ℕ) × (bits : ℕ) × (bits < 16) × (state ≡ bits + 256 * (event + 1)) × (answer ≡ sending.Refused event)
-        × MakesSteps (Settle n (fate.Refused event) ∷ []) b a
-    pub step : solo (view a) ≡ solo (view b)
-
-  -- A packet was transmitted where it is its turn: the seat is in no call, and has nothing in hand.
-  pub record TransmitsAs (t : Shared D) (n : ℕ) (answer : Sending) (b a : Cpu D) : Type 0 where
-    pub kept : IsCallKept b a
-    pub fates : KeepsFates (view b) (view a)
-    pub at : position a ≡ Idle
-    pub ready : IsReadyToSend a
-    pub in_turn : IsTurnOf t n b → TransmitsBy (setup t) n answer (known b) (known a)
-    pub first : IsTurnOf t n b → (view b).control.first ≡ true → (event : ℕ)
-        → (answer ≡ sending.Refused event) ↔ (down_of (view b).trail ≡ Some event)
-    pub alone : IsTurnOf t n b → (view b).place.raised ≡ false → BringsStation t (brought_in t.infos.now t.bypass n) b a
-    pub out_of_turn : turn_word t n b ≢ 2 * rank_in t.infos.now n → FindsOtherTurn t n answer b a
-
-  -- SCHED was cleared, and the seat goes on to the run lock where the bands are to be served, as the answer says.
-  pub record BeginsSoftirq (answer : Bool) (b a : Cpu D) : Type 0 where
-    pub same : IsElseSame b a
-    pub at : position a ≡ (if answer then Try1 Interrupt else Leave)
-    pub still : IsStill (view b) (view a) × ((view a).locks ≡ (view b).locks) × ((view a).holder ≡ (view b).holder)
-    pub makes : MakesStepsOf (BeginSoftirq answer) b a
-    pub mark : (view a).place.raised ≡ (view b).place.raised
-
-  -- An interrupt was done by these steps, with these fates stored: the seat is in no call, and has nothing in hand. A seat that has the table
+  -- An interrupt was done by such steps, with these fates stored: the seat is in no call, and has nothing in hand. A seat that has the table
   -- alone knows this.
-  pub record InterruptsAs (stored : View → View → Type 0) (by : Known → Known → Type 0) (told : Cpu D → Cpu D → Type 0) (b a : Cpu D) : Type 0 where
+  pub record InterruptsAs (stored : View → View → Type 0) (such : Standing → List Step → Type 0) (told : Cpu D → Cpu D → Type 0) (b a : Cpu D) : Type 0 where
     pub kept : IsCallKept b a
     pub fates : stored (view b) (view a)
     pub at : position a ≡ Idle
     pub ready : IsReadyToSend a
     pub still : IsStill (view b) (view a)
-    pub steps : by (known b) (known a)
+    pub makes : MakesStepsFrom such b a
     pub alone : told b a

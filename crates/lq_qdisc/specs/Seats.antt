@@ -1,19 +1,15 @@
 -- What the calls of a queue discipline ask of a seat, and what they leave of it.
-use Rattle.std.specs.Prelude.{◌≡◌, ◌≢◌, ℕ, ◌*◌, ◌<◌, Bool, false, length, slice_index, Some, None}
+use Rattle.std.specs.Prelude.{◌≡◌, ◌≢◌, ℕ, ◌*◌, Bool, slice_index, Some, None}
 use Rattle.lq_device.specs.Station.{StationState}
-use Rattle.lq_model.specs.Alone.{RunningStation, opened}
+use Rattle.lq_model.specs.Alone.{RunningStation}
 use Rattle.lq_model.specs.Plan.{owner_in, rank_in}
 use Rattle.lq_model.specs.declared.machine.Position.{Position}
 use Rattle.lq_table.specs.Views.{first_account}
 use Rattle.lq_table.specs.Sees.{view, steps, setup, position, slot, IsAccounts, IsSameSeat, solo}
-use Rattle.lq_table.specs.Made.{◌⊳◌}
-use Rattle.lq_table.specs.Turns.{take_turn_log}
 use Rattle.lq_table.specs.declared.shared.Cpu.{Cpu}
 use Rattle.lq_table.specs.declared.shared.Shared.{Shared}
-use Rattle.lq_qdisc.specs.Alone.{BringsAlone, Does, IsOneSender, RunsAlone, account_in}
+use Rattle.lq_qdisc.specs.Alone.{BringsAlone, IsOneSender, RunsAlone, account_in}
 use Rattle.lq_qdisc.specs.Direct.{position_after}
-use Rattle.lq_qdisc.specs.declared.answers.Sending.{Sending}
-use Rattle.lq_qdisc.specs.declared.answers.Sending.TheVariants as sending
 use Rattle.lq_qdisc.specs.declared.answers.Through.{Through}
 
 -- THE STATION THAT THE SEAT CARRIES
@@ -36,10 +32,6 @@ module _ {D : Type 0} where
   abbrev pub GoesOnFrom : (Bool → Position) → Through → Cpu D → Cpu D → Type 0
   GoesOnFrom at through b a = (direct : Bool) → position b ≡ at direct → position a ≡ position_after through direct (view a)
 
-  -- the device of the station that it carries has room for a packet, and doesn't hang
-  abbrev pub CarriesDeviceWithRoom : Cpu D → Type 0
-  CarriesDeviceWithRoom c = (st : StationState) × (c.station ≡ Some st) × (0 < st.device.spare) × (st.device.hung ≡ false) × (length st.device.accepted < 1000000)
-
 -- TRANSMITS
 
 module _ {D : Type 0} where
@@ -51,20 +43,12 @@ module _ {D : Type 0} where
   abbrev pub IsTurnOf : Shared D → ℕ → Cpu D → Type 0
   IsTurnOf t n c = turn_word t n c ≡ 2 * rank_in t.infos.now n
 
-  -- the turn was tried and wasn't got: the answer is the turn word, and nothing else was done
-  abbrev pub FindsOtherTurn : Shared D → ℕ → Sending → Cpu D → Cpu D → Type 0
-  FindsOtherTurn t n answer b a = (answer ≡ sending.OutOfTurn (turn_word t n b)) × (view a ≡ view b) × (steps a ≡ steps b ⊳ take_turn_log (owner_in t.infos.now n) (rank_in t.infos.now n) false)
-
 -- A SEAT THAT HAS THE TABLE ALONE
 
 module _ {D : Type 0} where
   -- it brings the station on by this step of the run of one sender
   abbrev pub BringsStation : Shared D → (RunningStation → RunningStation) → Cpu D → Cpu D → Type 0
   BringsStation t step b a = BringsAlone t.infos.now (first_account (setup t)) step (solo (view b)) (solo (view a))
-
-  -- it opens the station's queues
-  abbrev pub OpensStation : Shared D → Cpu D → Cpu D → Type 0
-  OpensStation t b a = Does t.infos.now (first_account (setup t)) opened (solo (view b)) (solo (view a))
 
   -- where its station is active it serves that as the run of one sender does; with several queues, where what it has as holder is the
   -- account's

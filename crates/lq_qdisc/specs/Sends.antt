@@ -1,8 +1,7 @@
 -- What a transmit and a soft interrupt leave of what a seat knows.
-use Rattle.std.specs.Prelude.{◌≡◌, ℕ, ◌+◌, ◌*◌, ◌<◌, Bool, true, false, is_some, length, List, Option, Some, None}
+use Rattle.std.specs.Prelude.{◌≡◌, ℕ, ◌<◌, Bool, true, false, is_some, length, List, Option, Some, None}
 use Rattle.lq_model.specs.Account.{Event, Join, Full, Refuse, Direct}
 use Rattle.lq_model.specs.Plan.{band_in}
-use Rattle.lq_model.specs.declared.fate.Fate.TheVariants as fate
 use Rattle.lq_model.specs.declared.fate.Info.{Info}
 use Rattle.lq_model.specs.declared.machine.Attempt.{Attempt}
 use Rattle.lq_model.specs.declared.machine.Attempt.TheVariants as attempt
@@ -60,10 +59,6 @@ abbrev pub serves_bands : Attempt → Bool
 serves_bands (attempt.Queued p) = true
 serves_bands attempt.Interrupt = true
 serves_bands (attempt.Direct p) = false
-
--- the state was loaded as this word, which tells the event by which the packet n is refused, and that fate is still to be stored
-abbrev pub OwesRefused : ℕ → ℕ → View → Type 0
-OwesRefused n state v = (event : ℕ) × (bits : ℕ) × (bits < 16) × (event < 4294967296) × (state ≡ bits + 256 * (event + 1)) × (v.packets.owed ≡ Some (n, fate.Refused event))
 
 -- SOFT INTERRUPTS AND WAKES
 

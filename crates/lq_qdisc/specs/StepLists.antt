@@ -1,4 +1,5 @@
 -- The calls of a queue discipline, each with the lists of steps that it may make from where a seat stands, the first step first.
+use Rattle.std.specs.Option.{option_map_or}
 use Rattle.std.specs.Prelude.{◌≡◌, ◌≢◌, ◌⊎◌, ◌<◌, ◌+◌, ◌-◌, ◌/◌, ℕ, zero, suc, Bool, true, false, not, ◌&&◌, ◌||◌, List, [], ◌∷◌, ◌++◌, Option, Some, None, Ok, Err}
 use Rattle.lq_device.specs.Station.{StationState, HasAnswered, with_slot}
 use Rattle.lq_model.specs.Device.{is_busy}
@@ -19,7 +20,6 @@ use Rattle.lq_table.specs.Step.{Check, ClearDraining, ClearMissed, ClearSched, E
 use Rattle.lq_table.specs.Views.{Setup, View, Known}
 use Rattle.lq_qdisc.specs.Calls.{Dequeues, SeesOneQueue}
 use Rattle.lq_qdisc.specs.Direct.{Directs}
-use Rattle.lq_qdisc.specs.Outcomes.{Enqueues, GetsLock, IsLockReleased, Misses}
 use Rattle.lq_qdisc.specs.declared.answers.Ran.{Ran}
 use Rattle.lq_qdisc.specs.declared.answers.RunEnd.{RunEnd}
 use Rattle.lq_qdisc.specs.declared.answers.RunEnd.TheVariants as end
@@ -75,10 +75,6 @@ pub data ScanBands (before : Standing) : Option ℕ → List Step → Type 0 whe
   TakesFrom : {band n : ℕ} {xs ys : List Step} → EmptyBelow before band xs → Consume band (steps_leave xs before) (Some n) ys
       → ScanBands before (Some n) (xs ++ ys)
 
-abbrev pub taken_as : Option ℕ → Taken
-taken_as None = taken.Empty
-taken_as (Some n) = taken.Packet n
-
 -- `pfifo_fast_dequeue` of net/sched/sch_generic.c: the bands are scanned. Where they are empty the state is loaded, and where MISSED or
 -- DRAINING is set both are cleared, and the bands scanned once more.
 pub data PfifoFastDequeue (before : Standing) : Taken → List Step → Type 0 where
@@ -87,7 +83,7 @@ pub data PfifoFastDequeue (before : Standing) : Taken → List Step → Type 0 w
       → PfifoFastDequeue before taken.Empty (xs ++ LoadState state ∷ [])
   ScansAgain : (state : ℕ) {found : Option ℕ} {xs ys : List Step} → ScanBands before None xs → some_bit state ≡ true
       → ScanBands (steps_leave (xs ++ LoadState state ∷ ClearMissed ∷ ClearDraining ∷ []) before) found ys
-      → PfifoFastDequeue before (taken_as found) (xs ++ LoadState state ∷ ClearMissed ∷ ClearDraining ∷ ys)
+      → PfifoFastDequeue before (option_map_or (λ n. taken.Packet n) found taken.Empty) (xs ++ LoadState state ∷ ClearMissed ∷ ClearDraining ∷ ys)
 
 -- `dequeue_skb` of net/sched/sch_generic.c: the queue of the packet in the requeue slot, or the one queue, is open first; with more queues
 -- none is asked for the bands
@@ -173,23 +169,13 @@ pub data QdiscRunLocked (k : Setup) (before : Standing) : Ran → List Step → 
       → solo (steps_leave (xs ++ SetMissed was ∷ []) before).view ≡ missed_to true (solo (steps_leave xs before).view)
       → QdiscRunLocked k before (record { end = end.Quota; sent = QUOTA }) (xs ++ SetMissed was ∷ [])
 
--- the run lock is got, or missed; it is released
-abbrev pub BeginGets : Standing → List Step → Type 0
-BeginGets = Coming GetsLock (λ _. Begin true)
-
-abbrev pub BeginMisses : Standing → List Step → Type 0
-BeginMisses = Coming Misses (λ _. Begin false)
-
-abbrev pub Release : Standing → List Step → Type 0
-Release = Coming IsLockReleased (λ _. End)
-
 -- a run, and then its end
 abbrev pub RunToEnd : Setup → Standing → List Step → Type 0
-RunToEnd k before xs = (ran : Ran) × Then (λ s. QdiscRunLocked k s ran) Release before xs
+RunToEnd k before xs = (ran : Ran) × Then (λ s. QdiscRunLocked k s ran) (λ s. End) before xs
 
 -- `qdisc_run` of include/net/pkt_sched.h: the run lock is tried, and the bands are served where it is got
 abbrev pub QdiscRun : Setup → Standing → List Step → Type 0
-QdiscRun k before xs = BeginMisses before xs ⊎ Then BeginGets (RunToEnd k) before xs
+QdiscRun k before xs = Begin false xs ⊎ Then (λ s. Begin true) (RunToEnd k) before xs
 
 -- A TRANSMIT
 
@@ -199,24 +185,21 @@ pub data PfifoFastEnqueue (k : Setup) (n : ℕ) : Sending → List Step → Type
   DropsFull : {full : Full} {xs : List Step} → Produce (band_in k.infos n) n (Err full) xs
       → PfifoFastEnqueue k n (sending.FullSeen full.seen) (xs ++ Settle n (fate.Full full.seen) ∷ [])
 
-abbrev pub Enqueue : Setup → ℕ → Sending → Standing → List Step → Type 0
-Enqueue k n answer = Coming (Enqueues n (band_in k.infos n) answer) (λ _. PfifoFastEnqueue k n answer)
-
--- by a seat that doesn't have the run lock, which then tries that; and by one that has it, which then serves the bands
+-- it is, by a seat that doesn't have the run lock, which then tries that; and by one that has it, which then serves the bands
 abbrev pub EnqueueAndRun : Setup → ℕ → Sending → Standing → List Step → Type 0
-EnqueueAndRun k n answer = Then (Enqueue k n answer) (QdiscRun k)
+EnqueueAndRun k n answer = Then (λ s. PfifoFastEnqueue k n answer) (QdiscRun k)
 
 abbrev pub EnqueueAndRunLocked : Setup → ℕ → Sending → Standing → List Step → Type 0
-EnqueueAndRunLocked k n answer = Then (Enqueue k n answer) (RunToEnd k)
+EnqueueAndRunLocked k n answer = Then (λ s. PfifoFastEnqueue k n answer) (RunToEnd k)
 
 -- after a packet that went past the bands: where the device accepted it the state is loaded, and where MISSED or DRAINING is set then, the
 -- bands are served
 pub data RunAfterBypass (k : Setup) (before : Standing) : Through → List Step → Type 0 where
   ServesAfter : {state : ℕ} {xs : List Step} → some_bit state ≡ true → RunToEnd k (step_leaves (LoadState state) before) xs
       → RunAfterBypass k before through.Yes (LoadState state ∷ xs)
-  EndsAfter : {state : ℕ} {xs : List Step} → some_bit state ≡ false → Release (step_leaves (LoadState state) before) xs
+  EndsAfter : {state : ℕ} {xs : List Step} → some_bit state ≡ false → End xs
       → RunAfterBypass k before through.Yes (LoadState state ∷ xs)
-  EndsAtOnce : {reason : Why} {xs : List Step} → Release before xs → RunAfterBypass k before (through.Back reason) xs
+  EndsAtOnce : {reason : Why} {xs : List Step} → End xs → RunAfterBypass k before (through.Back reason) xs
 
 -- the packet n, which is in hand, goes past the bands, and what follows it is done
 abbrev pub XmitBypass : Setup → ℕ → Standing → List Step → Type 0
@@ -234,7 +217,7 @@ pub data BypassLocked (k : Setup) (n : ℕ) (before : Standing) : Sending → Li
 -- It may go past the bands, since neither bit was set: it does so where the run lock is got and neither is set still.
 abbrev pub TryBypass : Setup → ℕ → Sending → Standing → List Step → Type 0
 TryBypass k n answer before xs =
-    Then BeginMisses (EnqueueAndRun k n answer) before xs ⊎ Then BeginGets (λ s. BypassLocked k n s answer) before xs
+    Then (λ s. Begin false) (EnqueueAndRun k n answer) before xs ⊎ Then (λ s. Begin true) (λ s. BypassLocked k n s answer) before xs
 
 -- `__dev_xmit_skb` of net/core/dev.c, the part for a qdisc with `TCQ_F_NOLOCK`
 pub data XmitSkb (k : Setup) (n : ℕ) (before : Standing) : Sending → List Step → Type 0 where

@@ -1,32 +1,36 @@
 //! Transmits, and attempts to run the queue discipline.
-ghost use Rattle.std.specs.Prelude.{◌≡◌, ◌<◌, Bool, true, false, length};
+ghost use Rattle.std.specs.Prelude.{◌≡◌, ◌<◌, Bool, true, false, length, ℕ, [], ◌∷◌, ◌+◌, ◌*◌, None, Some};
 ghost use Rattle.lq_model.specs.declared.machine.Attempt.TheVariants.{Direct as ToPass};
 ghost use Rattle.lq_model.specs.declared.machine.Position.TheVariants.{Check, Put, Recheck, Try1};
-ghost use Rattle.lq_table.specs.Sees.{view, setup, packet_at, IsSeatOf};
+ghost use Rattle.lq_table.specs.Sees.{view, setup, packet_at, IsSeatOf, position, slot, IsSameSeat, IsElseSame, solo};
 ghost use Rattle.lq_table.specs.Moves.{is_set};
-ghost use Rattle.lq_table.specs.States.{some_bit};
-ghost use Rattle.lq_qdisc.specs.StepLists.{BypassLocked, EnqueueAndRun, EnqueueAndRunLocked, QdiscRun, RunAfterBypass, RunToEnd, TryBypass, XmitBypass, XmitSkb};
-ghost use Rattle.lq_qdisc.specs.Sends.{OwesRefused};
-ghost use Rattle.lq_qdisc.specs.Parts.{BringsBy, EndsCallBy, EnqueuesAs, IsFreeInside, IsUnlocked, MayBring, MayFollow, MayRun, MayServe, MayTryRun, RefusesAs};
-ghost use Rattle.lq_qdisc.specs.Takes.{MayXmit};
+ghost use Rattle.lq_qdisc.specs.StepLists.{BypassLocked, EnqueueAndRun, EnqueueAndRunLocked, QdiscRun, RunAfterBypass, RunToEnd, TryBypass, XmitBypass, XmitSkb, PfifoFastEnqueue};
+ghost use Rattle.lq_qdisc.specs.Sends.{serves_bands};
+ghost use Rattle.lq_qdisc.specs.Calls.{IsServing};
+ghost use Rattle.lq_qdisc.specs.Direct.{position_after};
+ghost use Rattle.lq_qdisc.specs.declared.answers.Through.TheVariants.{Yes};
+ghost use Rattle.lq_qdisc.specs.Parts.{BringsBy, EndsCallBy, IsFreeInside, MayBring, MayServe, MayXmit};
+ghost use Rattle.lq_table.specs.Step.{MakesSteps, Settle};
+ghost use Rattle.lq_run.specs.Steps.{MakesStepsOf};
+ghost use Rattle.lq_model.specs.declared.fate.Fate.TheVariants as fate;
+ghost use Rattle.lq_qdisc.specs.declared.answers.Sending.TheVariants as sending;
+ghost use Rattle.lq_model.specs.declared.machine.Attempt.{Attempt};
+ghost use Rattle.lq_ring.specs.Seats.{GoesOnFromPut};
+ghost use Rattle.lq_table.specs.Fates.{settle_view_owed};
+ghost use Rattle.lq_ring.specs.Put.{no_locks};
+ghost use Rattle.lq_run.specs.Runs.{begins};
 
 use crate::answers::{Sending, Through};
 use crate::direct::direct_xmit;
 use crate::runs::run;
+use crate::takes::is_non_empty;
 use lq_device::TxDevice;
 use lq_model::Fate;
-use lq_model::state::{DEACTIVATED, DRAINING, MISSED};
+use lq_model::state::DEACTIVATED;
 use lq_ring::produce;
 use lq_run::{begin, end};
 use lq_table::{Cpu, Shared};
 use std::sync::Wait;
-
-/// Whether MISSED or DRAINING is set: `QDISC_STATE_NON_EMPTY` of include/net/sch_generic.h.
-pub(crate) fn is_non_empty(state: u64) -> bool
-    ensures { result ≡ some_bit state }
-{
-    state & MISSED != 0 || state & DRAINING != 0
-}
 
 /// Whether DEACTIVATED is set.
 pub(crate) fn is_deactivated(state: u64) -> bool
@@ -39,7 +43,9 @@ pub(crate) fn is_deactivated(state: u64) -> bool
 /// include/net/sch_generic.h.
 fn run_to_end<'a, D: TxDevice>(shared: &Shared<'a, D>, cpu: &mut Cpu<D>)
     requires seat { IsSeatOf shared.now cpu.old }
-    requires may { MayRun shared.now cpu.old }
+    requires at { position cpu.old ≡ begins (view cpu.old) }
+    requires serves { MayServe shared.now cpu.old }
+    requires begun { (view cpu.old).place.run ≡ 0 }
     ensures { EndsCallBy (RunToEnd (setup shared.now)) cpu.old cpu.new }
 {
     run(shared, cpu);
@@ -49,7 +55,8 @@ fn run_to_end<'a, D: TxDevice>(shared: &Shared<'a, D>, cpu: &mut Cpu<D>)
 /// Tries the run lock, and serves the bands where it is got: `qdisc_run` of include/net/pkt_sched.h.
 pub(crate) fn qdisc_run<'a, D: TxDevice>(shared: &Shared<'a, D>, cpu: &mut Cpu<D>)
     requires seat { IsSeatOf shared.now cpu.old }
-    requires may { MayTryRun cpu.old }
+    requires at { (a : Attempt) × (position cpu.old ≡ Try1 a) × (serves_bands a ≡ true) }
+    requires free { IsFreeInside cpu.old }
     ensures { EndsCallBy (QdiscRun (setup shared.now)) cpu.old cpu.new }
 {
     if begin(shared, cpu) {
@@ -66,8 +73,11 @@ fn enqueue<'a, D: TxDevice, R: Wait>(
     n: u32,
 ) -> Sending
     requires seat { IsSeatOf shared.now cpu.old }
-    requires may { (holds : Bool) × MayBring shared.now n (Put (packet_at shared.now n) holds) IsUnlocked cpu.old }
-    ensures { EnqueuesAs shared.now n result cpu.old cpu.new }
+    requires may { (holds : Bool) × MayBring shared.now n (Put (packet_at shared.now n) holds)
+        (λ c. ((view c).locks ≡ no_locks) × ((view c).holder.resizing ≡ None)) cpu.old }
+    ensures same { IsSameSeat cpu.old cpu.new × (cpu.new.station ≡ cpu.old.station) × (slot cpu.new ≡ slot cpu.old) }
+    ensures at { GoesOnFromPut shared.now n cpu.old cpu.new }
+    ensures makes { MakesStepsOf (PfifoFastEnqueue (setup shared.now) n result) cpu.old cpu.new }
 {
     let band = shared.infos()[n as usize].band as u32;
     match produce(rt, shared, cpu, band, n) {
@@ -111,11 +121,13 @@ fn enqueue_and_run_locked<'a, D: TxDevice, R: Wait>(
     sending
 }
 
-/// After a packet that went past the bands: serves the bands where MISSED or DRAINING was set meanwhile, and releases the run
-/// lock.
+/// After a packet that was handed to the device past the bands, with this result: serves the bands where MISSED or DRAINING was set
+/// meanwhile, and releases the run lock.
 fn run_after_bypass<'a, D: TxDevice>(shared: &Shared<'a, D>, cpu: &mut Cpu<D>, through: Through)
     requires seat { IsSeatOf shared.now cpu.old }
-    requires may { MayFollow through cpu.old }
+    requires at { position cpu.old ≡ position_after through true (view cpu.old) }
+    requires serving { IsServing cpu.old }
+    requires empty { through ≡ Yes → ((view cpu.old).holder.hand ≡ None) × ((view cpu.old).holder.slot ≡ None) }
     ensures { EndsCallBy (λ s. RunAfterBypass (setup shared.now) s through) cpu.old cpu.new }
 {
     if through == Through::Yes && is_non_empty(shared.load_state(cpu)) {
@@ -174,12 +186,17 @@ fn try_bypass<'a, D: TxDevice, R: Wait>(
     }
 }
 
-/// Refuses packet `n`, where the state was loaded as this word, and stores its fate.
+/// Refuses packet `n` by the event that this word of the state tells, and stores its fate.
 fn refuse<'a, D: TxDevice>(shared: &Shared<'a, D>, cpu: &mut Cpu<D>, n: u32, state: u64) -> Sending
     requires seat { IsSeatOf shared.now cpu.old }
     requires packet { n < length shared.now.infos.now }
-    requires state { OwesRefused n state (view cpu.old) }
-    ensures { RefusesAs shared.now n state result cpu.old cpu.new }
+    requires state { (event : ℕ) × (bits : ℕ) × (bits < 16) × (event < 4294967296) × (state ≡ bits + 256 * (event + 1))
+        × ((view cpu.old).packets.owed ≡ Some (n, fate.Refused event)) }
+    ensures same { IsElseSame cpu.old cpu.new }
+    ensures settled { view cpu.new ≡ settle_view_owed (view cpu.old) }
+    ensures event { (event : ℕ) × (bits : ℕ) × (bits < 16) × (state ≡ bits + 256 * (event + 1)) × (result ≡ sending.Refused event)
+        × MakesSteps (Settle n (fate.Refused event) ∷ []) cpu.old cpu.new }
+    ensures step { solo (view cpu.new) ≡ solo (view cpu.old) }
 {
     let event = (state / 256 - 1) as u32;
     shared.settle(cpu, n, Fate::Refused { event });

@@ -1,19 +1,23 @@
 //! Taking the packet that is served next.
-ghost use Rattle.std.specs.Prelude.{◌≡◌, ◌<◌, ℕ, [], ◌∷◌, Bool, true, false, if◌then◌else◌, length, Some, None};
+ghost use Rattle.std.specs.Prelude.{◌≡◌, ◌<◌, ℕ, [], ◌∷◌, Bool, true, false, if◌then◌else◌, length, Some, None, ⊤, ◌≤◌, MatchOption};
 ghost use Rattle.lq_model.specs.Plan.{queue_in};
 ghost use Rattle.lq_model.specs.Steps.{queue_of_blocked};
 ghost use Rattle.lq_model.specs.declared.machine.Blocked.{Blocked};
-ghost use Rattle.lq_model.specs.declared.machine.Position.TheVariants.{BlockedClear, Scan, Test, ClearMissed, Deq, Unlock};
-ghost use Rattle.lq_table.specs.Sees.{view, setup, position, slot, CarriesSlot, IsSeatOf, IsSole, solo};
+ghost use Rattle.lq_model.specs.declared.machine.Position.TheVariants.{BlockedClear, Scan, Test, ClearMissed, Deq, Unlock, Gate};
+ghost use Rattle.lq_table.specs.Sees.{view, setup, position, slot, CarriesSlot, IsSeatOf, IsSole, solo, packet_at};
 ghost use Rattle.lq_table.specs.Moves.{IsPacketOf};
 ghost use Rattle.lq_device.specs.Station.{StationState, with_slot};
 ghost use Rattle.lq_table.specs.Rule.{shown};
 ghost use Rattle.lq_qdisc.specs.Seats.{ChangesStation};
-ghost use Rattle.lq_qdisc.specs.Calls.{IsServing, Looks, cleared};
-ghost use Rattle.lq_table.specs.States.{some_bit};
+ghost use Rattle.lq_qdisc.specs.Calls.{IsServing, Looks, cleared, ClearsMissedAlone, IsKeptInRun, IsSettledSame, Finds, FindsNone, after_blocked, laid_aside, looking_at};
+ghost use Rattle.lq_table.specs.States.{some_bit, set_bit_alone};
 ghost use Rattle.lq_table.specs.Step.{ClearDraining, ClearMissed as ClearMissedStep, LoadState, MakesSteps};
-ghost use Rattle.lq_qdisc.specs.StepLists.{DequeueSkb, DequeuesTo, PfifoFastDequeue};
-ghost use Rattle.lq_qdisc.specs.Takes.{ClearsAtStop, DequeuesAs, MayDequeue, MayDequeueOpen, ScansBands, TakesNothing};
+ghost use Rattle.lq_qdisc.specs.StepLists.{DequeueSkb, DequeuesTo, PfifoFastDequeue, MaybeClearMissed, ScanBands};
+ghost use Rattle.lq_qdisc.specs.Parts.{DequeuesAs, MayServe, TakesNothing};
+ghost use Rattle.lq_ring.specs.StepLists.{MakesStepsFrom};
+ghost use Rattle.lq_run.specs.Steps.{MakesStepsOf};
+ghost use Rattle.std.specs.Option.{option_map_or};
+ghost use Rattle.lq_run.specs.Runs.{begins};
 
 use crate::answers::Taken;
 use lq_device::TxDevice;
@@ -29,8 +33,10 @@ use lq_table::{Cpu, Shared};
 /// and each band's head slot was loaded as 0 in this call, once more where a bit was set after that.
 pub fn dequeue<'a, D: TxDevice>(shared: &Shared<'a, D>, cpu: &mut Cpu<D>) -> Taken
     requires seat { IsSeatOf shared.now cpu.old }
-    requires may { MayDequeue shared.now cpu.old }
-    ensures { DequeuesAs shared.now result (DequeuesTo (setup shared.now) result) (λ s. DequeueSkb (setup shared.now) s result) cpu.old cpu.new }
+    requires at { position cpu.old ≡ begins (view cpu.old) }
+    requires serves { MayServe shared.now cpu.old }
+    ensures { DequeuesAs shared.now result (DequeuesTo (setup shared.now) result)
+        (λ s. DequeueSkb (setup shared.now) s result) cpu.old cpu.new }
 {
     if let Some(n) = requeued(cpu) {
         return dequeue_requeued(shared, cpu, n);
@@ -71,7 +77,8 @@ fn dequeue_requeued<'a, D: TxDevice>(shared: &Shared<'a, D>, cpu: &mut Cpu<D>, n
     requires at { position cpu.old ≡ Deq }
     requires serving { IsServing cpu.old }
     requires slot { ((view cpu.old).holder.slot ≡ Some n) × IsPacketOf (setup shared.now) n }
-    ensures { DequeuesAs shared.now result (DequeuesTo (setup shared.now) result) (λ s. DequeueSkb (setup shared.now) s result) cpu.old cpu.new }
+    ensures { DequeuesAs shared.now result (DequeuesTo (setup shared.now) result)
+        (λ s. DequeueSkb (setup shared.now) s result) cpu.old cpu.new }
 {
     let queue = queue_of(shared, n);
     if shared.load_xoff(cpu, queue) != 0 {
@@ -85,8 +92,12 @@ fn dequeue_requeued<'a, D: TxDevice>(shared: &Shared<'a, D>, cpu: &mut Cpu<D>, n
 /// Looks through the bands of a station with one queue, where that is open.
 fn dequeue_open<'a, D: TxDevice>(shared: &Shared<'a, D>, cpu: &mut Cpu<D>) -> Taken
     requires seat { IsSeatOf shared.now cpu.old }
-    requires may { MayDequeueOpen shared.now cpu.old }
-    ensures { DequeuesAs shared.now result (DequeuesTo (setup shared.now) result) (λ s. DequeueSkb (setup shared.now) s result) cpu.old cpu.new }
+    requires at { position cpu.old ≡ Deq }
+    requires serving { IsServing cpu.old }
+    requires empty { (view cpu.old).holder.slot ≡ None }
+    requires one { shared.now.queues ≤ 1 }
+    ensures { DequeuesAs shared.now result (DequeuesTo (setup shared.now) result)
+        (λ s. DequeueSkb (setup shared.now) s result) cpu.old cpu.new }
 {
     if shared.load_xoff(cpu, 0) != 0 {
         maybe_clear_missed(shared, cpu, 0);
@@ -101,7 +112,15 @@ fn scan<'a, D: TxDevice>(shared: &Shared<'a, D>, cpu: &mut Cpu<D>) -> Option<u32
     requires seat { IsSeatOf shared.now cpu.old }
     requires at { (second : Bool) × (position cpu.old ≡ Scan 0 second) }
     requires serving { IsServing cpu.old }
-    ensures { ScansBands shared.now result cpu.old cpu.new }
+    ensures kept { IsKeptInRun cpu.old cpu.new }
+    ensures run { (view cpu.new).place.run ≡ (view cpu.old).place.run }
+    ensures serving { IsServing cpu.new }
+    ensures at { (second : Bool) → position cpu.old ≡ Scan 0 second
+        → position cpu.new ≡ option_map_or (λ n. Gate (packet_at shared.now n) false) result (looking_at 3 second) }
+    ensures fates { IsSettledSame cpu.old cpu.new }
+    ensures taken { MatchOption result (FindsNone (view cpu.old) (view cpu.new)) (λ n. Finds n (view cpu.old) (view cpu.new)) }
+    ensures packet { MatchOption result ⊤ (λ n. IsPacketOf (setup shared.now) n) }
+    ensures makes { MakesStepsFrom (λ s. ScanBands s result) cpu.old cpu.new }
 {
     for band in 0..3 {
         if let Some(n) = consume(shared, cpu, band) {
@@ -111,7 +130,14 @@ fn scan<'a, D: TxDevice>(shared: &Shared<'a, D>, cpu: &mut Cpu<D>) -> Option<u32
     None
 }
 
-/// Whether MISSED or DRAINING is set, `QDISC_STATE_NON_EMPTY` of include/net/sch_generic.h, after a look that found nothing.
+/// Whether MISSED or DRAINING is set: `QDISC_STATE_NON_EMPTY` of include/net/sch_generic.h.
+pub(crate) fn is_non_empty(state: u64) -> bool
+    ensures { result ≡ some_bit state }
+{
+    state & MISSED != 0 || state & DRAINING != 0
+}
+
+/// Whether one is, after a look that found nothing.
 fn load_is_non_empty<'a, D: TxDevice>(shared: &Shared<'a, D>, cpu: &mut Cpu<D>) -> bool
     requires seat { IsSeatOf shared.now cpu.old }
     requires at { position cpu.old ≡ Test }
@@ -119,8 +145,7 @@ fn load_is_non_empty<'a, D: TxDevice>(shared: &Shared<'a, D>, cpu: &mut Cpu<D>) 
         (λ b a. (state : ℕ) × (result ≡ some_bit state) × MakesSteps (LoadState state ∷ []) b a) cpu.old cpu.new }
     ensures sole { IsSole (view cpu.old) → result ≡ false → solo (view cpu.new) ≡ cleared (solo (view cpu.old)) }
 {
-    let state = shared.load_state(cpu);
-    state & MISSED != 0 || state & DRAINING != 0
+    is_non_empty(shared.load_state(cpu))
 }
 
 /// Clears MISSED, and then DRAINING.
@@ -167,7 +192,14 @@ pub(crate) fn maybe_clear_missed<'a, D: TxDevice>(
     requires queue { queue < shared.now.queues }
     requires slot { CarriesSlot cpu.old }
     requires shut { (view cpu.old).holder.shut ≡ None }
-    ensures { ClearsAtStop shared.now queue cpu.old cpu.new }
+    ensures kept { IsKeptInRun cpu.old cpu.new }
+    ensures run { (view cpu.new).place.run ≡ (view cpu.old).place.run }
+    ensures station { (cpu.new.station ≡ cpu.old.station) × (slot cpu.new ≡ slot cpu.old) }
+    ensures at { position cpu.new ≡ after_blocked (position cpu.old) }
+    ensures holder { (view cpu.new).holder ≡ laid_aside (position cpu.old) (view cpu.old).holder }
+    ensures fates { IsSettledSame cpu.old cpu.new }
+    ensures sole { ClearsMissedAlone queue (set_bit_alone (view cpu.old)) (view cpu.old) (view cpu.new) }
+    ensures makes { MakesStepsOf (MaybeClearMissed queue) cpu.old cpu.new }
 {
     shared.clear_missed(cpu);
     if shared.load_xoff(cpu, queue) == 0 {

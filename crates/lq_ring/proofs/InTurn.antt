@@ -21,10 +21,10 @@ use Rattle.lq_table.specs.Resizes.{BeginsResize, resizing_of, begin_resize_view,
 use Rattle.lq_table.specs.Producers.{with_lock_at}
 use Rattle.lq_table.specs.Rule.{shown}
 use Rattle.lq_ring.specs.Fates.{fates_onto}
-use Rattle.lq_ring.specs.Work.{work_at, working, having_settled, event_of_work, IsTurner, IsWorkBegun, IsWorkDone}
-use Rattle.lq_ring.specs.Resized.{IsReadyToResize, all_lost, having_resized, locked_three}
+use Rattle.lq_ring.specs.Work.{work_at, working, event_of_work, ArePacketsOf, IsTurner, IsWorkBegun, IsWorkDone}
+use Rattle.lq_ring.specs.Resized.{all_lost, having_resized, locked_three}
 use Rattle.lq_ring.proofs.FatesOnto.{fates_append}
-use Rattle.lq_ring.proofs.Works.{turner_after, event_after, event_of, work_of}
+use Rattle.lq_ring.proofs.Works.{turner_after, event_after, event_of, work_of, having_settled}
 
 pub turn_step : (b : ℕ) (w : Work) (l : Lock) (fates : List (ℕ × Fate)) (v v' : View) (t : HalfResize) → v.holder.resizing ≡ Some t → v' ≡ with_lock_at b l (having_settled fates (working b w v)) → v'.holder.resizing ≡ Some (with_work b w t)
 turn_step b w l fates v v' t e e' = ap (λ (x : View). x.holder.resizing) e' ∙ ap (option_map (with_work b w)) e
@@ -47,6 +47,15 @@ work_else b c w v t below below' other =
     ap (λ (o : Option HalfResize). at c (unwrap_or (option_map (with_work b w) o) no_resizing).works) t.1.1 ∙ (at_put_other b c w t.1.0.works below below' other ∙ sym (work_of c v t.1.0 t.1.1))
 
 -- THE BEGINNING
+
+-- The band b in a resize half done, whose work has not begun, where the station has its ends.
+pub record IsReadyToResize (limit : ℕ) (infos : List Info) (st : StationState) (size len event b : ℕ) (v : View) : Type 0 where
+  pub turner : IsTurner v
+  pub event_is : event_of_work v ≡ event
+  pub lock : (at b v.locks).holds ≡ true
+  pub held : List ℕ
+  pub whole : IsWorkBegun limit size (slice_index st.tails b) (slice_index st.heads b) len held (work_at b v)
+  pub packets : ArePacketsOf infos b held
 
 module _ {D : Type 0} where
   -- what a resize finds as it begins

@@ -1,17 +1,17 @@
 -- What the lists of the calls leave of a seat, and what they tell of it.
-use Rattle.std.proofs.Common.{◌≡◌, ◌≢◌, Bool, true, false, Option, Some, slice_get, ne_eqb, arith, ℕ, ◌+◌, ◌-◌, List, [], ◌∷◌, Result, refl, sym, ap, ◌∙◌}
+use Rattle.std.proofs.Common.{◌≡◌, ◌≢◌, Bool, true, false, Option, Some, slice_get, ne_eqb, arith, ℕ, ◌+◌, ◌-◌, List, [], ◌∷◌, Result, refl, sym, ap, ◌∙◌, ◌++◌, subst}
 use Rattle.std.specs.Prelude.{MatchResult, Ok, Err, if◌then◌else◌}
 use Rattle.lq_model.specs.declared.fate.Fate.TheVariants as fate
 use Rattle.lq_ring_core.specs.declared.ring.Full.{Full}
-use Rattle.lq_band_laws.specs.Ring.{Ends, IsAtRest, locked_at, taken_on}
-use Rattle.lq_band_laws.specs.Three.{at, put}
+use Rattle.lq_band_laws.specs.Ring.{Ends, IsAtRest, locked_at, taken_on, Lock}
+use Rattle.lq_band_laws.specs.Three.{Three, at, put}
 use Rattle.lq_table.specs.Fates.{settle_view_owed}
-use Rattle.lq_table.specs.Producers.{SeesEnd, with_lock_at}
-use Rattle.lq_table.specs.Step.{PurgeSlot, Settle, Standing, Step, purge_left, purge_of, step_leaves, steps_leave, steps_tell}
+use Rattle.lq_table.specs.Producers.{SeesEnd, with_lock_at, load_size_view}
+use Rattle.lq_table.specs.Step.{PurgeSlot, Settle, Standing, Step, purge_left, purge_of, step_leaves, steps_leave, steps_tell, LoadProducer, LoadSize, SetEnds, TakeProducer}
 use Rattle.lq_table.specs.Views.{Left, no_left, View}
 use Rattle.lq_ring.specs.Put.{dropping_full, putting}
 use Rattle.lq_ring.specs.Resized.{HoldOwnPackets, IsKnownHeld}
-use Rattle.lq_ring.specs.StepLists.{FindsNone, PurgeOne, PurgesNext, DroppedFull, Joined, ProduceLocked, TurnAll, TurnsThree, discard_steps}
+use Rattle.lq_ring.specs.StepLists.{FindsNone, PurgeOne, PurgesNext, DroppedFull, Joined, ProduceLocked, TurnAll, TurnsThree, discard_steps, Gets, LockAll, LockProducer, LocksThree, Loses, ResizeAll, ResizesThree, Waits, unlock_steps}
 use Rattle.lq_ring.proofs.TakeSteps.{taken_batch, takes_end}
 use Rattle.lq_ring.proofs.ZeroSteps.{discard_leaves}
 use Rattle.std.specs.Option.{unwrap_or}
@@ -21,6 +21,7 @@ use Rattle.lq_model.specs.Band.{held_of}
 use Rattle.lq_model.specs.declared.fate.Cause.{Cause}
 use Rattle.lq_band_laws.proofs.Three.{at_put_same}
 use Rattle.lq_table.specs.Purges.{first_purge, purge_slot_view, purge_slot_view_empty}
+use Rattle.lq_table.proofs.StepsThen.{leave_then, tell_first, tell_last}
 
 -- A PUT
 
@@ -42,8 +43,32 @@ put_knows (Err full) b n i v m w l e = e ∙ ap (dropping_full n full.seen) l
 -- A BAND IS TURNED
 
 -- what it found of the bands
-pub all_told : (len event : ℕ) (held : ℕ → List ℕ) (low mid high : ℕ) (xs : List Step) → TurnAll len event held low mid high xs → (s : Standing) → steps_tell xs s → HoldOwnPackets s.view.share.about.infos held × IsKnownHeld s.view held
+all_told : (len event : ℕ) (held : ℕ → List ℕ) (low mid high : ℕ) (xs : List Step) → TurnAll len event held low mid high xs → (s : Standing) → steps_tell xs s → HoldOwnPackets s.view.share.about.infos held × IsKnownHeld s.view held
 all_told len event held low mid high _ (TurnsThree {slots} {begun} {one} {two} {three} a b c) s t = (t.0.1, (t.0.2, t.0.3))
+
+-- the wait for a producer lock
+lock_leaves : (band index : ℕ) (xs : List Step) → LockProducer band index xs → (s : Standing) → (steps_leave xs s).view ≡ with_lock_at band (locked_at index) s.view
+lock_leaves band index _ (Waits {seen} {rest} odd h) s = lock_leaves band index rest h (step_leaves (LoadProducer band seen) s)
+lock_leaves band index _ (Loses {seen} {rest} even h) s = lock_leaves band index rest h (step_leaves (TakeProducer band seen false) (step_leaves (LoadProducer band seen) s))
+lock_leaves band index _ (Gets {seen} even is) s = ap (λ (i : ℕ). with_lock_at band (locked_at i) s.view) (sym is)
+
+all_locked : (xs : List Step) → LockAll xs → (s : Standing) → (locks : Three Lock) × ((steps_leave xs s).view ≡ record s.view { locks = locks })
+all_locked _ (LocksThree {low} {mid} {high} {one} {two} {three} a b c) s =
+    let s1 = steps_leave one s in let s2 = steps_leave two s1 in (
+      put 2 (locked_at high) (put 1 (locked_at mid) (put 0 (locked_at low) s.view.locks)),
+      ap (λ (x : Standing). x.view) (leave_then (one ++ two) three s ∙ ap (steps_leave three) (leave_then one two s))
+          ∙ (lock_leaves 2 high three c s2
+          ∙ ap (with_lock_at 2 (locked_at high)) (lock_leaves 1 mid two b s1 ∙ ap (with_lock_at 1 (locked_at mid)) (lock_leaves 0 low one a s))),
+    )
+
+-- What the bands held is of the capture, and nothing where the station is deactivated and purged; a seat that has the table alone finds what
+-- its account says.
+pub resize_told : (len event : ℕ) (held : ℕ → List ℕ) (xs : List Step) → ResizeAll len event held xs → (s : Standing) → steps_tell xs s → HoldOwnPackets s.view.share.about.infos held × IsKnownHeld s.view held
+resize_told len event held _ (ResizesThree {low} {mid} {high} {locked} {turned} size stored locks turns) s t =
+    let all = all_locked locked locks s in let s1 = steps_leave locked s in let s2 = step_leaves (LoadSize size) s1 in
+    let until : List Step = locked ++ LoadSize size ∷ turned in let unlocked = unlock_steps stored low mid high in
+    let after = tell_last locked (LoadSize size ∷ turned) s (tell_first until unlocked s (tell_first (until ++ unlocked) (SetEnds 0 0 0 ∷ SetEnds 1 0 0 ∷ SetEnds 2 0 0 ∷ []) s t)) in
+    subst (λ (x : View). HoldOwnPackets x.share.about.infos held × IsKnownHeld x held) (ap (load_size_view size) all.1) (all_told len event held low mid high turned turns s2 after.1)
 
 -- A PURGE
 

@@ -12,15 +12,26 @@ use Rattle.lq_band_laws.specs.Three.{Three, at, put}
 use Rattle.lq_band_laws.specs.Ring.{Ends, IsAtRest, after_take, taken_on}
 use Rattle.lq_band_laws.proofs.Three.{at_put_same, put_at}
 use Rattle.lq_band_laws.proofs.Kept.{rest_after}
-use Rattle.lq_table.specs.Views.{View, Left}
+use Rattle.lq_table.specs.Views.{View, Left, WholePart}
 use Rattle.lq_table.specs.Rule.{shown}
+use Rattle.lq_table.specs.Sees.{solo}
 use Rattle.lq_table.specs.Fates.{settle_view_owed}
 use Rattle.lq_table.specs.Purges.{purge_slot_view, purge_slot_view_empty, purged_one}
 use Rattle.lq_ring.specs.Take.{emptied_count, emptied_times, having_ends}
 use Rattle.lq_ring.specs.Fates.{fates_onto}
-use Rattle.lq_ring.specs.Purged.{purged_by, purged_to, IsPurgedTo, IsBandPurged, going_on}
+use Rattle.lq_ring.specs.Purged.{purged_by, purged_to, IsBandPurged, going_on}
 use Rattle.lq_ring.proofs.PutSteps.{put_put}
 use Rattle.lq_ring.proofs.TakeSteps.{shown_put}
+
+-- the first n packets of the band were purged
+pub record IsPurgedTo (b n : ℕ) (l : Left) (v w : View) : Type 0 where
+  pub ends : Ends
+  pub whole : WholePart
+  pub is : w ≡ purged_to b n l ends whole v
+  pub few : n ≤ length (held_of (at b l.bands))
+  pub rests : IsAtRest v.holder.size ends
+  pub told : whole.told ≡ v.whole.told
+  pub alone : solo (record v { whole = whole }) ≡ solo v
 
 -- one packet was taken from the band and its fate was stored, and all slots were emptied that this asks
 abbrev pub purging_one : ℕ → ℕ → Left → View → View
@@ -110,7 +121,6 @@ all_purged b k u0 l v u w p none_left is =
         ends = p.ends;
         whole = y.whole;
         is = is ∙ (ap (purge_slot_view_empty u0) p.is ∙ ap (λ (z : ℕ). record (purged_to b z l p.ends p.whole (going_on u0 v)) { whole = y.whole }) all);
-        few = omega arith;
         rests = p.rests;
         told = p.told;
         alone = p.alone;

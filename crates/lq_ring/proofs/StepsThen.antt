@@ -1,17 +1,10 @@
--- Steps after steps: what two lists of steps make of a seat, the one after the other, their list makes of it.
-use Rattle.std.proofs.Common.{◌≡◌, ◌≢◌, ℕ, ◌%◌, false, List, [], ◌∷◌, ◌++◌, refl, sym, ap, ◌∙◌, subst}
+-- Steps after steps, in the lists of the calls on rings.
+use Rattle.std.proofs.Common.{◌≡◌, ◌≢◌, ℕ, ◌%◌, false, List, [], ◌∷◌, ◌++◌, refl, sym, ap, subst}
 use Rattle.lq_model.specs.declared.fate.Fate.{Fate}
-use Rattle.lq_table.specs.Step.{ClearSlot, FillSlot, LoadProducer, MakesSteps, Settle, Standing, Step, TakeProducer, standing, step_leaves, steps_leave, steps_tell}
+use Rattle.lq_table.specs.Step.{ClearSlot, FillSlot, LoadProducer, MakesSteps, Settle, Step, TakeProducer, standing, steps_leave}
 use Rattle.lq_table.specs.declared.shared.Cpu.{Cpu}
+pub use Rattle.lq_table.proofs.StepsThen.{leave_then, makes_then}
 use Rattle.lq_ring.specs.StepLists.{Clears, Fills, LockProducer, Loses, MakesStepsFrom, Settles, TurnRing, Turned, Waits}
-
-pub leave_then : (xs ys : List Step) (s : Standing) → steps_leave (xs ++ ys) s ≡ steps_leave ys (steps_leave xs s)
-leave_then [] ys s = refl
-leave_then (x ∷ xs) ys s = leave_then xs ys (step_leaves x s)
-
-tell_then : (xs ys : List Step) (s : Standing) → steps_tell xs s → steps_tell ys (steps_leave xs s) → steps_tell (xs ++ ys) s
-tell_then [] ys s f g = g
-tell_then (x ∷ xs) ys s f g = (f.0, tell_then xs ys (step_leaves x s) f.1 g)
 
 module _ {D : Type 0} where
   pub stands_after : {xs : List Step} {b a : Cpu D} → MakesSteps xs b a → standing a ≡ steps_leave xs (standing b)
@@ -19,19 +12,6 @@ module _ {D : Type 0} where
 
   pub makes_none : (b : Cpu D) → MakesSteps [] b b
   makes_none b = record { seat = (refl, refl); knows = refl; has = refl; carries = refl; places = refl; made = refl; told = tt }
-
-  pub makes_then : {xs ys : List Step} {b m a : Cpu D} → MakesSteps xs b m → MakesSteps ys m a → MakesSteps (xs ++ ys) b a
-  makes_then {xs} {ys} {b} {m} {a} x y =
-      let s = stands_after x in
-      let e : standing a ≡ steps_leave (xs ++ ys) (standing b) = stands_after y ∙ (ap (steps_leave ys) s ∙ sym (leave_then xs ys (standing b))) in record {
-        seat = (y.seat.0 ∙ x.seat.0, y.seat.1 ∙ x.seat.1);
-        knows = λ j. (e j).view;
-        has = λ j. (e j).slot;
-        carries = λ j. (e j).station;
-        places = λ j. (e j).indices;
-        made = λ j. (e j).steps;
-        told = tell_then xs ys (standing b) x.told (subst (steps_tell ys) s y.told);
-      }
 
 -- A PRODUCER LOCK IS WAITED FOR
 

@@ -1,5 +1,5 @@
 -- The work on one band, step by step.
-use Rattle.std.proofs.Common.{take, ◌≡◌, ◌≢◌, ◌⊎◌, inl, inr, ℕ, zero, suc, ◌+◌, ◌-◌, ◌/◌, ◌<◌, ◌≤◌, Bool, true, false, List, [], ◌∷◌, length, set, drop, get_or, refl, sym, ap, ◌∙◌, subst, arith, ⊎_elim, Option, Some, option_map, Contains, length-set, length-drop, get_or-set_same, get_or-set_other, eq-eqb, ne_eqb}
+use Rattle.std.proofs.Common.{take, ◌≡◌, ◌≢◌, ◌⊎◌, inl, inr, ℕ, zero, suc, ◌+◌, ◌-◌, ◌/◌, ◌<◌, ◌≤◌, Bool, true, false, List, [], ◌∷◌, ◌++◌, length, set, drop, get_or, refl, sym, ap, ◌∙◌, subst, arith, ⊎_elim, Option, Some, option_map, Contains, length-set, length-drop, get_or-set_same, get_or-set_other, eq-eqb, ne_eqb}
 use Rattle.std.specs.Prelude.{◌||◌, ◌==◌, if◌then◌else◌}
 use Rattle.std.proofs.lemmas.Bool.{cases_eq, cases_lt}
 use Rattle.std.specs.Option.{unwrap_or}
@@ -17,7 +17,22 @@ use Rattle.lq_table.specs.Resizes.{is_word, is_member, hand_with, out_of, into, 
 use Rattle.lq_ring.proofs.PutSteps.{put_put}
 use Rattle.lq_table.specs.Fates.{settle_view_shrunk}
 use Rattle.lq_ring.specs.Fates.{fates_onto}
-use Rattle.lq_ring.specs.Work.{having_settled, work_at, working, IsTurner, members_of, back_in, with_slots, exchanged, reversed_to, rotated, zeroed_to, dropped_to, event_of_work}
+use Rattle.lq_ring.specs.Work.{work_at, working, IsTurner, back_in, exchanged, reversed_to, rotated, zeroed_to, event_of_work}
+
+-- the packets that it keeps or drops
+abbrev pub members_of : Work → List ℕ
+members_of w = w.kept ++ w.waiting
+
+abbrev pub with_slots : List ℕ → Work → Work
+with_slots s w = record w { slots = s }
+
+-- the seat has stored these fates
+abbrev pub having_settled : List (ℕ × Fate) → View → View
+having_settled fates v = record v { settled = fates }
+
+-- so many of the dropped packets, which stand from a place on, were settled
+abbrev pub dropped_to : ℕ → ℕ → Work → Work
+dropped_to from n w = record w { slots = zeroed_to from n w.slots; waiting = drop n w.waiting }
 
 -- each slot is empty or has one of these packets
 abbrev pub AreMembers : List ℕ → List ℕ → Type 0

@@ -14,5 +14,3 @@ pub mod Purged
 pub mod StepLists
 -- what its calls ask of a seat, and what they leave of it
 pub mod Seats
--- what each call requires, and what it ensures
-pub mod Calls

@@ -1,5 +1,5 @@
 -- What a purge makes of a band, packet by packet.
-use Rattle.std.specs.Prelude.{◌≡◌, ◌≤◌, ℕ, Some, take, length}
+use Rattle.std.specs.Prelude.{◌≡◌, ℕ, Some, take, length}
 use Rattle.lq_model.specs.Band.{held_of, taken_by}
 use Rattle.lq_model.specs.Machine.{Purge}
 use Rattle.lq_model.specs.declared.fate.Fate.TheVariants as fate
@@ -14,7 +14,7 @@ use Rattle.lq_ring.specs.Fates.{fates_onto}
 abbrev pub purged_by : ℕ → ℕ → Left → Left
 purged_by b n l = record l { bands = put b (taken_by (at b l.bands) n) l.bands }
 
--- what the holder and the state beside the machine have of it
+-- what the holder and the state beside the machine have of it, and the fates that are stored
 abbrev pub purged_to : ℕ → ℕ → Left → Ends → WholePart → View → View
 purged_to b n l ends whole v = record v {
   holder = record v.holder { ends = put b ends v.holder.ends; left = Some (purged_by b n l) };
@@ -22,21 +22,16 @@ purged_to b n l ends whole v = record v {
   settled = fates_onto (fate.Purged l.cause) (take n (held_of (at b l.bands))) v.settled;
 }
 
--- The first n packets of the band were purged, and their fates are stored. What a seat that has the table alone knows is as
--- before, since the account's event came with the beginning.
-pub record IsPurgedTo (b n : ℕ) (l : Left) (v w : View) : Type 0 where
-  pub ends : Ends
-  pub whole : WholePart
-  pub is : w ≡ purged_to b n l ends whole v
-  pub few : n ≤ length (held_of (at b l.bands))
-  pub rests : IsAtRest v.holder.size ends
-  pub told : whole.told ≡ v.whole.told
-  pub alone : solo (record v { whole = whole }) ≡ solo v
-
 -- the purge goes on with the next band
 abbrev pub going_on : Purge → View → View
 going_on u v = record v { control = record v.control { purge = Some (next_band u) } }
 
--- all packets of the band were purged
-abbrev pub IsBandPurged : ℕ → Purge → Left → View → View → Type 0
-IsBandPurged b u l v w = IsPurgedTo b (length (held_of (at b l.bands))) l (going_on u v) w
+-- All packets of the band were purged, and their fates are stored; the purge goes on with the next band. What a seat that has the table
+-- alone knows is as before, since the account's event came with the beginning.
+pub record IsBandPurged (b : ℕ) (u : Purge) (l : Left) (v w : View) : Type 0 where
+  pub ends : Ends
+  pub whole : WholePart
+  pub is : w ≡ purged_to b (length (held_of (at b l.bands))) l ends whole (going_on u v)
+  pub rests : IsAtRest v.holder.size ends
+  pub told : whole.told ≡ v.whole.told
+  pub alone : solo (record v { whole = whole }) ≡ solo v

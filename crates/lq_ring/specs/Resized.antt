@@ -1,26 +1,15 @@
 -- What a live resize makes of what control knows.
-use Rattle.std.specs.Prelude.{◌≡◌, ◌<◌, ℕ, true, List, [], ◌∷◌, ◌++◌, None, map, take, drop, length, slice_index, Contains}
-use Rattle.lq_device.specs.Station.{StationState}
+use Rattle.std.specs.Prelude.{◌≡◌, ◌<◌, ℕ, List, [], ◌∷◌, ◌++◌, None, map, take, drop, length, Contains}
 use Rattle.lq_model.specs.Account.{Resize, held_in}
 use Rattle.lq_model.specs.Plan.{band_in}
 use Rattle.lq_model.specs.declared.fate.Info.{Info}
 use Rattle.lq_model.specs.declared.machine.Phase.TheVariants.{Purged}
 use Rattle.lq_table.specs.Sees.{IsSole, account_of}
-use Rattle.lq_band_laws.specs.Three.{Three, at, all_three}
+use Rattle.lq_band_laws.specs.Three.{Three, all_three}
 use Rattle.lq_band_laws.specs.Ring.{Lock, at_start, locked_at}
 use Rattle.lq_table.specs.Views.{View}
 use Rattle.lq_model.specs.declared.fate.Fate.TheVariants as fate
 use Rattle.lq_ring.specs.Fates.{fates_onto}
-use Rattle.lq_ring.specs.Work.{work_at, ArePacketsOf, IsTurner, IsWorkBegun, event_of_work}
-
--- The band b in a resize half done, whose work has not begun, where the station has its ends.
-pub record IsReadyToResize (limit : ℕ) (infos : List Info) (st : StationState) (size len event b : ℕ) (v : View) : Type 0 where
-  pub turner : IsTurner v
-  pub event_is : event_of_work v ≡ event
-  pub lock : (at b v.locks).holds ≡ true
-  pub held : List ℕ
-  pub whole : IsWorkBegun limit size (slice_index st.tails b) (slice_index st.heads b) len held (work_at b v)
-  pub packets : ArePacketsOf infos b held
 
 -- each packet that a band held is one of the capture, and of this band
 abbrev pub HoldOwnPackets : List Info → (ℕ → List ℕ) → Type 0

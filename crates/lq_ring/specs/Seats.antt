@@ -1,13 +1,13 @@
 -- What the calls on the rings ask of a seat, and what they leave of it.
-use Rattle.std.specs.Prelude.{◌≡◌, ℕ, ◌<◌, ◌≤◌, Bool, true, false, Option, Some, None, MatchOption, if◌then◌else◌, length, Contains}
+use Rattle.std.specs.Prelude.{◌≡◌, ℕ, ◌<◌, ◌≤◌, Bool, true, Some, None, if◌then◌else◌, length, Contains}
 use Rattle.lq_model.specs.Band.{held_of}
 use Rattle.lq_model.specs.Machine.{Purge}
-use Rattle.lq_model.specs.Steps.{after_band, dequeue_begins}
+use Rattle.lq_model.specs.Steps.{dequeue_begins}
 use Rattle.lq_model.specs.declared.machine.Attempt.TheVariants.{Queued}
 use Rattle.lq_model.specs.declared.fate.Cause.{Cause}
-use Rattle.lq_model.specs.declared.machine.Position.TheVariants.{Control, Gate, Put, Scan, Try1}
+use Rattle.lq_model.specs.declared.machine.Position.TheVariants.{Control, Put, Try1}
 use Rattle.lq_band_laws.specs.Three.{at}
-use Rattle.lq_table.specs.Views.{Left, View, machine_packet}
+use Rattle.lq_table.specs.Views.{Left, View}
 use Rattle.lq_table.specs.Moves.{seen_by}
 use Rattle.lq_table.specs.Resizes.{may_resize}
 use Rattle.lq_table.specs.Sees.{view, position, packet_at, IsElseSame}
@@ -26,14 +26,6 @@ module _ {D : Type 0} where
   abbrev pub GoesOnFromPut : Shared D → ℕ → Cpu D → Cpu D → Type 0
   GoesOnFromPut t n b a = (holds : Bool) → position b ≡ Put (packet_at t n) holds
       → position a ≡ (if holds then dequeue_begins (seen_by (view b)) else Try1 (Queued (packet_at t n)))
-
--- TAKES
-
-module _ {D : Type 0} where
-  -- from the scan of the band it goes on to the next where it found nothing, and with a packet to the gate
-  abbrev pub GoesOnFromScan : ℕ → Option ℕ → Cpu D → Cpu D → Type 0
-  GoesOnFromScan band found b a = MatchOption found ((second : Bool) → position b ≡ Scan band second → position a ≡ after_band band second)
-      (λ n. position a ≡ Gate (machine_packet (view b).share.about.infos n) false)
 
 -- PURGES
 

@@ -1,16 +1,15 @@
 -- What control does to one band in a resize.
-use Rattle.std.specs.Prelude.{◌≡◌, ◌⊎◌, ℕ, zero, suc, ◌+◌, ◌-◌, ◌/◌, ◌<◌, ◌≤◌, ◌≢◌, ◌==◌, if◌then◌else◌, true, false, List, [], ◌∷◌, ◌++◌, take, drop, length, slice_index, slice_set, option_map, Some, Contains}
+use Rattle.std.specs.Prelude.{◌≡◌, ◌⊎◌, ℕ, zero, suc, ◌+◌, ◌-◌, ◌/◌, ◌<◌, ◌==◌, if◌then◌else◌, true, List, [], take, drop, length, slice_index, slice_set, option_map, Some, Contains}
 use Rattle.std.specs.Option.{unwrap_or}
 use Rattle.lq_band_laws.specs.Three.{at}
 use Rattle.lq_band_laws.specs.HalfResized.{IsBeforeResize, IsRefilled}
 use Rattle.lq_model.specs.Plan.{band_in}
 use Rattle.lq_model.specs.Positions.{holds_lock}
-use Rattle.lq_model.specs.declared.fate.Fate.{Fate}
 use Rattle.lq_model.specs.declared.fate.Fate.TheVariants as fate
 use Rattle.lq_model.specs.declared.fate.Info.{Info}
 use Rattle.lq_ring.specs.Fates.{fates_onto}
 use Rattle.lq_table.specs.Views.{View, HalfResize, Work, no_resizing}
-use Rattle.lq_table.specs.Resizes.{is_member, is_word, with_work, settled_work, with_resizing}
+use Rattle.lq_table.specs.Resizes.{is_member, with_work, with_resizing}
 
 -- the band's part of the resize that the seat has half done
 abbrev pub work_at : ℕ → View → Work
@@ -22,35 +21,21 @@ working b w v = with_resizing (option_map (with_work b w) v.holder.resizing) v
 abbrev pub IsTurner : View → Type 0
 IsTurner v = (holds_lock v.place.position ≡ true) × ((t : HalfResize) × (v.holder.resizing ≡ Some t) × (v.whole.state.resizing ≡ Some t))
 
-abbrev pub members_of : Work → List ℕ
-members_of w = w.kept ++ w.waiting
-
 -- it has this many slots, each empty or with one of its packets
 abbrev pub HasSlots : ℕ → Work → Type 0
-HasSlots limit w = (length w.slots ≡ limit) × ((x : ℕ) → (slice_index w.slots x ≡ 0) ⊎ (is_word (slice_index w.slots x) (members_of w) ≡ true))
+HasSlots limit w = (length w.slots ≡ limit) × ((x : ℕ) → (slice_index w.slots x ≡ 0) ⊎ (is_member (slice_index w.slots x) w ≡ true))
 
 -- each of these is a packet of the capture and of this band
 abbrev pub ArePacketsOf : List Info → ℕ → List ℕ → Type 0
 ArePacketsOf infos b ns = (n : ℕ) → Contains ns n → (band_in infos n ≡ b) × (n < length infos)
 
--- no slot from the tail up to the head has a packet that the band keeps or drops
-abbrev pub AreStale : ℕ → ℕ → Work → Type 0
-AreStale tail head w = (j : ℕ) → tail ≤ j → j < head → is_member (slice_index w.slots j) w ≡ false
-
--- so many of the first slots, up to the limit, have a word, and the slot after them, below the limit, has none
-abbrev pub AreFilledUpTo : ℕ → ℕ → List ℕ → Type 0
-AreFilledUpTo limit count slots = (count ≤ limit) × ((j : ℕ) → j < count → slice_index slots j ≢ 0) × (count < limit → slice_index slots count ≡ 0)
-
 -- a word is put back from the hand into a slot, unless it is 0
 abbrev pub back_in : ℕ → ℕ → Work → Work
 back_in i x w = if x == 0 then w else record w { slots = slice_set w.slots i x; hand = drop 1 w.hand }
 
-abbrev pub with_slots : List ℕ → Work → Work
-with_slots s w = record w { slots = s }
-
 -- this is made of the band's slots
 abbrev pub changing_slots : ℕ → (List ℕ → List ℕ) → View → View
-changing_slots b change v = working b (with_slots (change (work_at b v).slots) (work_at b v)) v
+changing_slots b change v = let w = work_at b v in working b (record w { slots = change w.slots }) v
 
 abbrev pub exchanged : ℕ → ℕ → List ℕ → List ℕ
 exchanged i j s = slice_set (slice_set s i (slice_index s j)) j (slice_index s i)
@@ -69,25 +54,9 @@ abbrev pub zeroed_to : ℕ → ℕ → List ℕ → List ℕ
 zeroed_to from zero s = s
 zeroed_to from (suc k) s = slice_set (zeroed_to from k s) (from + k) 0
 
--- so many of the dropped packets, which stand from a place on, were settled
-abbrev pub dropped_to : ℕ → ℕ → Work → Work
-dropped_to from n w = record w { slots = zeroed_to from n w.slots; waiting = drop n w.waiting }
-
--- the seat has stored these fates
-abbrev pub having_settled : List (ℕ × Fate) → View → View
-having_settled fates v = record v { settled = fates }
-
--- a word is settled, unless it is 0, and its packet's fate stored
-abbrev pub settling_word : ℕ → ℕ → ℕ → View → View
-settling_word b x event v = let w = work_at b v in having_settled (if x == 0 then v.settled else (x - 1, fate.Shrunk event) ∷ v.settled) (working b (if x == 0 then w else settled_work w) v)
-
--- so many of the dropped packets, which stand from a place on, are settled, and their fates stored
-abbrev pub settling_dropped : ℕ → ℕ → ℕ → ℕ → View → View
-settling_dropped b event from n v = having_settled (fates_onto (fate.Shrunk event) (take n (work_at b v).waiting) v.settled) (working b (dropped_to from n (work_at b v)) v)
-
 -- the band's work is this now, and the fates of all packets that it dropped are stored
 abbrev pub having_turned : ℕ → ℕ → Work → View → View
-having_turned b event w v = having_settled (fates_onto (fate.Shrunk event) (work_at b v).waiting v.settled) (working b w v)
+having_turned b event w v = record (working b w v) { settled = fates_onto (fate.Shrunk event) (work_at b v).waiting v.settled }
 
 abbrev pub event_of_work : View → ℕ
 event_of_work v = (unwrap_or v.holder.resizing no_resizing).event

@@ -1,14 +1,16 @@
 //! The exchanges of a resize on one band, which keep what stands in its slots and change only the order.
-ghost use Rattle.std.specs.Prelude.{◌≡◌, ◌≢◌, ◌+◌, ◌-◌, ◌/◌, ◌<◌, ◌≤◌, ℕ, List, [], ◌∷◌, drop, length, ◌==◌, if◌then◌else◌, slice_index};
+ghost use Rattle.std.specs.Prelude.{◌≡◌, ◌≢◌, ◌+◌, ◌-◌, ◌/◌, ◌<◌, ◌≤◌, ℕ, List, [], ◌∷◌, drop, length, take, false, ◌==◌, if◌then◌else◌, slice_index};
 ghost use Rattle.lq_model.specs.Plan.{band_in};
+ghost use Rattle.lq_model.specs.declared.fate.Fate.TheVariants as fate;
 ghost use Rattle.lq_table.specs.Fates.{MayShrink};
-ghost use Rattle.lq_table.specs.Resizes.{out_of};
+ghost use Rattle.lq_table.specs.Resizes.{is_member, out_of, settled_work};
 ghost use Rattle.lq_table.specs.Sees.{view, IsSeatOf};
 ghost use Rattle.lq_table.specs.Step.{ClearSlot, MakesSteps};
+ghost use Rattle.lq_ring.specs.Fates.{fates_onto};
 ghost use Rattle.lq_ring.specs.Seats.{ChangesView};
 ghost use Rattle.lq_ring.specs.StepLists.{MakesStepsFrom, TurnRing};
-ghost use Rattle.lq_ring.specs.Work.{back_in, work_at, working, AreFilledUpTo, AreStale, HasSlots, IsTurner, changing_slots, exchanged, reversed_to, rotated, settling_dropped, settling_word, zeroed_to};
-ghost use Rattle.lq_ring.specs.Calls.{MayDropRest};
+ghost use Rattle.lq_ring.specs.Work.{back_in, work_at, working, HasSlots, IsTurner, changing_slots, exchanged, reversed_to, rotated, zeroed_to, ArePacketsOf, event_of_work};
+ghost use Rattle.lq_band_laws.specs.Ring.{word_at};
 
 use crate::turns::Resize;
 use lq_device::TxDevice;
@@ -90,7 +92,7 @@ pub(crate) fn rotate<'a, D: TxDevice>(
     reverse(shared, cpu, band, 0, size);
 }
 
-/// Empties the slots of packets that were taken.
+/// Empties the slots of packets that were taken, from the tail up to the head. None of them has a packet that the band keeps or drops.
 pub(crate) fn clear_stale<'a, D: TxDevice>(
     shared: &Shared<'a, D>,
     cpu: &mut Cpu<D>,
@@ -101,7 +103,8 @@ pub(crate) fn clear_stale<'a, D: TxDevice>(
     requires seat { IsSeatOf shared.now cpu.old }
     requires place { (band < 3) × (tail ≤ head) × (head ≤ shared.now.max_len) }
     requires turner { IsTurner (view cpu.old) }
-    requires stale { AreStale tail head (work_at band (view cpu.old)) }
+    requires stale { let w = work_at band (view cpu.old) in
+        (j : ℕ) → tail ≤ j → j < head → is_member (slice_index w.slots j) w ≡ false }
     ensures makes { MakesStepsFrom (λ s. TurnRing band) cpu.old cpu.new }
     ensures stands { ChangesView (changing_slots band (zeroed_to tail (head - tail))) cpu.old cpu.new }
 {
@@ -123,7 +126,9 @@ fn settle_word<'a, D: TxDevice>(
     requires word { x ≢ 0 → MayShrink band (x - 1) event (view cpu.old) × (band < 3)
         × (band_in shared.now.infos.now (x - 1) ≡ band) × (x - 1 < length shared.now.infos.now) × (x ≤ 1000000) }
     ensures makes { MakesStepsFrom (λ s. TurnRing band) cpu.old cpu.new }
-    ensures stands { ChangesView (settling_word band x event) cpu.old cpu.new }
+    ensures stands { ChangesView (λ v. let w = work_at band v in record (working band (if x == 0 then w else settled_work w) v) {
+      settled = if x == 0 then v.settled else (x - 1, fate.Shrunk event) ∷ v.settled;
+    }) cpu.old cpu.new }
     ensures count { result ≡ (if x == 0 then 0 else 1) }
 {
     if x == 0 {
@@ -146,7 +151,8 @@ pub(crate) fn count_filled<'a, D: TxDevice>(
     requires slots { HasSlots shared.now.max_len (work_at band (view cpu.old)) }
     ensures makes { MakesStepsFrom (λ s. TurnRing band) cpu.old cpu.new }
     ensures stands { ChangesView (λ v. v) cpu.old cpu.new }
-    ensures filled { AreFilledUpTo limit result (work_at band (view cpu.old)).slots }
+    ensures filled { let slots = (work_at band (view cpu.old)).slots in (result ≤ limit)
+        × ((j : ℕ) → j < result → slice_index slots j ≢ 0) × (result < limit → slice_index slots result ≡ 0) }
 {
     for i in 0..limit {
         let x = take_out(shared, cpu, band, i);
@@ -167,9 +173,16 @@ pub(crate) fn drop_rest<'a, D: TxDevice>(
     resize: Resize,
 ) -> u32
     requires seat { IsSeatOf shared.now cpu.old }
-    requires may { MayDropRest shared.now band from resize cpu.old }
+    requires place { (band < 3) × (from ≤ resize.size) × (resize.size ≤ shared.now.max_len) }
+    requires turner { IsTurner (view cpu.old) × (event_of_work (view cpu.old) ≡ resize.event) }
+    requires rest { let w = work_at band (view cpu.old) in (w.hand ≡ [])
+        × ((n : ℕ) → n < resize.size - from → slice_index w.slots (from + n) ≡ word_at w.waiting n) }
+    requires packets { ArePacketsOf shared.now.infos.now band (work_at band (view cpu.old)).waiting }
     ensures makes { MakesStepsFrom (λ s. TurnRing band) cpu.old cpu.new }
-    ensures stands { ChangesView (settling_dropped band resize.event from (resize.size - from)) cpu.old cpu.new }
+    ensures stands { ChangesView (λ v. let w = work_at band v in let n = resize.size - from in
+        record (working band (record w { slots = zeroed_to from n w.slots; waiting = drop n w.waiting }) v) {
+          settled = fates_onto (fate.Shrunk resize.event) (take n w.waiting) v.settled;
+        }) cpu.old cpu.new }
     ensures few { result ≤ resize.size - from }
     ensures count { let waiting = (work_at band (view cpu.old)).waiting in
         result + length (drop (resize.size - from) waiting) ≡ length waiting }

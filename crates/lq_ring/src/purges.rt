@@ -1,15 +1,19 @@
 //! The takes of a purge: `pfifo_fast_reset` of net/sched/sch_generic.c empties each ring by `__skb_array_consume`, with
 //! the zeroing that this does.
-ghost use Rattle.std.specs.Prelude.{◌≡◌, ◌≤◌, Some, length};
+ghost use Rattle.std.specs.Prelude.{◌≡◌, ◌≤◌, Some, length, ◌<◌, None};
 ghost use Rattle.lq_band_laws.specs.Three.{at};
 ghost use Rattle.lq_model.specs.Band.{held_of};
 ghost use Rattle.lq_model.specs.Machine.{Purge};
 ghost use Rattle.lq_table.specs.Sees.{slot, view, IsSameSeat, IsSeatOf};
 ghost use Rattle.lq_table.specs.Views.{Left};
-ghost use Rattle.lq_ring.specs.Calls.{MayPurgeBand, MayPurgeOne};
 ghost use Rattle.lq_ring.specs.Purged.{IsBandPurged};
 ghost use Rattle.lq_ring.specs.StepLists.{MakesStepsFrom, PurgeBand, PurgeOne};
 ghost use Rattle.lq_ring.specs.Take.{CarriesStation};
+ghost use Rattle.lq_model.specs.declared.fate.Fate.TheVariants as fate;
+ghost use Rattle.lq_model.specs.Words.{HasWord};
+ghost use Rattle.lq_table.specs.Rule.{IsResting};
+ghost use Rattle.lq_ring.specs.Put.{no_locks};
+ghost use Rattle.lq_ring.specs.Seats.{HasRingToPurge};
 
 use crate::takes::discard_one;
 use lq_device::TxDevice;
@@ -17,7 +21,7 @@ use lq_model::{Cause, Fate};
 use lq_table::{Cpu, Shared};
 
 /// Takes the first packet of the band that a purge has come to, and stores its fate. Where the band is empty it answers
-/// false, and the purge goes on with the next band.
+/// false, and the purge goes on with the next band. No fate is owed before.
 fn purge_one<'a, D: TxDevice>(
     shared: &Shared<'a, D>,
     cpu: &mut Cpu<D>,
@@ -26,7 +30,13 @@ fn purge_one<'a, D: TxDevice>(
     cause: Cause,
 ) -> bool
     requires seat { IsSeatOf shared.now cpu.old }
-    requires may { MayPurgeOne shared.now band size cause cpu.old }
+    requires below { band < 3 }
+    requires at { HasRingToPurge shared.now band cause cpu.old }
+    requires word { HasWord (fate.Purged cause) }
+    requires packets { ((view cpu.old).packets.owed ≡ None) × ((view cpu.old).packets.fresh ≡ None) }
+    requires rests { IsResting (view cpu.old).holder.size (view cpu.old).holder.ends × ((view cpu.old).holder.resizing ≡ None)
+        × ((view cpu.old).holder.size ≡ size) × (size ≤ shared.now.max_len) }
+    requires station { CarriesStation cpu.old }
     ensures makes { MakesStepsFrom (λ s. PurgeOne band size cause s result) cpu.old cpu.new }
     ensures stands { (slot cpu.new ≡ slot cpu.old) × CarriesStation cpu.new }
 {
@@ -40,7 +50,8 @@ fn purge_one<'a, D: TxDevice>(
 }
 
 /// Takes all packets of the band that a purge has come to, in order, and stores their fates. It answers their number, and
-/// the purge goes on with the next band.
+/// the purge goes on with the next band. They are no more than the ring has slots. Before the call no fate is owed, and the seat
+/// has no producer lock.
 pub fn purge_band<'a, D: TxDevice>(
     shared: &Shared<'a, D>,
     cpu: &mut Cpu<D>,
@@ -48,7 +59,13 @@ pub fn purge_band<'a, D: TxDevice>(
     cause: Cause,
 ) -> u32
     requires seat { IsSeatOf shared.now cpu.old }
-    requires may { MayPurgeBand shared.now band cause cpu.old }
+    requires below { band < 3 }
+    requires at { HasRingToPurge shared.now band cause cpu.old }
+    requires word { HasWord (fate.Purged cause) }
+    requires packets { ((view cpu.old).packets.owed ≡ None) × ((view cpu.old).packets.fresh ≡ None) }
+    requires rests { IsResting (view cpu.old).holder.size (view cpu.old).holder.ends × ((view cpu.old).holder.resizing ≡ None) }
+    requires station { CarriesStation cpu.old }
+    requires idle { (view cpu.old).locks ≡ no_locks }
     ensures makes { MakesStepsFrom (λ s. PurgeBand band cause s result) cpu.old cpu.new }
     ensures same { IsSameSeat cpu.old cpu.new × (slot cpu.new ≡ slot cpu.old) }
     ensures few { result ≤ shared.now.max_len }

@@ -1,14 +1,14 @@
 //! Puts by many senders, under a band's producer lock.
-ghost use Rattle.std.specs.Prelude.{◌≡◌, ◌<◌, ◌+◌, MatchResult};
+ghost use Rattle.std.specs.Prelude.{◌≡◌, ◌<◌, ◌+◌, MatchResult, Bool, None};
 ghost use Rattle.lq_band_laws.specs.Ring.{locked_at, unlocked};
-ghost use Rattle.lq_band_laws.specs.Three.{at};
+ghost use Rattle.lq_band_laws.specs.Three.{at, put};
 ghost use Rattle.lq_model.specs.Account.{Join, Full as FullEvent};
 ghost use Rattle.lq_table.specs.Producers.{with_lock_at, SeesEnd};
-ghost use Rattle.lq_table.specs.Sees.{heard, lock_at, slot, solo, view, IsSameSeat, IsSeatOf};
-ghost use Rattle.lq_ring.specs.Calls.{MayPut, MayPutLocked};
-ghost use Rattle.lq_ring.specs.Put.{dropping_full, putting};
+ghost use Rattle.lq_table.specs.Sees.{heard, lock_at, slot, solo, view, IsSameSeat, IsSeatOf, position, packet_at, Brings};
+ghost use Rattle.lq_ring.specs.Put.{dropping_full, putting, no_locks};
 ghost use Rattle.lq_ring.specs.Seats.{GoesOnFromPut};
 ghost use Rattle.lq_ring.specs.StepLists.{LockProducer, MakesStepsFrom, Produce, ProduceLocked};
+ghost use Rattle.lq_model.specs.declared.machine.Position.TheVariants.{Put};
 
 use crossbeam_utils::Backoff;
 use lq_device::TxDevice;
@@ -45,7 +45,8 @@ pub(crate) fn lock_producer<'a, D: TxDevice, R: Wait>(
 }
 
 /// `__ptr_ring_produce` with the end of `ptr_ring_produce`: the slot at the index is looked at, and written where it is
-/// empty, and the producer lock is given back.
+/// empty, and the producer lock is given back. The seat brings the packet to the band, and of the producer locks it has just got
+/// the band's, with this index.
 fn produce_locked<'a, D: TxDevice>(
     shared: &Shared<'a, D>,
     cpu: &mut Cpu<D>,
@@ -54,7 +55,11 @@ fn produce_locked<'a, D: TxDevice>(
     index: u32,
 ) -> Result<(), Full>
     requires seat { IsSeatOf shared.now cpu.old }
-    requires may { MayPutLocked shared.now band n index cpu.old }
+    requires below { band < 3 }
+    requires locked { ((view cpu.old).locks ≡ put band (locked_at index) no_locks) × (at band cpu.old.indices ≡ index)
+        × (index < shared.now.max_len) × ((view cpu.old).holder.resizing ≡ None) }
+    requires at { (holds : Bool) × (position cpu.old ≡ Put (packet_at shared.now n) holds) }
+    requires packet { Brings shared.now n band cpu.old × ((view cpu.old).packets.owed ≡ None) }
     ensures makes { MakesStepsFrom (λ s. ProduceLocked band index n result) cpu.old cpu.new }
     ensures stands { MatchResult result (λ _. view cpu.new ≡ putting band n (view cpu.old))
         (λ full. view cpu.new ≡ dropping_full n full.seen (view cpu.old)) }
@@ -78,7 +83,7 @@ fn produce_locked<'a, D: TxDevice>(
 ///
 /// Full comes only where the slot at the producer index, loaded under that lock, had the packet `seen`: no word of the
 /// ring has changed then, and the fate that names `seen` is owed for the packet. A seat that has the table alone gets
-/// Full exactly where the account says that the band is full.
+/// Full exactly where the account says that the band is full. Before the call the seat has no producer lock.
 pub fn produce<'a, D: TxDevice, R: Wait>(
     rt: &R,
     shared: &Shared<'a, D>,
@@ -87,7 +92,10 @@ pub fn produce<'a, D: TxDevice, R: Wait>(
     n: u32,
 ) -> Result<(), Full>
     requires seat { IsSeatOf shared.now cpu.old }
-    requires may { MayPut shared.now band n cpu.old }
+    requires below { band < 3 }
+    requires at { (holds : Bool) × (position cpu.old ≡ Put (packet_at shared.now n) holds) }
+    requires packet { Brings shared.now n band cpu.old × ((view cpu.old).packets.owed ≡ None) }
+    requires idle { ((view cpu.old).locks ≡ no_locks) × ((view cpu.old).holder.resizing ≡ None) }
     ensures makes { MakesStepsFrom (λ s. Produce band n result) cpu.old cpu.new }
     ensures same { IsSameSeat cpu.old cpu.new × (cpu.new.station ≡ cpu.old.station) × (slot cpu.new ≡ slot cpu.old) }
     ensures knows { MatchResult result (λ _. view cpu.new ≡ putting band n (view cpu.old))

@@ -1,19 +1,20 @@
 //! A live resize of the three rings, which control does under the run lock and the three producer locks.
-ghost use Rattle.std.specs.Prelude.{◌≡◌, ◌<◌, ◌≤◌, ◌+◌, ℕ, List, [], ◌∷◌, None, Some, length};
+ghost use Rattle.std.specs.Prelude.{◌≡◌, ◌<◌, ◌≤◌, ◌+◌, ℕ, List, [], ◌∷◌, None, Some, length, slice_index, true, false};
 ghost use Rattle.lq_ring_core.specs.Slots.{round};
 ghost use Rattle.lq_table.specs.Views.{HolderPart, Work};
 ghost use Rattle.lq_table.specs.Producers.{with_lock_at};
 ghost use Rattle.lq_band_laws.specs.Ring.{locked_at};
 ghost use Rattle.lq_device.specs.Station.{StationState};
-ghost use Rattle.lq_table.specs.Rule.{shown};
-ghost use Rattle.lq_table.specs.Sees.{slot, view, IsSameSeat, IsSeatOf};
+ghost use Rattle.lq_table.specs.Rule.{shown, IsResting};
+ghost use Rattle.lq_table.specs.Sees.{slot, view, IsSameSeat, IsSeatOf, lock_at};
 ghost use Rattle.lq_table.specs.Step.{MakesSteps, SetEnds};
 ghost use Rattle.lq_ring.specs.Put.{no_locks};
-ghost use Rattle.lq_ring.specs.Resized.{all_lost, having_resized, locked_three, IsReadyToResize};
-ghost use Rattle.lq_ring.specs.Seats.{ChangesView};
-ghost use Rattle.lq_ring.specs.StepLists.{LockAll, MakesStepsFrom, TurnAll, TurnAt, unlock_steps};
-ghost use Rattle.lq_ring.specs.Work.{having_turned, work_at, IsWorkDone};
-ghost use Rattle.lq_ring.specs.Calls.{MayResizeAll, MayTurnAll, ResizesRings};
+ghost use Rattle.lq_ring.specs.Resized.{all_lost, having_resized, locked_three};
+ghost use Rattle.lq_ring.specs.Seats.{ChangesView, MayResize};
+ghost use Rattle.lq_ring.specs.StepLists.{LockAll, MakesStepsFrom, ResizeAll, TurnAll, TurnAt, unlock_steps};
+ghost use Rattle.lq_ring.specs.Work.{event_of_work, having_turned, work_at, ArePacketsOf, IsTurner, IsWorkBegun, IsWorkDone};
+ghost use Rattle.lq_band_laws.specs.Three.{at};
+ghost use Rattle.lq_ring.specs.Take.{CarriesStation};
 
 use crate::puts::lock_producer;
 use crate::takes::{ends_of, set_ends};
@@ -50,7 +51,7 @@ fn index_after(kept: u32, len: u32) -> u32
     if kept == len { 0 } else { kept }
 }
 
-/// Turns one band, whose ends the station has, and sets its producer.
+/// Turns one band, whose ends the station has, in a resize half done, and sets its producer. The band's work has not begun.
 fn turn_at<'a, D: TxDevice>(
     shared: &Shared<'a, D>,
     cpu: &mut Cpu<D>,
@@ -59,8 +60,11 @@ fn turn_at<'a, D: TxDevice>(
 ) -> Turned
     requires seat { IsSeatOf shared.now cpu.old }
     requires place { (band < 3) × (resize.len ≤ shared.now.max_len) }
-    requires ready { (st : StationState) × (cpu.old.station ≡ Some st)
-        × IsReadyToResize shared.now.max_len shared.now.infos.now st resize.size resize.len resize.event band (view cpu.old) }
+    requires turner { IsTurner (view cpu.old) × (event_of_work (view cpu.old) ≡ resize.event) }
+    requires lock { (at band (view cpu.old).locks).holds ≡ true }
+    requires ready { let w = work_at band (view cpu.old) in (st : StationState) × (held : List ℕ) × (cpu.old.station ≡ Some st)
+        × IsWorkBegun shared.now.max_len resize.size (slice_index st.tails band) (slice_index st.heads band) resize.len held w
+        × ArePacketsOf shared.now.infos.now band held }
     ensures makes { MakesStepsFrom (λ s. TurnAt band result.index) cpu.old cpu.new }
     ensures stands { (w : Work) × ChangesView (λ v. with_lock_at band (locked_at result.index) (having_turned band resize.event w v)) cpu.old cpu.new
         × IsWorkDone shared.now.max_len resize.len (work_at band (view cpu.old)) w
@@ -77,10 +81,15 @@ fn turn_at<'a, D: TxDevice>(
     }
 }
 
-/// Turns the three bands of a station whose run lock and producer locks the seat has.
+/// Turns the three bands of a station whose run lock and producer locks the seat has, as control. The rings rest.
 fn turn_all<'a, D: TxDevice>(shared: &Shared<'a, D>, cpu: &mut Cpu<D>, resize: Resize) -> AllTurned
     requires seat { IsSeatOf shared.now cpu.old }
-    requires may { MayTurnAll shared.now resize cpu.old }
+    requires long { (0 < resize.len) × (resize.len ≤ shared.now.max_len) }
+    requires at { MayResize cpu.old }
+    requires rests { ((view cpu.old).holder.resizing ≡ None) × IsResting (view cpu.old).holder.size (view cpu.old).holder.ends
+        × ((view cpu.old).holder.size ≡ resize.size) }
+    requires station { CarriesStation cpu.old }
+    requires locks { (b : ℕ) → b < 3 → ((lock_at b cpu.old).holds ≡ true) × ((lock_at b cpu.old).stored ≡ false) }
     ensures makes { (held : ℕ → List ℕ)
         × MakesStepsFrom (λ s. TurnAll resize.len resize.event held result.low.index result.mid.index result.high.index) cpu.old cpu.new
         × ChangesView (λ v. record (having_resized resize.len resize.event (all_lost resize.len held) v) {
@@ -139,7 +148,7 @@ fn restart_ends<D: TxDevice>(cpu: &mut Cpu<D>)
 ///
 /// Each band keeps its first packets, up to the new length, in order; those after them get Shrunk with the plan's event as
 /// their fate, which this call stores. A deactivated station that was purged loses none, and a seat that has the table alone finds
-/// what its account says.
+/// what its account says. Before the call the rings rest, and the seat has no producer lock.
 pub fn resize_all<'a, D: TxDevice, R: Wait>(
     rt: &R,
     shared: &Shared<'a, D>,
@@ -148,8 +157,15 @@ pub fn resize_all<'a, D: TxDevice, R: Wait>(
     event: u32,
 ) -> u32
     requires seat { IsSeatOf shared.now cpu.old }
-    requires may { MayResizeAll shared.now len cpu.old }
-    ensures { ResizesRings shared.now len event result cpu.old cpu.new }
+    requires long { (0 < len) × (len ≤ shared.now.max_len) }
+    requires at { MayResize cpu.old }
+    requires rests { IsResting (view cpu.old).holder.size (view cpu.old).holder.ends × ((view cpu.old).holder.resizing ≡ None) }
+    requires station { CarriesStation cpu.old }
+    requires idle { (view cpu.old).locks ≡ no_locks }
+    ensures resizes { (held : ℕ → List ℕ) × MakesStepsFrom (λ s. ResizeAll len event held) cpu.old cpu.new
+        × (view cpu.new ≡ having_resized len event (all_lost len held) (view cpu.old)) × (result ≡ length (all_lost len held)) }
+    ensures same { IsSameSeat cpu.old cpu.new × (slot cpu.new ≡ slot cpu.old) }
+    ensures station { CarriesStation cpu.new }
 {
     lock_all(rt, shared, cpu);
     let size = shared.load_size(cpu) as u32;

@@ -1,11 +1,10 @@
 //! A resize of one band.
-ghost use Rattle.std.specs.Prelude.{◌≡◌, ◌<◌, ◌≤◌, length};
+ghost use Rattle.std.specs.Prelude.{◌≡◌, ◌<◌, ◌≤◌, length, ℕ, List};
 ghost use Rattle.lq_table.specs.Sees.{view, IsSeatOf};
 ghost use Rattle.lq_table.specs.Views.{Work};
 ghost use Rattle.lq_ring.specs.Seats.{ChangesView};
 ghost use Rattle.lq_ring.specs.StepLists.{MakesStepsFrom, TurnRing};
-ghost use Rattle.lq_ring.specs.Work.{having_turned, work_at, IsWorkDone};
-ghost use Rattle.lq_ring.specs.Calls.{MayTurnBand};
+ghost use Rattle.lq_ring.specs.Work.{having_turned, work_at, IsWorkDone, ArePacketsOf, IsTurner, IsWorkBegun, event_of_work};
 
 use crate::moves::{clear_stale, count_filled, drop_rest, rotate};
 use lq_device::TxDevice;
@@ -46,7 +45,8 @@ fn lesser(a: u32, b: u32) -> u32
     if a < b { a } else { b }
 }
 
-/// Puts the packets that the band keeps in order from slot 0 on, and stores the fates of the others.
+/// Puts the packets that the band keeps in order from slot 0 on, and stores the fates of the others. The seat turns the band, whose
+/// work has not begun, and whose ends these are.
 pub(crate) fn turn_band<'a, D: TxDevice>(
     shared: &Shared<'a, D>,
     cpu: &mut Cpu<D>,
@@ -55,7 +55,11 @@ pub(crate) fn turn_band<'a, D: TxDevice>(
     resize: Resize,
 ) -> Kept
     requires seat { IsSeatOf shared.now cpu.old }
-    requires may { MayTurnBand shared.now band ends resize cpu.old }
+    requires place { (band < 3) × (resize.len ≤ shared.now.max_len) }
+    requires turner { IsTurner (view cpu.old) × (event_of_work (view cpu.old) ≡ resize.event) }
+    requires whole { (held : List ℕ)
+        × IsWorkBegun shared.now.max_len resize.size ends.tail ends.head resize.len held (work_at band (view cpu.old)) }
+    requires packets { ArePacketsOf shared.now.infos.now band (work_at band (view cpu.old)).waiting }
     ensures makes { MakesStepsFrom (λ s. TurnRing band) cpu.old cpu.new }
     ensures stands { (w : Work) × ChangesView (having_turned band resize.event w) cpu.old cpu.new
         × IsWorkDone shared.now.max_len resize.len (work_at band (view cpu.old)) w }

@@ -18,8 +18,8 @@ use Rattle.lq_table.specs.declared.shared.Cpu.{Cpu}
 use Rattle.lq_run.specs.Runs.{BeginsAsHolder, HasNone, StandsWithoutStation, after_got, after_missed, run_got}
 use Rattle.lq_run.specs.Steps.{AtOnce, Begin, InTheEnd, MakesStepsOf, Missed, MissedBefore}
 use Rattle.lq_run.proofs.Keeps.{IsElseKept, IsEventless, kept_still}
-use Rattle.lq_run.proofs.StepsThen.{leave_then, stands_after}
-use Rattle.lq_run.proofs.Tried.{sole_still, still, tell_first, tell_last, tried, noted}
+use Rattle.lq_table.proofs.StepsThen.{leave_then, stands_after, tell_first, tell_last}
+use Rattle.lq_run.proofs.Tried.{sole_still, still, tried, noted}
 use Rattle.lq_run.proofs.TryLemmas.{place_locked, place_missed, LeadsGot, Touches, first_got, first_leads, first_locked, missed_leads, missed_touches, second_got, second_leads, second_locked, touches_then}
 
 three : (xs ys zs : List Step) (s : Standing) → steps_leave (xs ++ ys ++ zs) s ≡ steps_leave zs (steps_leave ys (steps_leave xs s))
@@ -85,12 +85,6 @@ begun (Missed {first} {noted = second} {again = third} t n r) s told =
 module _ {D : Type 0} where
   pub kept_begun : {answer : Bool} {b a : Cpu D} → MakesStepsOf (Begin answer) b a → IsElseKept b a × IsEventless b a
   kept_begun {answer} {b} {a} x = let m = x.2 in let y = begun x.1 (standing b) m.told in kept_still b a m.seat (m.places ∙ y.indices) (ap still m.knows ∙ y.rest)
-
-  pub sole_begun : {answer : Bool} {b a : Cpu D} → MakesStepsOf (Begin answer) b a → IsSole (view b)
-      → (answer ≡ not (view b).whole.qdisc.locked) × (solo (view a) ≡ locked_to true (if answer then solo (view b) else missed_to true (solo (view b)))) × (answer ≡ true → IsAccounts (view a))
-  sole_begun {answer} {b} {a} x alone =
-      let m = x.2 in let q = (begun x.1 (standing b) m.told).sole alone in
-      (q.0, ap solo m.knows ∙ q.1, λ yes. subst (λ (v : View). IsAccounts v) (sym m.knows) (q.2 yes))
 
 -- FROM A FIRST TRY
 

@@ -1,5 +1,3 @@
--- steps after steps
-pub mod StepsThen
 -- what a try of the run lock and a set of MISSED come to
 pub mod Tried
 -- what the calls leave as it was

@@ -1,5 +1,5 @@
 -- What a try of the run lock, and a set of MISSED, come to: what their steps make of what a seat has.
-use Rattle.std.proofs.Common.{◌≡◌, ◌≢◌, ◌<◌, ℕ, Bool, true, false, not, if◌then◌else◌, List, [], ◌∷◌, ◌++◌, eqb, ne_eqb, Some, refl, sym, ap, ◌∙◌, subst}
+use Rattle.std.proofs.Common.{◌≡◌, ◌≢◌, ◌<◌, ℕ, Bool, true, false, not, if◌then◌else◌, List, ◌∷◌, eqb, ne_eqb, Some, refl, sym, ap, ◌∙◌, subst}
 use Rattle.std.proofs.lemmas.Bool.{false≢true, true≢false}
 use Rattle.lq_model.specs.Control.{is_control}
 use Rattle.lq_model.specs.Machine.{first_qdisc, idle_seat}
@@ -7,21 +7,11 @@ use Rattle.lq_table.specs.Locks.{GetsRunLock, SeesTry, look_lock_view, try_lock_
 use Rattle.lq_table.specs.Rule.{shown}
 use Rattle.lq_table.specs.Sees.{view, slot, solo, IsSameSeat, IsSeatOf, IsSole}
 use Rattle.lq_table.specs.States.{miss_view, missed_to}
-use Rattle.lq_table.specs.Step.{Standing, Step, TryLock, standing, step_leaves, step_tells, steps_leave, steps_tell}
+use Rattle.lq_table.specs.Step.{Standing, Step, TryLock, standing, step_tells, steps_leave, steps_tell}
 use Rattle.lq_table.specs.Views.{HolderPart, SharePart, View, not_holding}
 use Rattle.lq_table.specs.declared.shared.Cpu.{Cpu}
 use Rattle.lq_table.specs.declared.shared.Shared.{Shared}
 use Rattle.lq_run.specs.Steps.{Got, Held, Lost, MakesStepsOf, NoteMissed, Seen, Set, TryRunLock}
-
--- LISTS OF TWO PARTS
-
-pub tell_first : (xs ys : List Step) (s : Standing) → steps_tell (xs ++ ys) s → steps_tell xs s
-tell_first [] ys s t = tt
-tell_first (x ∷ xs) ys s t = (t.0, tell_first xs ys (step_leaves x s) t.1)
-
-pub tell_last : (xs ys : List Step) (s : Standing) → steps_tell (xs ++ ys) s → steps_tell ys (steps_leave xs s)
-tell_last [] ys s t = t
-tell_last (x ∷ xs) ys s t = tell_last xs ys (step_leaves x s) t.1
 
 -- WHAT NO STEP ON THE RUN LOCK CHANGES
 

@@ -1,5 +1,5 @@
 -- What a seat knows after a call, and after the soft interrupts that follow it.
-use Rattle.std.proofs.Common.{◌≡◌, ℕ, Bool, true, false, cond, List, ◌∷◌, inl, inr, ⊎_elim, Option, Some, None, refl, sym, ap, ◌∙◌, subst, is_some}
+use Rattle.std.proofs.Common.{◌≡◌, ℕ, Bool, true, false, cond, List, [], ◌∷◌, inl, inr, ⊎_elim, Option, Some, None, refl, sym, ap, ◌∙◌, subst, is_some}
 use Rattle.std.specs.Prelude.{◌↔◌, ◌<◌, ◌==◌, ◌+◌, ◌*◌, slice_set}
 use Rattle.lq_account_laws.proofs.Lists.{cons-in}
 use Rattle.lq_account_laws.specs.Controls.{with_control}
@@ -16,7 +16,8 @@ use Rattle.lq_model.specs.declared.fate.Cause.TheVariants as cause
 use Rattle.lq_model.specs.declared.fate.Info.{Info}
 use Rattle.lq_model.specs.declared.plan.EventKind.{EventKind}
 use Rattle.lq_model.specs.declared.plan.EventKind.TheVariants as kind
-use Rattle.lq_control.specs.Steps.{not_yet}
+use Rattle.lq_control.specs.Steps.{NoneYet}
+use Rattle.lq_table.specs.Step.{standing}
 use Rattle.lq_control.proofs.Served.{served_none}
 use Rattle.lq_qdisc.proofs.AloneRests.{rests_served}
 use Rattle.lq_qdisc.proofs.StepLemmas.{none_opened}
@@ -253,7 +254,7 @@ module _ {D : Type 0} (sh : Shared D) (c c' : Cpu D) (made : (view c).share.abou
 -- a seat that owes no soft interrupt is as doing them would leave it
 pub drained-none : {D : Type 0} (sh : Shared D) (c : Cpu D) → (view c).share.about ≡ setup sh → (view c).place.raised ≡ false → Drains (seat_seen c) (seat_seen c)
 drained-none sh c made low = drained-by sh c c made (refl, refl) (served_none (view c) (view c) refl) low
-    (λ alone. (alone, sym (rests_served sh.infos.now (first_account (setup sh)) (solo (view c)) alone low))) (not_yet, low)
+    (λ alone. (alone, sym (rests_served sh.infos.now (first_account (setup sh)) (solo (view c)) alone low))) (standing c, [], (NoneYet, low), refl, refl, refl, refl, tt)
 
 -- BETWEEN TWO CALLS
 

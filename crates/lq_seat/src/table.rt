@@ -47,15 +47,7 @@ impl<'a, D: TxDevice> Table<'a, D> {
         plan.stays_within_limits();
         let station = plan.station(number);
         let held = Station::new(alloc, number, device)?;
-        match Shared::make(
-            alloc,
-            infos,
-            number,
-            station,
-            station.queues,
-            plan.senders(),
-            held,
-        ) {
+        match Shared::make(alloc, infos, number, station, plan.senders(), held) {
             Ok((shared, cpu)) => Ok((Table { shared }, Seat { cpu })),
             Err(station) => Err(station.into_device()),
         }

@@ -42,11 +42,13 @@ pub fn run<'r, 'a, R: Threads + Wait + Sync, D: TxDevice, G: Gate>(
     job.plan.stays_within_limits();
     let Senders { first, others } = senders;
     let all = Run {
-        plan: job.plan,
-        infos: job.infos,
-        openings: job.openings,
+        job: Job {
+            plan: job.plan,
+            infos: job.infos,
+            openings: job.openings,
+            gate: job.gate,
+        },
         tables: tables.as_slice(),
-        gate: job.gate,
     };
     let (first, others) = all_send(rt, &all, first, others);
     let Sender {

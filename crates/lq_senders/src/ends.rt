@@ -15,8 +15,8 @@ use lq_table::Closed;
 use std::sync::Wait;
 
 /// Joins another sender's seats into the first sender's. Those of the senders after it were taken in before.
-fn join_sender<'r, 'a, D: TxDevice, G: Gate>(
-    run: &Run<'r, 'a, D, G>,
+fn join_sender<'r, 't, 'a, D: TxDevice, G: Gate>(
+    run: &Run<'r, 't, 'a, D, G>,
     seats: &mut Vec<Seat<D>>,
     sender: Sender<D>,
 )
@@ -25,7 +25,7 @@ fn join_sender<'r, 'a, D: TxDevice, G: Gate>(
     ensures joined { SeatsJoined run.now (sender.owner - 1) seats.new.items }
     ensures devices { SameDevices seats.old.items seats.new.items }
 {
-    run.plan.stays_within_limits();
+    run.job.plan.stays_within_limits();
     let mut others = sender.seats;
     while let Some(other) = others.pop() {
         let j = others.len();
@@ -34,8 +34,8 @@ fn join_sender<'r, 'a, D: TxDevice, G: Gate>(
 }
 
 /// Joins all other senders' seats into the first sender's.
-fn join_all<'r, 'a, D: TxDevice, G: Gate>(
-    run: &Run<'r, 'a, D, G>,
+fn join_all<'r, 't, 'a, D: TxDevice, G: Gate>(
+    run: &Run<'r, 't, 'a, D, G>,
     seats: &mut Vec<Seat<D>>,
     mut others: Vec<Sender<D>>,
 )
@@ -51,9 +51,9 @@ fn join_all<'r, 'a, D: TxDevice, G: Gate>(
 }
 
 /// Brings each station to its end.
-fn finish_all<'r, 'a, R: Wait, D: TxDevice, G: Gate>(
+fn finish_all<'r, 't, 'a, R: Wait, D: TxDevice, G: Gate>(
     rt: &R,
-    run: &Run<'r, 'a, D, G>,
+    run: &Run<'r, 't, 'a, D, G>,
     seats: &mut Vec<Seat<D>>,
 )
     requires joined { SeatsJoined run.now 0 seats.old.items }
@@ -66,16 +66,16 @@ fn finish_all<'r, 'a, R: Wait, D: TxDevice, G: Gate>(
 
 /// The end of a run after the last packet: the other senders' seats are joined into the first sender's, and each station is finished.
 /// Takes no memory.
-pub fn end_run<'r, 'a, R: Wait, D: TxDevice, G: Gate>(
+pub fn end_run<'r, 't, 'a, R: Wait, D: TxDevice, G: Gate>(
     rt: &R,
-    run: &Run<'r, 'a, D, G>,
+    run: &Run<'r, 't, 'a, D, G>,
     seats: &mut Vec<Seat<D>>,
     others: Vec<Sender<D>>,
 )
     requires first { SeatsDone run.now 0 seats.old.items × AreFirst (length others.items) seats.old.items }
     requires others { SendersAreDone run.now others.items }
-    requires senders { length others.items + 1 ≡ run.now.plan.now.senders }
-    ensures may { AllMayClose run.now.plan.now run.now.infos.now run.now.tables.now seats.new.items }
+    requires senders { length others.items + 1 ≡ run.now.job.plan.now.senders }
+    ensures may { AllMayClose run.now.job.plan.now run.now.job.infos.now run.now.tables.now seats.new.items }
     ensures devices { SameDevices seats.old.items seats.new.items }
     ensures alone { length others.items ≡ 0 → SeatsEndAlone run.now seats.old.items seats.new.items }
 {

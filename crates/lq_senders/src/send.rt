@@ -54,11 +54,13 @@ fn send_ready<'r, 'a, R: Threads + Wait + Sync, D: TxDevice, G: Gate>(
     let Units { stations, spares } = units;
     let Stations { tables, mut seats } = stations;
     let all = Run {
-        plan: job.plan,
-        infos: job.infos,
-        openings: job.openings,
+        job: Job {
+            plan: job.plan,
+            infos: job.infos,
+            openings: job.openings,
+            gate: job.gate,
+        },
         tables: tables.as_slice(),
-        gate: job.gate,
     };
     split_senders(&all, &mut seats, &mut room.others);
     let first = Sender {

@@ -20,17 +20,11 @@ pub struct Job<'r, G: Gate> {
     pub ghost known: { KnowOpenings openings.now infos.now } by { known-prop openings.now infos.now },
 }
 
-/// What all senders of a run share: the plan, the packets, how often queues are opened after each, the stations' tables, and the
-/// gate that each sender passes.
+/// What all senders of a run share: what is asked, and the stations' tables.
 #[derive(Drop)]
-pub struct Run<'r, 'a, D: TxDevice, G: Gate> {
-    pub plan: &'r Plan,
-    pub infos: &'r [Info],
-    pub openings: &'r Openings,
-    pub tables: &'r [Table<'a, D>],
-    pub gate: &'r G,
-    pub ghost sendable: { IsSendable plan.now infos.now },
-    pub ghost known: { KnowOpenings openings.now infos.now } by { known-prop openings.now infos.now },
+pub struct Run<'r, 't, 'a, D: TxDevice, G: Gate> {
+    pub job: Job<'r, G>,
+    pub tables: &'t [Table<'a, D>],
 }
 
 /// One sender, with its seats by station.

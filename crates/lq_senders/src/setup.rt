@@ -201,19 +201,19 @@ pub fn open_all<'a, D: TxDevice>(
 }
 
 /// Splits a seat at each station off for this sender. Takes no memory.
-fn split_sender<'r, 'a, D: TxDevice, G: Gate>(
-    run: &Run<'r, 'a, D, G>,
+fn split_sender<'r, 't, 'a, D: TxDevice, G: Gate>(
+    run: &Run<'r, 't, 'a, D, G>,
     seats: &mut Vec<Seat<D>>,
     sender: &mut Sender<D>,
 )
-    requires empty { HasNoSeats run.now.plan.now (sender.old.owner - 1) sender.old }
-    requires sender { sender.old.owner < run.now.plan.now.senders }
+    requires empty { HasNoSeats run.now.job.plan.now (sender.old.owner - 1) sender.old }
+    requires sender { sender.old.owner < run.now.job.plan.now.senders }
     requires splitting { SeatsSplit run.now sender.old.owner seats.old.items }
     ensures splitting { SeatsSplit run.now (sender.old.owner + 1) seats.new.items }
     ensures ready { SenderIsReady run.now (sender.old.owner - 1) sender.new }
     ensures devices { SameDevices seats.old.items seats.new.items }
 {
-    run.plan.stays_within_limits();
+    run.job.plan.stays_within_limits();
     for j in 0..run.tables.len() {
         let other = seats[j].split(&run.tables[j], sender.owner);
         sender.seats.push_reserved(other);
@@ -221,18 +221,18 @@ fn split_sender<'r, 'a, D: TxDevice, G: Gate>(
 }
 
 /// Splits the seats of all senders but the first off. Takes no memory.
-pub fn split_senders<'r, 'a, D: TxDevice, G: Gate>(
-    run: &Run<'r, 'a, D, G>,
+pub fn split_senders<'r, 't, 'a, D: TxDevice, G: Gate>(
+    run: &Run<'r, 't, 'a, D, G>,
     seats: &mut Vec<Seat<D>>,
     others: &mut Vec<Sender<D>>,
 )
-    requires empty { HaveNoSeats run.now.plan.now others.old.items }
+    requires empty { HaveNoSeats run.now.job.plan.now others.old.items }
     requires splitting { SeatsSplit run.now 1 seats.old.items }
-    ensures splitting { SeatsSplit run.now run.now.plan.now.senders seats.new.items }
+    ensures splitting { SeatsSplit run.now run.now.job.plan.now.senders seats.new.items }
     ensures ready { SendersAreReady run.now others.new.items }
-    ensures one_each { length others.new.items + 1 ≡ run.now.plan.now.senders }
+    ensures one_each { length others.new.items + 1 ≡ run.now.job.plan.now.senders }
     ensures devices { SameDevices seats.old.items seats.new.items }
-    ensures alone { run.now.plan.now.senders ≡ 1 → seats.new.items ≡ seats.old.items }
+    ensures alone { run.now.job.plan.now.senders ≡ 1 → seats.new.items ≡ seats.old.items }
 {
     for place in 0..others.len() {
         split_sender(run, seats, &mut others[place]);

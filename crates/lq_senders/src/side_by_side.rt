@@ -14,24 +14,24 @@ use std::thread;
 use std::thread::Threads;
 
 /// Does the plan's events from `next` on, if this is the first sender.
-fn events_left<'r, 'a, R: Wait, D: TxDevice, G: Gate>(
+fn events_left<'r, 't, 'a, R: Wait, D: TxDevice, G: Gate>(
     rt: &R,
-    run: &Run<'r, 'a, D, G>,
+    run: &Run<'r, 't, 'a, D, G>,
     sender: &mut Sender<D>,
     next: u32,
 )
-    requires next { next ≤ length run.now.plan.now.events }
+    requires next { next ≤ length run.now.job.plan.now.events }
     requires stands { (m : ℕ) × SeatsStand run.now sender.old.owner next m sender.old.seats.items }
     requires devices { sender.old.owner ≡ 0 → (units : List DeviceState) × HasDevices D.state run.now units next sender.old }
     ensures owner { sender.new.owner ≡ sender.old.owner }
-    ensures stands { SeatsGoOn run.now sender.old.owner next (length run.now.plan.now.events)
+    ensures stands { SeatsGoOn run.now sender.old.owner next (length run.now.job.plan.now.events)
         sender.old.seats.items sender.new.seats.items }
     ensures calls { DidEvents sender.old.owner sender.old.seats.items sender.new.seats.items }
-    ensures devices { sender.old.owner ≡ 0 → DevicesGoOn D.state run.now next (length run.now.plan.now.events) sender.old sender.new }
+    ensures devices { sender.old.owner ≡ 0 → DevicesGoOn D.state run.now next (length run.now.job.plan.now.events) sender.old sender.new }
     ensures runs { sender.old.owner ≡ 0
-        → RunsAs D.state run.now next (events_on run.now next (length run.now.plan.now.events - next)) sender.old sender.new }
+        → RunsAs D.state run.now next (events_on run.now next (length run.now.job.plan.now.events - next)) sender.old sender.new }
 {
-    run.plan.stays_within_limits();
+    run.job.plan.stays_within_limits();
     if sender.owner == 0 {
         let _last = events_before(rt, run, sender, next, u32::MAX);
     }
@@ -39,9 +39,9 @@ fn events_left<'r, 'a, R: Wait, D: TxDevice, G: Gate>(
 
 /// Sends a sender's packets. The first sender does the plan's events, each before its packets with that number or a higher one.
 /// After each of its packets the sender opens the stopped queues of all stations as often as the run has it.
-pub fn send_loop<'r, 'a, R: Wait, D: TxDevice, G: Gate>(
+pub fn send_loop<'r, 't, 'a, R: Wait, D: TxDevice, G: Gate>(
     rt: &R,
-    run: &Run<'r, 'a, D, G>,
+    run: &Run<'r, 't, 'a, D, G>,
     sender: &mut Sender<D>,
 )
     requires stands { SeatsStand run.now sender.old.owner 0 0 sender.old.seats.items }
@@ -49,17 +49,17 @@ pub fn send_loop<'r, 'a, R: Wait, D: TxDevice, G: Gate>(
     ensures owner { sender.new.owner ≡ sender.old.owner }
     ensures stands { SeatsDone run.now sender.new.owner sender.new.seats.items }
     ensures keeps { KeepSeats sender.old.seats.items sender.new.seats.items }
-    ensures devices { sender.old.owner ≡ 0 → DevicesGoOn D.state run.now 0 (length run.now.plan.now.events) sender.old sender.new }
+    ensures devices { sender.old.owner ≡ 0 → DevicesGoOn D.state run.now 0 (length run.now.job.plan.now.events) sender.old sender.new }
     ensures runs { sender.old.owner ≡ 0 → SendsAllAlone D.state run.now sender.old sender.new }
     ensures course { SeatsSendAll run.now sender.old.owner sender.old.seats.items sender.new.seats.items }
 {
-    run.plan.stays_within_limits();
+    run.job.plan.stays_within_limits();
     let mut at = Progress {
         sent: 0,
         next: 0,
-        left: left_at_start(run.openings),
+        left: left_at_start(run.job.openings),
     };
-    for n in 0..run.infos.len() as u32 {
+    for n in 0..run.job.infos.len() as u32 {
         at = come_to(rt, run, sender, at, n);
     }
     events_left(rt, run, sender, at.next);
@@ -67,9 +67,9 @@ pub fn send_loop<'r, 'a, R: Wait, D: TxDevice, G: Gate>(
 }
 
 /// Sends the packets of a sender that isn't the first.
-fn send_other<'r, 'a, R: Wait, D: TxDevice, G: Gate>(
+fn send_other<'r, 't, 'a, R: Wait, D: TxDevice, G: Gate>(
     rt: &R,
-    run: &Run<'r, 'a, D, G>,
+    run: &Run<'r, 't, 'a, D, G>,
     sender: &mut Sender<D>,
 )
     requires ready { (place : ℕ) × SenderIsReady run.now place sender.old }
@@ -80,9 +80,9 @@ fn send_other<'r, 'a, R: Wait, D: TxDevice, G: Gate>(
 }
 
 /// The other senders, side by side.
-fn send_side_by_side<'r, 'a, R: Threads + Wait + Sync, D: TxDevice, G: Gate>(
+fn send_side_by_side<'r, 't, 'a, R: Threads + Wait + Sync, D: TxDevice, G: Gate>(
     rt: &R,
-    run: &Run<'r, 'a, D, G>,
+    run: &Run<'r, 't, 'a, D, G>,
     senders: &mut [Sender<D>],
 )
     requires ready { SendersAreReady run.now senders.old }
@@ -104,9 +104,9 @@ fn send_side_by_side<'r, 'a, R: Threads + Wait + Sync, D: TxDevice, G: Gate>(
     }
 }
 
-fn send_first<'r, 'a, R: Wait, D: TxDevice, G: Gate>(
+fn send_first<'r, 't, 'a, R: Wait, D: TxDevice, G: Gate>(
     rt: &R,
-    run: &Run<'r, 'a, D, G>,
+    run: &Run<'r, 't, 'a, D, G>,
     mut sender: Sender<D>,
 ) -> Sender<D>
     requires owner { sender.owner ≡ 0 }
@@ -116,16 +116,16 @@ fn send_first<'r, 'a, R: Wait, D: TxDevice, G: Gate>(
     ensures stands { SeatsDone run.now 0 result.seats.items }
     ensures keeps { KeepSeats sender.seats.items result.seats.items }
     ensures course { SeatsSendAll run.now 0 sender.seats.items result.seats.items }
-    ensures devices { DevicesGoOn D.state run.now 0 (length run.now.plan.now.events) sender result }
+    ensures devices { DevicesGoOn D.state run.now 0 (length run.now.job.plan.now.events) sender result }
     ensures runs { SendsAllAlone D.state run.now sender result }
 {
     send_loop(rt, run, &mut sender);
     sender
 }
 
-fn send_others<'r, 'a, R: Threads + Wait + Sync, D: TxDevice, G: Gate>(
+fn send_others<'r, 't, 'a, R: Threads + Wait + Sync, D: TxDevice, G: Gate>(
     rt: &R,
-    run: &Run<'r, 'a, D, G>,
+    run: &Run<'r, 't, 'a, D, G>,
     mut senders: Vec<Sender<D>>,
 ) -> Vec<Sender<D>>
     requires ready { SendersAreReady run.now senders.items }
@@ -138,9 +138,9 @@ fn send_others<'r, 'a, R: Threads + Wait + Sync, D: TxDevice, G: Gate>(
 }
 
 /// All senders side by side: the first sender's seats and the others', after the last packet.
-pub fn all_send<'r, 'a, R: Threads + Wait + Sync, D: TxDevice, G: Gate>(
+pub fn all_send<'r, 't, 'a, R: Threads + Wait + Sync, D: TxDevice, G: Gate>(
     rt: &R,
-    run: &Run<'r, 'a, D, G>,
+    run: &Run<'r, 't, 'a, D, G>,
     first: Sender<D>,
     others: Vec<Sender<D>>,
 ) -> (Sender<D>, Vec<Sender<D>>)
@@ -151,7 +151,7 @@ pub fn all_send<'r, 'a, R: Threads + Wait + Sync, D: TxDevice, G: Gate>(
     ensures first { SeatsDone run.now 0 result.0.seats.items }
     ensures keeps { KeepSeats first.seats.items result.0.seats.items }
     ensures first_course { SeatsSendAll run.now 0 first.seats.items result.0.seats.items }
-    ensures devices { DevicesGoOn D.state run.now 0 (length run.now.plan.now.events) first result.0 }
+    ensures devices { DevicesGoOn D.state run.now 0 (length run.now.job.plan.now.events) first result.0 }
     ensures runs { SendsAllAlone D.state run.now first result.0 }
     ensures others { SendersAreDone run.now result.1.items }
     ensures others_course { SendersSendAll run.now others.items result.1.items }
@@ -164,7 +164,7 @@ pub fn all_send<'r, 'a, R: Threads + Wait + Sync, D: TxDevice, G: Gate>(
                 × ((units : List DeviceState) × HasDevices D.state run.now units 0 first) }
             ensures { SeatsDone run.entry.now 0 result.seats.items × KeepSeats first.seats.items result.seats.items
                 × SeatsSendAll run.entry.now 0 first.seats.items result.seats.items
-                × DevicesGoOn D.state run.entry.now 0 (length run.entry.now.plan.now.events) first result
+                × DevicesGoOn D.state run.entry.now 0 (length run.entry.now.job.plan.now.events) first result
                 × SendsAllAlone D.state run.entry.now first result }
         { send_first(rt, run, first) },
         move || -> Vec<Sender<D>>

@@ -59,22 +59,22 @@ fn event_at<'a, R: Wait, D: TxDevice>(
 }
 
 /// Does event `e`, the plan's next, which isn't a swap of a device: at each of its stations, the children of one group.
-fn do_next_event<'r, 'a, R: Wait, D: TxDevice, G: Gate>(
+fn do_next_event<'r, 't, 'a, R: Wait, D: TxDevice, G: Gate>(
     rt: &R,
-    run: &Run<'r, 'a, D, G>,
+    run: &Run<'r, 't, 'a, D, G>,
     seats: &mut Vec<Seat<D>>,
     e: u32,
 )
-    requires event { e < length run.now.plan.now.events }
-    requires no_swap { (event : AnEvent) → slice_get run.now.plan.now.events e ≡ Some event → is_swap event ≡ false }
+    requires event { e < length run.now.job.plan.now.events }
+    requires no_swap { (event : AnEvent) → slice_get run.now.job.plan.now.events e ≡ Some event → is_swap event ≡ false }
     requires stands { (n : ℕ) × SeatsStand run.now 0 e n seats.old.items }
     ensures stands { SeatsGoOn run.now 0 e (e + 1) seats.old.items seats.new.items }
     ensures keeps { KeepAll seats.old.items seats.new.items }
     ensures calls { AllDid PlanCalls seats.old.items seats.new.items }
-    ensures runs { SeatsRunAs run.now (with_event run.now.plan.now run.now.infos.now e) seats.old.items seats.new.items }
+    ensures runs { SeatsRunAs run.now (with_event run.now.job.plan.now run.now.job.infos.now e) seats.old.items seats.new.items }
 {
-    run.plan.stays_within_limits();
-    let event = run.plan.event(e);
+    run.job.plan.stays_within_limits();
+    let event = run.job.plan.event(e);
     for j in 0..run.tables.len() {
         event_at(rt, &run.tables[j], &mut seats[j], e, event);
     }
@@ -82,25 +82,25 @@ fn do_next_event<'r, 'a, R: Wait, D: TxDevice, G: Gate>(
 
 /// Does event `e`, the plan's next, which swaps a device: the first of the spare ones comes, and the one that goes is the last
 /// of them.
-fn swap_next<'r, 'a, R: Wait, D: TxDevice, G: Gate>(
+fn swap_next<'r, 't, 'a, R: Wait, D: TxDevice, G: Gate>(
     rt: &R,
-    run: &Run<'r, 'a, D, G>,
+    run: &Run<'r, 't, 'a, D, G>,
     sender: &mut Sender<D>,
     e: u32,
 )
-    requires event { e < length run.now.plan.now.events }
-    requires swap { (event : AnEvent) → slice_get run.now.plan.now.events e ≡ Some event → is_swap event ≡ true }
+    requires event { e < length run.now.job.plan.now.events }
+    requires swap { (event : AnEvent) → slice_get run.now.job.plan.now.events e ≡ Some event → is_swap event ≡ true }
     requires stands { (n : ℕ) × SeatsStand run.now 0 e n sender.old.seats.items }
     requires devices { (units : List DeviceState) × HasDevices D.state run.now units e sender.old }
     ensures owner { sender.new.owner ≡ sender.old.owner }
     ensures stands { SeatsGoOn run.now 0 e (e + 1) sender.old.seats.items sender.new.seats.items }
     ensures calls { AllDid PlanCalls sender.old.seats.items sender.new.seats.items }
     ensures devices { DevicesGoOn D.state run.now e (e + 1) sender.old sender.new }
-    ensures runs { RunsAs D.state run.now e (with_event run.now.plan.now run.now.infos.now e) sender.old sender.new }
+    ensures runs { RunsAs D.state run.now e (with_event run.now.job.plan.now run.now.job.infos.now e) sender.old sender.new }
 {
-    run.plan.stays_within_limits();
-    let station = run.plan.event(e).station;
-    let unit = brought_unit(run.plan, e);
+    run.job.plan.stays_within_limits();
+    let station = run.job.plan.event(e).station;
+    let unit = brought_unit(run.job.plan, e);
     let device = sender.spares.remove(0);
     let brought = Brought { event: e, unit };
     let table = &run.tables[station as usize];
@@ -109,22 +109,22 @@ fn swap_next<'r, 'a, R: Wait, D: TxDevice, G: Gate>(
 }
 
 /// Does event `e`, the plan's next.
-pub fn do_any_event<'r, 'a, R: Wait, D: TxDevice, G: Gate>(
+pub fn do_any_event<'r, 't, 'a, R: Wait, D: TxDevice, G: Gate>(
     rt: &R,
-    run: &Run<'r, 'a, D, G>,
+    run: &Run<'r, 't, 'a, D, G>,
     sender: &mut Sender<D>,
     e: u32,
 )
-    requires event { e < length run.now.plan.now.events }
+    requires event { e < length run.now.job.plan.now.events }
     requires stands { (n : ℕ) × SeatsStand run.now 0 e n sender.old.seats.items }
     requires devices { (units : List DeviceState) × HasDevices D.state run.now units e sender.old }
     ensures owner { sender.new.owner ≡ sender.old.owner }
     ensures stands { SeatsGoOn run.now 0 e (e + 1) sender.old.seats.items sender.new.seats.items }
     ensures calls { AllDid PlanCalls sender.old.seats.items sender.new.seats.items }
     ensures devices { DevicesGoOn D.state run.now e (e + 1) sender.old sender.new }
-    ensures runs { RunsAs D.state run.now e (with_event run.now.plan.now run.now.infos.now e) sender.old sender.new }
+    ensures runs { RunsAs D.state run.now e (with_event run.now.job.plan.now run.now.job.infos.now e) sender.old sender.new }
 {
-    if is_swap_kind(run.plan.event(e).kind) {
+    if is_swap_kind(run.job.plan.event(e).kind) {
         swap_next(rt, run, sender, e);
     } else {
         do_next_event(rt, run, &mut sender.seats, e);

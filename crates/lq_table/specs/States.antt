@@ -100,9 +100,6 @@ recheck_alone n word v = if some_bit word then v else heard (Direct n) v
 
 -- miss: MISSED is set.
 
-abbrev pub miss_log : Bool → Made
-miss_log was = set state_place 4 was
-
 abbrev pub miss_at : Position → Bool
 miss_at (Miss attempt) = true
 miss_at _ = false

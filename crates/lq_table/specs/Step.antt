@@ -30,7 +30,7 @@ use Rattle.lq_table.specs.Resizes.{begin_resize_view, clear_slot_log, clear_slot
 use Rattle.lq_table.specs.Rule.{IsResting, shown, times, units_of}
 use Rattle.lq_table.specs.Seats.{join_view, learn_view, split_view}
 use Rattle.lq_table.specs.Sees.{IsAccounts, IsSameSeat, IsSole, account_of, device_to, heard, slot, solo, steps, view}
-use Rattle.lq_table.specs.States.{HasEvent, SeesDown, SeesState, check_alone, check_view_refused, clear_draining_log, clear_missed_log, clear_sched_alone, clear_sched_log, draining_to, load_state_log, load_state_view, miss_log, miss_view, missed_to, recheck_alone, recheck_view_direct, requeue_view, set_bit_alone, set_bit_view, set_draining_log, set_missed_log, set_sched_alone, set_sched_log, set_sched_view, some_bit}
+use Rattle.lq_table.specs.States.{HasEvent, SeesDown, SeesState, check_alone, check_view_refused, clear_draining_log, clear_missed_log, clear_sched_alone, clear_sched_log, draining_to, load_state_log, load_state_view, miss_view, missed_to, recheck_alone, recheck_view_direct, requeue_view, set_bit_alone, set_bit_view, set_draining_log, set_missed_log, set_sched_alone, set_sched_log, set_sched_view, some_bit}
 use Rattle.lq_table.specs.Stops.{HasRoomForHand, SeesXoff, load_xoff_alone, load_xoff_log, load_xoff_view, store_xoff_log, store_xoff_view, wake_log, wake_view}
 use Rattle.lq_table.specs.Turns.{give_turn_log, give_turn_view, load_turn_log, take_turn_log, take_turn_view}
 use Rattle.lq_table.specs.Views.{HalfResize, HolderPart, Left, State, View, no_left, no_resizing, no_station}
@@ -188,7 +188,7 @@ step_leaves (Check n found) s = record s {
 }
 step_leaves (Recheck n found) s = record s { view = if some_bit found then load_state_view found s.view else recheck_view_direct n found s.view; steps = s.steps ⊳ load_state_log found }
 step_leaves (LookMissed found) s = record s { view = if is_set 4 found then miss_view true s.view else s.view; steps = s.steps ⊳ load_state_log found }
-step_leaves (Miss was) s = record s { view = miss_view was s.view; steps = s.steps ⊳ miss_log was }
+step_leaves (Miss was) s = record s { view = miss_view was s.view; steps = s.steps ⊳ set_missed_log was }
 step_leaves (SetSched was) s = record s { view = set_sched_view was s.view; steps = s.steps ⊳ set_sched_log was }
 step_leaves ClearSched s = record s { view = pass_view s.view; steps = s.steps ⊳ clear_sched_log }
 step_leaves ClearMissed s = record s { view = pass_view s.view; steps = s.steps ⊳ clear_missed_log }

@@ -1,6 +1,6 @@
 -- The steps on the stop words.
 use Rattle.std.specs.Option.{option_map_or, option_map}
-use Rattle.std.specs.Prelude.{ℕ, List, Option, Bool, true, false, ◌≡◌, Some, None, ◌==◌, if◌then◌else◌, ◌&&◌, ◌<◌, length, is_some, slice_index, ◌+◌, nat_lt, ◌∷◌, slice_set}
+use Rattle.std.specs.Prelude.{ℕ, List, Option, Bool, true, false, ◌≡◌, Some, None, ◌==◌, if◌then◌else◌, ◌&&◌, ◌<◌, length, is_some, slice_index, ◌+◌, nat_lt, slice_set}
 use Rattle.lq_log.specs.Made.{Made, load, store, exchange}
 use Rattle.lq_model.specs.Account.{Pick, Stop as StopEvent, Wake}
 use Rattle.lq_model.specs.Plan.{queue_in}
@@ -14,10 +14,8 @@ use Rattle.lq_model.specs.declared.machine.Position.TheVariants.{Gate, Deq, Bloc
 use Rattle.lq_model.specs.declared.machine.Position.{Position}
 use Rattle.lq_table.specs.Moves.{past_with, seen_by, moved}
 use Rattle.lq_table.specs.Places.{xoff_word}
-use Rattle.lq_table.specs.Sees.{steps, setup, Solo, heard, IsSole, account_of, IsAccounts, HasSent}
+use Rattle.lq_table.specs.Sees.{steps, Solo, heard, IsSole, account_of, IsAccounts, HasSent}
 use Rattle.lq_table.specs.Views.{Setup, View, machine_packet, HolderPart}
-use Rattle.lq_table.specs.declared.shared.Cpu.{Cpu}
-use Rattle.lq_table.specs.declared.shared.Shared.{Shared}
 
 -- load_xoff: a queue's stop word is loaded, where a packet is to be sent, a queue was found stopped, or a dequeue begins.
 
@@ -126,11 +124,6 @@ abbrev pub store_xoff_view : View → View
 store_xoff_view v = store_xoff_view_from v.place.position v
 
 -- look_stop: the stop word is looked at before it is exchanged, and nothing is done.
-
-module _ {D : Type 0} where
-  -- the stop word of the queue was loaded, and the answer is whether it is 1
-  abbrev pub LooksAtStop : Shared D → ℕ → Bool → Cpu D → Cpu D → Type 0
-  LooksAtStop t queue stopped b a = (found : ℕ) × (stopped ≡ (found == 1)) × (steps a ≡ load_xoff_log (setup t) queue found ∷ steps b)
 
 -- wake: a stopped queue is opened.
 

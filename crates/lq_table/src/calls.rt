@@ -3,7 +3,7 @@ ghost use Rattle.std.specs.Prelude.{◌≡◌, ◌<◌, true, is_some, ◌∷◌
 ghost use Rattle.lq_model.specs.declared.machine.Position.TheVariants.{Leave as AtLeave};
 ghost use Rattle.lq_table.specs.Sees.{view, position, IsSeatOf, IsElseSame, steps, solo};
 ghost use Rattle.lq_table.specs.Moves.{at_rest, pass_view};
-ghost use Rattle.lq_table.specs.Inside.{bringing_packet, enter_view, MayEnter, enter_alone, enter_log, leave_log};
+ghost use Rattle.lq_table.specs.Inside.{bringing_packet, enter_view, MayEnter, enter_alone};
 ghost use Rattle.lq_table.specs.Step.{Enter, Leave, MakesSteps};
 
 use crate::marked::Marked;
@@ -23,7 +23,6 @@ impl<'a, D: TxDevice> Shared<'a, D> {
         ensures same { IsElseSame cpu.old cpu.new }
         ensures view { view cpu.new ≡ enter_view (view cpu.old) }
         ensures step { solo (view cpu.new) ≡ enter_alone (is_some (bringing_packet (view cpu.old))) (solo (view cpu.old)) }
-        ensures made { steps cpu.new ≡ enter_log ∷ steps cpu.old }
         ensures makes { MakesSteps (Enter ∷ []) cpu.old cpu.new }
     {
         let Marked { seat, marks } = &mut cpu.known;
@@ -38,7 +37,6 @@ impl<'a, D: TxDevice> Shared<'a, D> {
         ensures same { IsElseSame cpu.old cpu.new }
         ensures view { view cpu.new ≡ pass_view (view cpu.old) }
         ensures step { solo (view cpu.new) ≡ solo (view cpu.old) }
-        ensures made { steps cpu.new ≡ leave_log ∷ steps cpu.old }
         ensures makes { MakesSteps (Leave ∷ []) cpu.old cpu.new }
     {
         self.fetch_sub_word::<Brand, _>(&mut cpu.known.seat, INSIDE, 1, &());

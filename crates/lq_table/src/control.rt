@@ -3,16 +3,12 @@ ghost use Rattle.std.specs.Prelude.{◌≡◌, ◌<◌, ℕ, Bool, true, false, 
 ghost use Rattle.lq_model.specs.declared.machine.Phase.TheVariants.{Purged};
 ghost use Rattle.lq_model.specs.declared.machine.Position.TheVariants.{Idle as AtIdle, Control as AtControl};
 ghost use Rattle.lq_table.specs.Rule.{HasServed, latest_unit};
-ghost use Rattle.lq_table.specs.Sees.{view, position, carried, IsSeatOf, IsElseSame, steps, setup};
+ghost use Rattle.lq_table.specs.Sees.{view, position, carried, IsSeatOf, IsElseSame, steps};
 ghost use Rattle.lq_table.specs.Purges.{HasPassedBands, reset_missed_view, reset_draining_view};
 ghost use Rattle.lq_table.specs.AtRest.{IsSoleAtRest, KnowsRest};
 ghost use Rattle.lq_table.specs.Moves.{at_rest};
-ghost use Rattle.lq_table.specs.Controls.{begin_control_view, end_control_view, set_deactivated_view, clear_deactivated_view, swap_view, open_xoff_view, IsSwapFor, MayDeactivate, clear_deactivated_log, set_deactivated_log};
-ghost use Rattle.lq_table.specs.Inside.{load_inside_view, load_inside_log};
-ghost use Rattle.lq_table.specs.Locks.{load_lock_log};
-ghost use Rattle.lq_table.specs.Stops.{store_xoff_log};
-ghost use Rattle.lq_table.specs.States.{clear_draining_log, clear_missed_log};
-ghost use Rattle.lq_table.specs.Made.{load_base_log};
+ghost use Rattle.lq_table.specs.Controls.{begin_control_view, end_control_view, set_deactivated_view, clear_deactivated_view, swap_view, open_xoff_view, IsSwapFor, MayDeactivate};
+ghost use Rattle.lq_table.specs.Inside.{load_inside_view};
 ghost use Rattle.lq_table.specs.Step.{BeginControl, ClearDeactivated, EndControl, LoadInside, LoadLock, MakesSteps, OpenXoff, ResetDraining, ResetMissed, SetDeactivated, SwapDevice};
 
 use crate::places::{BASE, INSIDE, LOCK, STATE, XOFF};
@@ -28,7 +24,6 @@ impl<'a, D: TxDevice> Shared<'a, D> {
         requires at { (position cpu.old ≡ AtIdle) × ((view cpu.old).control.first ≡ true) }
         ensures same { IsElseSame cpu.old cpu.new }
         ensures view { view cpu.new ≡ begin_control_view (view cpu.old) }
-        ensures made { (found : ℕ) × (steps cpu.new ≡ load_base_log found ∷ steps cpu.old) }
         ensures makes { (found : ℕ) × MakesSteps (BeginControl found ∷ []) cpu.old cpu.new }
     {
         self.load_word::<Brand, _>(&mut cpu.known.seat, BASE, &());
@@ -40,7 +35,6 @@ impl<'a, D: TxDevice> Shared<'a, D> {
         requires at { position cpu.old ≡ AtControl false }
         ensures same { IsElseSame cpu.old cpu.new }
         ensures view { view cpu.new ≡ end_control_view (view cpu.old) }
-        ensures made { (found : ℕ) × (steps cpu.new ≡ load_base_log found ∷ steps cpu.old) }
         ensures makes { (found : ℕ) × MakesSteps (EndControl found ∷ []) cpu.old cpu.new }
     {
         self.load_word::<Brand, _>(&mut cpu.known.seat, BASE, &());
@@ -54,7 +48,6 @@ impl<'a, D: TxDevice> Shared<'a, D> {
         requires active { MayDeactivate (view cpu.old) }
         ensures same { IsElseSame cpu.old cpu.new }
         ensures view { view cpu.new ≡ set_deactivated_view event (view cpu.old) }
-        ensures made { (was : Bool) × (steps cpu.new ≡ set_deactivated_log event was ∷ steps cpu.old) }
         ensures makes { (was : Bool) × MakesSteps (SetDeactivated event was ∷ []) cpu.old cpu.new }
     {
         self.fetch_or_word::<Brand, _>(
@@ -72,7 +65,6 @@ impl<'a, D: TxDevice> Shared<'a, D> {
         requires at { (holds : Bool) × (position cpu.old ≡ AtControl holds) }
         ensures same { IsElseSame cpu.old cpu.new }
         ensures view { view cpu.new ≡ load_inside_view result (view cpu.old) }
-        ensures made { steps cpu.new ≡ load_inside_log result ∷ steps cpu.old }
         ensures makes { MakesSteps (LoadInside result ∷ []) cpu.old cpu.new }
     {
         self.load_word::<Brand, _>(&mut cpu.known.seat, INSIDE, &())
@@ -85,7 +77,6 @@ impl<'a, D: TxDevice> Shared<'a, D> {
         ensures same { IsElseSame cpu.old cpu.new }
         ensures view { view cpu.new ≡ view cpu.old }
         ensures alone { IsSoleAtRest (view cpu.old) → KnowsRest (view cpu.old) }
-        ensures made { steps cpu.new ≡ load_lock_log result ∷ steps cpu.old }
         ensures makes { MakesSteps (LoadLock result ∷ []) cpu.old cpu.new }
     {
         self.load_word::<Brand, _>(&mut cpu.known.seat, LOCK, &())
@@ -98,7 +89,6 @@ impl<'a, D: TxDevice> Shared<'a, D> {
         requires purged { ((view cpu.old).control.phase ≡ Purged) × ((view cpu.old).control.purge ≡ None) }
         ensures same { IsElseSame cpu.old cpu.new }
         ensures view { view cpu.new ≡ clear_deactivated_view (view cpu.old) }
-        ensures made { steps cpu.new ≡ clear_deactivated_log ∷ steps cpu.old }
         ensures makes { MakesSteps (ClearDeactivated ∷ []) cpu.old cpu.new }
     {
         self.fetch_and_word::<Brand, _>(&mut cpu.known.seat, STATE, ACTIVE_BITS, &());
@@ -112,7 +102,6 @@ impl<'a, D: TxDevice> Shared<'a, D> {
         requires purge { HasPassedBands (view cpu.old) }
         ensures same { IsElseSame cpu.old cpu.new }
         ensures view { view cpu.new ≡ reset_missed_view (view cpu.old) }
-        ensures made { steps cpu.new ≡ clear_missed_log ∷ steps cpu.old }
         ensures makes { MakesSteps (ResetMissed ∷ []) cpu.old cpu.new }
     {
         self.fetch_and_word::<Brand, _>(&mut cpu.known.seat, STATE, ALL_BUT_MISSED, &());
@@ -126,7 +115,6 @@ impl<'a, D: TxDevice> Shared<'a, D> {
         requires purge { HasPassedBands (view cpu.old) }
         ensures same { IsElseSame cpu.old cpu.new }
         ensures view { view cpu.new ≡ reset_draining_view (view cpu.old) }
-        ensures made { steps cpu.new ≡ clear_draining_log ∷ steps cpu.old }
         ensures makes { MakesSteps (ResetDraining ∷ []) cpu.old cpu.new }
     {
         self.fetch_and_word::<Brand, _>(&mut cpu.known.seat, STATE, ALL_BUT_DRAINING, &());
@@ -145,7 +133,6 @@ impl<'a, D: TxDevice> Shared<'a, D> {
         ensures view { view cpu.new ≡ swap_view (carried cpu.old) (view cpu.old) }
         ensures served { HasServed self.now.infos.now self.now.station (view cpu.old).control.origin (view cpu.old).holder.station.device }
         ensures unit { (view cpu.old).holder.station.unit ≡ latest_unit self.now.station (view cpu.old).holder.units }
-        ensures made { steps cpu.new ≡ store_xoff_log (setup self.now) 0 0 ∷ steps cpu.old }
         ensures makes { MakesSteps (SwapDevice ∷ []) cpu.old cpu.new }
     {
         self.store_word::<Brand, _>(&mut cpu.known.seat, XOFF, 0, &cpu.station);
@@ -160,7 +147,6 @@ impl<'a, D: TxDevice> Shared<'a, D> {
         requires purged { ((view cpu.old).control.phase ≡ Purged) × ((view cpu.old).control.purge ≡ None) }
         ensures same { IsElseSame cpu.old cpu.new }
         ensures view { view cpu.new ≡ open_xoff_view queue (view cpu.old) }
-        ensures made { steps cpu.new ≡ store_xoff_log (setup self.now) queue 0 ∷ steps cpu.old }
         ensures makes { MakesSteps (OpenXoff queue ∷ []) cpu.old cpu.new }
     {
         let word = self.stop_word(queue);

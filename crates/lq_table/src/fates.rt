@@ -1,8 +1,8 @@
 //! The step on a fate word.
 ghost use Rattle.std.specs.Prelude.{◌≡◌, ◌<◌, length, ◌∷◌, []};
-ghost use Rattle.lq_model.specs.Words.{HasWord, word_of};
-ghost use Rattle.lq_table.specs.Sees.{view, carried, IsSeatOf, IsElseSame, steps, setup, packet_band, solo};
-ghost use Rattle.lq_table.specs.Fates.{MaySettle, settle_view, settle_alone, settle_log};
+ghost use Rattle.lq_model.specs.Words.{HasWord};
+ghost use Rattle.lq_table.specs.Sees.{view, carried, IsSeatOf, IsElseSame, packet_band, solo};
+ghost use Rattle.lq_table.specs.Fates.{MaySettle, settle_view, settle_alone};
 ghost use Rattle.lq_table.specs.Step.{MakesSteps, Settle};
 
 use crate::shared::{Cpu, Shared};
@@ -22,7 +22,6 @@ impl<'a, D: TxDevice> Shared<'a, D> {
         ensures same { IsElseSame cpu.old cpu.new }
         ensures settled { view cpu.new ≡ settle_view (carried cpu.old) (packet_band self.now n) n fate (view cpu.old) }
         ensures step { solo (view cpu.new) ≡ settle_alone (carried cpu.old) fate (solo (view cpu.old)) }
-        ensures made { steps cpu.new ≡ settle_log (setup self.now) n (word_of fate) ∷ steps cpu.old }
         ensures makes { MakesSteps (Settle n fate ∷ []) cpu.old cpu.new }
     {
         let word = self.fate_word_of(n);

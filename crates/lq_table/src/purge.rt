@@ -6,11 +6,9 @@ ghost use Rattle.lq_model.specs.Control.{is_quiet};
 ghost use Rattle.lq_model.specs.declared.fate.Cause.TheVariants as cause;
 ghost use Rattle.lq_model.specs.declared.machine.Position.TheVariants.{Control};
 ghost use Rattle.lq_table.specs.Views.{Left};
-ghost use Rattle.lq_table.specs.Sees.{view, position, ends_at, IsSeatOf, IsElseSame, steps, setup};
+ghost use Rattle.lq_table.specs.Sees.{view, position, ends_at, IsSeatOf, IsElseSame, steps};
 ghost use Rattle.lq_table.specs.Consumers.{CarriesHead, IsBetweenTakes};
 ghost use Rattle.lq_table.specs.Purges.{IsPurgingBand, MayPurgeHung, PassesEmptyBand, TakesFirstLeft, BeginsPurge, OfPurge};
-ghost use Rattle.lq_table.specs.Producers.{load_slot_log};
-ghost use Rattle.lq_table.specs.States.{load_state_log};
 ghost use Rattle.lq_band_laws.specs.Three.{Three as Of};
 ghost use Rattle.lq_model.specs.Band.{Band};
 ghost use Rattle.lq_table.specs.Step.{BeginHungPurge, BeginPurge, MakesSteps, PurgeSlot};
@@ -33,7 +31,6 @@ impl<'a, D: TxDevice> Shared<'a, D> {
         ensures same { IsElseSame cpu.old cpu.new }
         ensures begun { BeginsPurge (cause.Event result) (view cpu.old) (view cpu.new) }
         ensures event { down_of (view cpu.old).trail ≡ Some result }
-        ensures made { (found : ℕ) × (steps cpu.new ≡ load_state_log found ∷ steps cpu.old) }
         ensures makes { (bands : Of Band) × (found : ℕ) × MakesSteps (BeginPurge result bands found ∷ []) cpu.old cpu.new }
     {
         let word = self.load_word::<Brand, _>(&mut cpu.known.seat, STATE, &());
@@ -49,7 +46,6 @@ impl<'a, D: TxDevice> Shared<'a, D> {
         requires packets { ((view cpu.old).packets.owed ≡ None) × ((view cpu.old).packets.fresh ≡ None) }
         ensures same { IsElseSame cpu.old cpu.new }
         ensures begun { BeginsPurge (cause.Hung (view cpu.old).holder.station.unit) (view cpu.old) (view cpu.new) }
-        ensures made { (found : ℕ) × (steps cpu.new ≡ load_state_log found ∷ steps cpu.old) }
         ensures makes { (bands : Of Band) × (found : ℕ) × MakesSteps (BeginHungPurge bands found ∷ []) cpu.old cpu.new }
     {
         self.load_word::<Brand, _>(&mut cpu.known.seat, STATE, &());
@@ -70,7 +66,6 @@ impl<'a, D: TxDevice> Shared<'a, D> {
         ensures none { OfPurge (view cpu.old) (λ u l. result ≡ 0 → PassesEmptyBand band u l cpu.old cpu.new) }
         ensures taken { (l : Left) → (view cpu.old).holder.left ≡ Some l → result ≢ 0
             → TakesFirstLeft band (result - 1) l cpu.old cpu.new }
-        ensures made { steps cpu.new ≡ load_slot_log (setup self.now) band (ends_at band cpu.old).head result ∷ steps cpu.old }
         ensures makes { MakesSteps (PurgeSlot band result ∷ []) cpu.old cpu.new }
     {
         let head = cpu.station().head(band);

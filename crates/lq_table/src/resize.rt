@@ -7,9 +7,9 @@ ghost use Rattle.lq_model.specs.declared.machine.Position.TheVariants.{Control};
 ghost use Rattle.lq_band_laws.specs.Three.{at};
 ghost use Rattle.lq_band_laws.specs.Ring.{locked_at};
 ghost use Rattle.lq_table.specs.Views.{HalfResize};
-ghost use Rattle.lq_table.specs.Sees.{view, position, lock_at, IsSeatOf, IsElseSame, steps, setup};
-ghost use Rattle.lq_table.specs.Resizes.{AreRefilled, ClearsSlot, FillsSlot, may_resize, store_size_view, BeginsResize, HasNothingHalfDone, HasHalfResize, MayFill, set_producer_log, store_size_log, clear_slot_log};
-ghost use Rattle.lq_table.specs.Producers.{with_lock_at, load_size_log, store_slot_log};
+ghost use Rattle.lq_table.specs.Sees.{view, position, lock_at, IsSeatOf, IsElseSame, steps};
+ghost use Rattle.lq_table.specs.Resizes.{AreRefilled, ClearsSlot, FillsSlot, may_resize, store_size_view, BeginsResize, HasNothingHalfDone, HasHalfResize, MayFill};
+ghost use Rattle.lq_table.specs.Producers.{with_lock_at};
 ghost use Rattle.lq_band_laws.specs.Three.{Three as Of};
 ghost use Rattle.lq_table.specs.Step.{BeginResize, ClearSlot, FillSlot, MakesSteps, SetProducer, StoreSize};
 
@@ -32,7 +32,6 @@ impl<'a, D: TxDevice> Shared<'a, D> {
         requires locks { (b : ℕ) → b < 3 → ((lock_at b cpu.old).holds ≡ true) × ((lock_at b cpu.old).stored ≡ false) }
         ensures same { IsElseSame cpu.old cpu.new }
         ensures begun { BeginsResize self.now.infos.now self.now.max_len len event (view cpu.old) (view cpu.new) }
-        ensures made { (found : ℕ) × (steps cpu.new ≡ load_size_log found ∷ steps cpu.old) }
         ensures makes { (held : ℕ → List ℕ) × (slots : Of (List ℕ)) × (found : ℕ) × MakesSteps (BeginResize len event held slots found ∷ []) cpu.old cpu.new }
     {
         self.load_word::<Brand, _>(&mut cpu.known.seat, SIZE, &(len, event));
@@ -46,7 +45,6 @@ impl<'a, D: TxDevice> Shared<'a, D> {
         requires holder { (holds_lock (position cpu.old) ≡ true) × HasHalfResize (view cpu.old) }
         ensures same { IsElseSame cpu.old cpu.new }
         ensures cleared { (t : HalfResize) → (view cpu.old).holder.resizing ≡ Some t → ClearsSlot band i t result cpu.old cpu.new }
-        ensures made { steps cpu.new ≡ clear_slot_log (setup self.now) band i result ∷ steps cpu.old }
         ensures makes { MakesSteps (ClearSlot band i result ∷ []) cpu.old cpu.new }
     {
         let word = self.slot_word(band, i);
@@ -62,7 +60,6 @@ impl<'a, D: TxDevice> Shared<'a, D> {
         requires hand { MayFill band i n (view cpu.old) }
         ensures same { IsElseSame cpu.old cpu.new }
         ensures filled { FillsSlot band i n cpu.old cpu.new }
-        ensures made { steps cpu.new ≡ store_slot_log (setup self.now) band i (n + 1) ∷ steps cpu.old }
         ensures makes { MakesSteps (FillSlot band i n ∷ []) cpu.old cpu.new }
     {
         let word = self.slot_word(band, i);
@@ -77,7 +74,6 @@ impl<'a, D: TxDevice> Shared<'a, D> {
         requires holder { (holds_lock (position cpu.old) ≡ true) × HasHalfResize (view cpu.old) × ((lock_at band cpu.old).holds ≡ true) }
         ensures same { IsElseSame cpu.old cpu.new }
         ensures set { view cpu.new ≡ with_lock_at band (locked_at index) (view cpu.old) }
-        ensures made { steps cpu.new ≡ set_producer_log band index ∷ steps cpu.old }
         ensures makes { MakesSteps (SetProducer band index ∷ []) cpu.old cpu.new }
     {
         let word = producer_word(band);
@@ -98,7 +94,6 @@ impl<'a, D: TxDevice> Shared<'a, D> {
         requires ready { (t : HalfResize) × ((view cpu.old).holder.resizing ≡ Some t) × (len ≡ t.len) × AreRefilled t cpu.old }
         ensures same { IsElseSame cpu.old cpu.new }
         ensures restarted { (t : HalfResize) → (view cpu.old).holder.resizing ≡ Some t → view cpu.new ≡ store_size_view t (view cpu.old) }
-        ensures made { steps cpu.new ≡ store_size_log len ∷ steps cpu.old }
         ensures makes { MakesSteps (StoreSize len ∷ []) cpu.old cpu.new }
     {
         self.store_word::<Brand, _>(&mut cpu.known.seat, SIZE, len as u64, &());

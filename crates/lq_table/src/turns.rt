@@ -1,11 +1,11 @@
 //! The steps on the turn words, by which the packets of one owner are sent in order.
-ghost use Rattle.std.specs.Prelude.{◌≡◌, ◌≢◌, ◌+◌, ◌*◌, ◌<◌, true, Some, None, length, slice_index, MatchResult, ◌∷◌, ◌==◌, is_ok, [], ℕ};
+ghost use Rattle.std.specs.Prelude.{◌≡◌, ◌+◌, ◌*◌, ◌<◌, true, Some, None, length, slice_index, MatchResult, ◌∷◌, ◌==◌, [], ℕ};
 ghost use Rattle.lq_model.specs.Plan.{station_in};
 ghost use Rattle.lq_band_laws.specs.Ring.{unlocked};
 ghost use Rattle.lq_band_laws.specs.Three.{all_three};
 ghost use Rattle.lq_table.specs.Rule.{times};
 ghost use Rattle.lq_table.specs.Sees.{view, position, IsSeatOf, IsElseSame, steps, packet_owner, packet_rank};
-ghost use Rattle.lq_table.specs.Turns.{FindsTurnWord, TakesTurn, take_turn_view, give_turn_view, give_turn_log, load_turn_log, take_turn_log};
+ghost use Rattle.lq_table.specs.Turns.{FindsTurnWord, TakesTurn, give_turn_view};
 ghost use Rattle.lq_table.specs.Moves.{at_rest};
 ghost use Rattle.lq_table.specs.Step.{GiveTurn, LoadTurn, MakesSteps, TakeTurn, due_word};
 
@@ -26,7 +26,6 @@ impl<'a, D: TxDevice> Shared<'a, D> {
         requires idle { (view cpu.old).packets.busy ≡ None }
         ensures same { IsElseSame cpu.old cpu.new }
         ensures turn { MatchResult result (λ _. TakesTurn self.now n cpu.old cpu.new) (FindsTurnWord self.now n cpu.old cpu.new) }
-        ensures made { steps cpu.new ≡ take_turn_log (packet_owner self.now n) (packet_rank self.now n) (is_ok result) ∷ steps cpu.old }
         ensures makes { (found : ℕ) × MatchResult result (λ _. found ≡ due_word (view cpu.old) n) (λ word. word ≡ found) × MakesSteps (TakeTurn n found ∷ []) cpu.old cpu.new }
     {
         let owner = self.infos[n as usize].owner as u32;
@@ -49,7 +48,6 @@ impl<'a, D: TxDevice> Shared<'a, D> {
         requires left { (at_rest (position cpu.old) ≡ true) × ((view cpu.old).locks ≡ all_three unlocked) }
         ensures same { IsElseSame cpu.old cpu.new }
         ensures given { view cpu.new ≡ give_turn_view (packet_owner self.now n) (packet_rank self.now n) (view cpu.old) }
-        ensures made { steps cpu.new ≡ give_turn_log (packet_owner self.now n) (packet_rank self.now n) ∷ steps cpu.old }
         ensures makes { MakesSteps (GiveTurn n ∷ []) cpu.old cpu.new }
     {
         let owner = self.infos[n as usize].owner as u32;
@@ -66,7 +64,6 @@ impl<'a, D: TxDevice> Shared<'a, D> {
         requires owner { owner < self.now.senders }
         ensures same { IsElseSame cpu.old cpu.new × (view cpu.new ≡ view cpu.old) }
         ensures word { 0 < times owner (view cpu.old).share.owners → result ≡ slice_index (view cpu.old).turns owner }
-        ensures made { steps cpu.new ≡ load_turn_log owner result ∷ steps cpu.old }
         ensures makes { MakesSteps (LoadTurn owner result ∷ []) cpu.old cpu.new }
     {
         let word = turn_word(owner);

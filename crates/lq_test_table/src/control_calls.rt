@@ -38,7 +38,7 @@ fn table<'a, A: Abort>(
     device.configure(&params, infos.len()).expect(rt, "memory");
     let station = Station::new(alloc, 0, device).ok().expect(rt, "memory");
     let plan = StationPlan { params, ..SHORT };
-    Shared::make(alloc, infos, 0, plan, 1, 2, station)
+    Shared::make(alloc, infos, 0, plan, 2, station)
         .ok()
         .expect(rt, "memory")
 }

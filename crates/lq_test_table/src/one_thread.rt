@@ -38,7 +38,7 @@ fn table<'a, A: Abort, D: TxDevice>(
     assert!(rt; infos.len() <= 100);
     check_packets(rt, infos, 1);
     let station = Station::new(alloc, 0, device).ok().expect(rt, "memory");
-    Shared::make(alloc, infos, 0, SHORT, 1, 2, station)
+    Shared::make(alloc, infos, 0, SHORT, 2, station)
         .ok()
         .expect(rt, "memory")
 }

@@ -42,7 +42,7 @@ fn table<'a, A: Abort>(
         .configure(&plan.params, infos.len())
         .expect(rt, "memory");
     let station = Station::new(alloc, 0, device).ok().expect(rt, "memory");
-    Shared::make(alloc, infos, 0, plan, plan.queues, 2, station)
+    Shared::make(alloc, infos, 0, plan, 2, station)
         .ok()
         .expect(rt, "memory")
 }

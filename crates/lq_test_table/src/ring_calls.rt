@@ -85,7 +85,7 @@ fn a_packet_is_put_and_taken(rt: HostRuntime) {
     let station = Station::new(rt.alloc(), 0, device)
         .ok()
         .expect(&rt, "memory");
-    let made = Shared::make(rt.alloc(), &infos, 0, PLAN, 1, 1, station);
+    let made = Shared::make(rt.alloc(), &infos, 0, PLAN, 1, station);
     let (shared, mut cpu) = with_memory(&rt, made);
     shared.take_turn(&mut cpu, 0).expect(&rt, "its turn");
     shared.enter(&mut cpu);

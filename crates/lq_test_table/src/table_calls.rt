@@ -13,7 +13,7 @@ fn a_table_without_packets_is_made_and_closed(rt: HostRuntime) {
     let station = Station::new(rt.alloc(), 0, BenchDevice::new(rt.alloc()))
         .ok()
         .expect(&rt, "memory");
-    let (shared, mut cpu) = Shared::make(rt.alloc(), &[], 0, PLAN, 1, 3, station)
+    let (shared, mut cpu) = Shared::make(rt.alloc(), &[], 0, PLAN, 3, station)
         .ok()
         .expect(&rt, "memory");
     assert_eq!(rt; shared.load_turn(&mut cpu, 2), 0);

@@ -77,7 +77,7 @@ pub fn table<'a, A: Abort>(
     let station = Station::new(alloc, 0, device(rt, alloc, burst, infos))
         .ok()
         .expect(rt, "memory");
-    Shared::make(alloc, infos, 0, plan, 1, SENDERS + 1, station)
+    Shared::make(alloc, infos, 0, plan, SENDERS + 1, station)
         .ok()
         .expect(rt, "memory")
 }

@@ -7,7 +7,7 @@ use Rattle.lq_table.specs.States.{miss_at}
 use Rattle.lq_table.specs.Step.{MoveStation}
 use Rattle.lq_run.specs.Steps.{AtOnce, Begin, InTheEnd, MakesStepsOf, Missed, MissedBefore}
 use Rattle.lq_run.proofs.Begins.{leads}
-use Rattle.lq_run.proofs.StepsThen.{makes_then}
+use Rattle.lq_table.proofs.StepsThen.{makes_then}
 use Rattle.lq_run.proofs.Tried.{notes, seat_noted, seat_tried, tries}
 use Rattle.lq_run.proofs.TryLemmas.{first_locked, missed_leads}
 use Rattle.lq_run.proofs.begin.Goals as goal

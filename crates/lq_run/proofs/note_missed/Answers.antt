@@ -1,7 +1,7 @@
 use Rattle.std.proofs.Common.{[], ◌∷◌, sym, ◌∙◌}
 use Rattle.lq_table.specs.Step.{LookMissed, Miss}
 use Rattle.lq_run.specs.Steps.{Seen, Set}
-use Rattle.lq_run.proofs.StepsThen.{makes_then}
+use Rattle.lq_table.proofs.StepsThen.{makes_then}
 use Rattle.lq_run.proofs.note_missed.Goals as goal
 
 pub returns-then-look_missed : goal.returns-then-look_missed

@@ -1,7 +1,7 @@
 use Rattle.std.proofs.Common.{not, eq-eqb, ne_eqb, [], ◌∷◌, ap}
 use Rattle.lq_table.specs.Step.{LoadState, MoveStation, SetSched, Unlock}
 use Rattle.lq_run.specs.Steps.{NoneMissed, Schedules}
-use Rattle.lq_run.proofs.StepsThen.{makes_then}
+use Rattle.lq_table.proofs.StepsThen.{makes_then}
 use Rattle.lq_run.proofs.release.Goals as goal
 
 pub returns-then-state-ne0-clause-makes : goal.returns-then-state-ne0-clause-makes

@@ -4,7 +4,7 @@ use Rattle.std.proofs.lemmas.Bool.{eqb-false, eqb-true, not-false, not-true}
 use Rattle.lq_table.specs.Step.{LookLock, MakesSteps, TryLock}
 use Rattle.lq_table.specs.Views.{HolderPart}
 use Rattle.lq_run.specs.Steps.{Got, Held, Lost, TryRunLock}
-use Rattle.lq_run.proofs.StepsThen.{makes_then}
+use Rattle.lq_table.proofs.StepsThen.{makes_then}
 use Rattle.lq_run.proofs.try_run_lock.Goals as goal
 
 tried : (answer : Bool) (got : Option HolderPart) → answer ≡ is_some got → TryRunLock answer (LookLock 0 ∷ TryLock got ∷ [])

@@ -8,7 +8,7 @@ use Rattle.lq_table.specs.declared.shared.Shared.{Shared}
 use Rattle.lq_bench.specs.Ready.{IsFirstReady, IsWhole}
 use Rattle.lq_bench.proofs.table.empty_table.Goals as goal
 
-ready : {D : Type 0} (infos : List Info) (number : ℕ) (plan : StationPlan) (station : StationState) (t : Shared D) (c : Cpu D) → IsMadeOf infos number plan 1 4 station t c → IsFirstReady t c × IsWhole c
+ready : {D : Type 0} (infos : List Info) (number : ℕ) (plan : StationPlan) (station : StationState) (t : Shared D) (c : Cpu D) → IsMadeOf infos number plan 4 station t c → IsFirstReady t c × IsWhole c
 ready infos number plan station t c m = let queues = m.6 in let senders = m.7 in let v = m.8 in (
   ((m.0, ap (λ v. v.place.position) v, ap (λ v. v.locks) v, ap (λ v. v.holder.resizing) v, (omega arith), (omega arith)), ap (λ v. v.control.first) v, ap (λ v. v.control.phase) v, ap (λ v. v.control.purge) v, m.1, m.2),
   (ap (λ v. v.share.shares) v, ap (λ v. v.share.owners) v, ap (λ v. v.packets) v),

@@ -1,17 +1,18 @@
-use Rattle.std.proofs.Common.{◌≡◌, true, [], sym, ap, ◌∙◌, subst, ℕ, ◌∷◌}
+use Rattle.std.proofs.Common.{◌≡◌, true, List, [], sym, ap, ◌∙◌, subst, ℕ, ◌∷◌}
 use Rattle.std.proofs.lemmas.Option.{same_Some}
 use Rattle.lq_account_laws.specs.Trail.{down_of}
 use Rattle.lq_model.specs.Account.{Purge}
 use Rattle.lq_model.specs.Control.{after_purge}
 use Rattle.lq_model.specs.declared.fate.Cause.TheVariants as cause
-use Rattle.lq_table.specs.Views.{View, Known}
+use Rattle.lq_table.specs.Views.{View}
 use Rattle.lq_table.specs.Controls.{set_deactivated_view}
-use Rattle.lq_table.specs.Sees.{view, setup, known, IsSole}
-use Rattle.lq_qdisc.specs.StepLists.{LeadsBy}
-use Rattle.lq_control.specs.Steps.{LookInside, PurgesBy, Wait, known_after}
-use Rattle.lq_table.specs.Step.{BeginPurge, SetDeactivated}
+use Rattle.lq_table.specs.Sees.{view, IsSole}
+use Rattle.lq_ring.specs.StepLists.{MakesStepsFrom}
+use Rattle.lq_qdisc.specs.StepLists.{Then}
+use Rattle.lq_control.specs.Steps.{DevResetQueue, Finding, LookInside, Only, TakeLock, Wait}
+use Rattle.lq_table.specs.Step.{BeginPurge, MoveStation, SetDeactivated, Standing, Step, Unlock}
 use Rattle.lq_control.proofs.Keeps.{keeps_closed, keeps_freed, keeps_purged, keeps_then, seat_then}
-use Rattle.lq_control.proofs.StepLemmas.{both, freed, steps_of}
+use Rattle.lq_control.proofs.StepLemmas.{and_then, finds, only}
 use Rattle.lq_table.specs.Locks.{try_lock_view_in_control}
 use Rattle.lq_control.specs.Control.{all_purged, phased}
 use Rattle.lq_control.proofs.Sole.{deactivated_is}
@@ -47,20 +48,16 @@ returns g c = record {
       let e3 : v3 ≡ try_lock_view_in_control got.0 (phased _ q.0 (set_deactivated_view event v)) = got.1 ∙ ap (try_lock_view_in_control got.0) (q.1 ∙ ap (phased _ q.0) c.set_deactivated.ensures.view) in
       let same : p.0 ≡ event = same_Some _ _ (sym p.2 ∙ ap (λ (x : View). down_of x.trail) e3) in
       ap (λ (x : View). x.trail) free ∙ (ap (λ (x : View). x.trail) p.3.is ∙ (λ j. Purge (cause.Event (same j)) ∷ ap (λ (x : View). x.trail) e3 j));
-  steps =
-      let v = view c.args.cpu.now in let event = c.args.event in let q = c.wait_for_calls.ensures.quiet in let got = c.take_lock.ensures.got in let v3 = view c.take_lock.new.cpu in let k = setup c.args.shared.now in
+  makes =
+      let v = view c.args.cpu.now in let event = c.args.event in let q = c.wait_for_calls.ensures.quiet in let got = c.take_lock.ensures.got in let v3 = view c.take_lock.new.cpu in
       let e3 : v3 ≡ try_lock_view_in_control got.0 (phased _ q.0 (set_deactivated_view event v)) = got.1 ∙ ap (try_lock_view_in_control got.0) (q.1 ∙ ap (phased _ q.0) c.set_deactivated.ensures.view) in
-      let p = c.purge_all-purged.ensures.purges in let set = c.set_deactivated.ensures in
-      let same : p.0 ≡ event = same_Some _ _ (sym p.1 ∙ ap (λ (x : View). down_of x.trail) e3) in record {
-        was = set.made.0;
-        calm = known c.wait_for_calls.new.cpu;
-        locked = known c.take_lock.new.cpu;
-        purged = known c.purge_all-purged.new.cpu;
-        waits = subst (λ (x : Known). LeadsBy (λ s. Wait LookInside true) x (known c.wait_for_calls.new.cpu)) (both (known c.set_deactivated.new.cpu) (known_after (SetDeactivated event set.made.0 ∷ []) (known c.args.cpu.now)) set.view set.made.1) (steps_of c.wait_for_calls.ensures.makes);
-        takes = steps_of c.take_lock.ensures.makes;
-        purges = subst (λ (e : ℕ). PurgesBy k (BeginPurge e) (cause.Event e) c.purge_all-purged.result (known c.take_lock.new.cpu) (known c.purge_all-purged.new.cpu)) same p.2;
-        released = freed c.release.ensures.makes;
-      };
+      let p = c.purge_all-purged.ensures.makes in let count = c.purge_all-purged.result in
+      let same : p.0 ≡ event = same_Some _ _ (sym p.1 ∙ ap (λ (x : View). down_of x.trail) e3) in
+      let resets = subst (λ (e : ℕ). MakesStepsFrom (DevResetQueue (BeginPurge e) (cause.Event e) count) c.take_lock.new.cpu c.purge_all-purged.new.cpu) same p.2 in
+      let reset : Standing → List Step → Type 0 = DevResetQueue (BeginPurge event) (cause.Event event) count in let ends : Standing → List Step → Type 0 = Only (MoveStation ∷ Unlock ∷ []) in
+      and_then (Finding (SetDeactivated event)) (Then (λ s. Wait LookInside true) (Then (λ s. TakeLock) (Then reset ends))) (finds (SetDeactivated event) c.set_deactivated.ensures.makes)
+      (and_then (λ s. Wait LookInside true) (Then (λ s. TakeLock) (Then reset ends)) c.wait_for_calls.ensures.makes
+      (and_then (λ s. TakeLock) (Then reset ends) c.take_lock.ensures.makes (and_then reset ends resets (only c.release.ensures.makes))));
   alone = λ sole. let v = view c.args.cpu.now in let event = c.args.event in let q = c.wait_for_calls.ensures.quiet in let got = c.take_lock.ensures.got in let v3 = view c.take_lock.new.cpu in
       let e2 : view c.wait_for_calls.new.cpu ≡ phased _ q.0 (set_deactivated_view event v) = q.1 ∙ ap (phased _ q.0) c.set_deactivated.ensures.view in
       let e3 : v3 ≡ try_lock_view_in_control got.0 (phased _ q.0 (set_deactivated_view event v)) = got.1 ∙ ap (try_lock_view_in_control got.0) e2 in

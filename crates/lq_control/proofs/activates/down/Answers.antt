@@ -1,11 +1,11 @@
-use Rattle.std.proofs.Common.{rules, [], ◌∷◌, ap, ◌∙◌}
+use Rattle.std.proofs.Common.{rules, true, ap, ◌∙◌}
 use Rattle.lq_table.specs.Views.{first_account}
-use Rattle.lq_table.specs.Sees.{view, known, setup, solo}
+use Rattle.lq_table.specs.Sees.{view, setup, solo}
 use Rattle.lq_model.specs.Alone.{changed}
 use Rattle.lq_model.specs.declared.plan.EventKind.TheVariants as kind
 use Rattle.lq_table.specs.Step.{EndControl}
-use Rattle.lq_control.specs.Steps.{known_after}
-use Rattle.lq_control.proofs.StepLemmas.{both}
+use Rattle.lq_control.specs.Steps.{Deactivate, DevDeactivateMany, Finding, WaitUntilClear}
+use Rattle.lq_control.proofs.StepLemmas.{and_then, finds}
 use Rattle.lq_control.proofs.Alone.{down_alone, downed, downed_at, stepped_at}
 use Rattle.lq_control.proofs.activates.down.Goals as goal
 
@@ -14,12 +14,9 @@ returns g c = record {
   same = search rules;
   at = search rules;
   trail = search rules;
-  steps = let last = c.end_control.ensures in let clear = known c.wait_until_clear.new.cpu in (
-    clear,
-    last.made.0,
-    (known c.deactivate-purged.new.cpu, c.deactivate-purged.ensures.steps, c.wait_until_clear.ensures.steps),
-    both (known c.end_control.new.cpu) (known_after (EndControl last.made.0 ∷ []) clear) last.view last.made.1,
-  );
+  makes = let k = setup c.args.shared.now in let event = c.args.event in let count = c.deactivate-purged.result in
+      and_then (DevDeactivateMany k event count) (Finding EndControl) (and_then (Deactivate event count) (λ s. WaitUntilClear k s true) c.deactivate-purged.ensures.makes c.wait_until_clear.ensures.makes)
+      (finds EndControl c.end_control.ensures.makes);
   alone = λ plan h.
       let infos = c.args.shared.now.infos.now in let start = first_account (setup c.args.shared.now) in let v = solo (view c.args.cpu.now) in let event = c.args.event in
       let is = ap solo c.end_control.ensures.view

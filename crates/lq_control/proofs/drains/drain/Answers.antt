@@ -1,10 +1,13 @@
-use Rattle.std.proofs.Common.{rules, refl, sym, ap, ◌∙◌}
-use Rattle.lq_table.specs.Views.{FirstPart, first_account}
-use Rattle.lq_table.specs.Sees.{view, known, setup, solo}
+use Rattle.std.proofs.Common.{rules, [], refl, sym, ap, ◌∙◌}
+use Rattle.lq_table.specs.Views.{FirstPart, View, first_account}
+use Rattle.lq_table.specs.Sees.{view, setup, solo}
 use Rattle.lq_ring.proofs.Seats.{seat_on}
 use Rattle.lq_qdisc.proofs.AloneRests.{rests_served}
 use Rattle.lq_control.specs.Control.{IsServed}
-use Rattle.lq_control.specs.Steps.{not_yet, once_more}
+use Rattle.lq_control.specs.Steps.{NoneYet}
+use Rattle.lq_qdisc.specs.StepLists.{NetTxAction}
+use Rattle.lq_ring.proofs.StepsThen.{makes_none}
+use Rattle.lq_control.proofs.StepLemmas.{coming, softirq_more}
 use Rattle.lq_control.proofs.Served.{served_none, served_then}
 use Rattle.lq_control.proofs.drains.drain.Goals as goal
 
@@ -18,7 +21,7 @@ loop-init g c = record {
   ready = c.requires.at.1;
   served = served_none (view c.args.cpu.now) (view c.args.cpu.now) refl;
   alone = λ h. (h, refl);
-  interrupted = not_yet;
+  interrupted = ([], NoneYet, makes_none c.args.cpu.now);
 }
 
 pub loop-preserved : goal.loop-preserved
@@ -38,7 +41,7 @@ loop-preserved g c =
       ready = c.softirq.ensures.ready;
       served = served_then (view c.args.cpu.now) (view c.loop.cpu) (view c.softirq.new.cpu) i.served one;
       alone = λ h. let before = i.alone h in let now = c.softirq.ensures.alone before.0 in (now.0, now.1 ∙ before.1);
-      interrupted = once_more (known c.loop.cpu) (known c.softirq.new.cpu) i.interrupted (sym c.if-not-raised.ensures) (record { by = c.softirq.ensures.steps; served = one });
+      interrupted = let k = setup c.args.shared.now in softirq_more k i.interrupted (sym c.if-not-raised.ensures) (coming IsServed (NetTxAction k) c.softirq.ensures.makes one);
     }
 
 pub returns-then-not-raised : goal.returns-then-not-raised
@@ -46,7 +49,7 @@ returns-then-not-raised g c = record {
   same = search rules;
   served = search rules;
   at = search rules;
-  steps = search rules;
+  makes = let i = c.loop.invariant.interrupted in (i.0, (i.1, ap (λ (v : View). v.place.raised) (sym i.2.knows) ∙ sym c.if-not-raised.ensures), i.2);
   alone = λ h.
       let now = c.loop.invariant.alone h in
       (now.0, sym (rests_served c.args.shared.now.infos.now (first_account (setup c.args.shared.now)) (solo (view c.loop.cpu)) now.0 (sym c.if-not-raised.ensures)) ∙ now.1);

@@ -1,11 +1,12 @@
 use Rattle.std.proofs.Common.{◌≡◌}
 use Rattle.lq_model.specs.declared.machine.Position.TheVariants.{Idle}
 use Rattle.lq_table.specs.Views.{first_account}
-use Rattle.lq_table.specs.Sees.{view, known, setup, position, IsSeatOf, IsSameSeat, solo}
+use Rattle.lq_table.specs.Sees.{view, setup, position, IsSeatOf, IsSameSeat, solo}
 use Rattle.lq_qdisc.specs.Alone.{BringsAlone}
 use Rattle.lq_qdisc.specs.Sends.{IsReadyToSend}
 use Rattle.lq_control.specs.Control.{IsServed}
-use Rattle.lq_control.specs.Steps.{Interrupted}
+use Rattle.lq_ring.specs.StepLists.{MakesStepsFrom}
+use Rattle.lq_control.specs.Steps.{SoftirqEach}
 use Rattle.lq_control.proofs.drains.drain.Given as goal
 
 abbrev pub invariant-loop : goal.invariant-loop
@@ -18,5 +19,5 @@ invariant-loop g l = record {
   ready : IsReadyToSend l.cpu;
   served : IsServed (view l.fn.cpu) (view l.cpu);
   alone : BringsAlone l.fn.shared.infos.now (first_account (setup l.fn.shared)) (λ s. s) (solo (view l.fn.cpu)) (solo (view l.cpu));
-  interrupted : Interrupted (setup l.fn.shared) (known l.fn.cpu) (known l.cpu);
+  interrupted : MakesStepsFrom (SoftirqEach (setup l.fn.shared)) l.fn.cpu l.cpu;
 }

@@ -1,6 +1,6 @@
 use Rattle.std.proofs.Common.{rules, ℕ, Bool, [], ◌∷◌, ne_eqb, refl, subst, sym}
 use Rattle.lq_table.specs.Step.{LoadLock, LoadState, MakesSteps}
-use Rattle.lq_run.proofs.StepsThen.{makes_then}
+use Rattle.lq_table.proofs.StepsThen.{makes_then}
 use Rattle.lq_control.specs.Steps.{LockHeld, LookClear}
 use Rattle.lq_control.proofs.StepLemmas.{clear_by}
 use Rattle.lq_control.proofs.drains.is_clear.Goals as goal

@@ -1,14 +1,18 @@
-use Rattle.std.proofs.Common.{◌≡◌, rules, Bool, true, false, ap, ◌∙◌, subst, sym}
+use Rattle.std.proofs.Common.{◌≡◌, rules, [], ◌∷◌, ◌++◌, ap, ◌∙◌, sym}
 use Rattle.lq_table.specs.Views.{View, FirstPart}
 use Rattle.lq_table.specs.Sees.{view, known, setup, solo}
 use Rattle.lq_qdisc.proofs.ViewLemmas.{interrupts_view}
-use Rattle.lq_qdisc.specs.StepLists.{LeadsBy}
+use Rattle.lq_qdisc.specs.StepLists.{NetTxAction}
 use Rattle.lq_control.specs.Alone.{unmarked}
 use Rattle.lq_control.proofs.FinishSteps.{ready_kept, served_begun}
 use Rattle.lq_control.proofs.Keeps.{seat_then}
 use Rattle.lq_control.proofs.Served.{served_none, served_then}
-use Rattle.lq_control.specs.Steps.{FindsClear, LookClear, looked, none_yet}
-use Rattle.lq_control.proofs.StepLemmas.{round_served, steps_of}
+use Rattle.lq_control.specs.Control.{IsServed}
+use Rattle.lq_control.specs.Steps.{LookClear, Looks, Serves}
+use Rattle.lq_control.proofs.StepLemmas.{coming}
+use Rattle.lq_ring.proofs.StepsThen.{makes_then}
+use Rattle.lq_qdisc.proofs.ListLemmas.{leads}
+use Rattle.lq_table.specs.Step.{BeginControl}
 use Rattle.lq_control.proofs.Alone.{off_served}
 use Rattle.lq_control.proofs.drains.serve_or_look.Given as given
 use Rattle.lq_control.proofs.drains.serve_or_look.Goals as goal
@@ -28,27 +32,16 @@ returns-then-raised g c = record {
     ready_kept c.softirq.new.cpu c.begin_control.new.cpu b.same (ap (λ (x : View). x.packets) b.view) (ap (λ (x : View). x.locks) b.view) (ap (λ (x : View). x.holder.resizing) b.view) c.softirq.ensures.ready,
   );
   clear = search rules;
-  off = λ sole down. let i = interrupts_view (setup c.args.shared.now) (known c.args.cpu.now) (known c.softirq.new.cpu) c.softirq.ensures.steps in
+  off = λ sole down. let i = interrupts_view (setup c.args.shared.now) (known c.args.cpu.now) (known c.softirq.new.cpu) (leads (NetTxAction (setup c.args.shared.now)) c.args.cpu.now c.softirq.new.cpu c.softirq.ensures.makes) in
       ap (λ v. unmarked (solo v)) c.begin_control.ensures.view ∙ off_served c.args.shared.now.infos.now (view c.args.cpu.now) i.0 (view c.softirq.new.cpu) sole down c.requires.at.2.1 i.1 i.3;
-  found = search rules;
-  again = λ _. let e = c.begin_control.ensures.made in let k = c.softirq.ensures.kept in let s = c.softirq.ensures.still in
-      round_served (setup c.args.shared.now) (known c.args.cpu.now) (known c.softirq.new.cpu) (known c.begin_control.new.cpu) e.0 (sym c.if-raised.ensures) (record {
-        by = c.softirq.ensures.steps;
-        served = record {
-          kept = record { share = k.share; turns = s.turns; first = ap (λ (x : FirstPart). x.first) k.control; told = k.told };
-          control = k.control;
-          trail = s.trail;
-          fates = c.softirq.ensures.fates;
-        };
-      }) c.begin_control.ensures.view e.1;
-}
-
--- what a seat finds that isn't raised
-finds : (g : given.Over) (c : goal.After-is_clear g) (answer : Bool) → c.is_clear.result ≡ answer → FindsClear answer (known c.args.cpu.now) (known c.is_clear.new.cpu)
-finds g c answer is = record {
-  low = sym c.if-raised.ensures;
-  same = c.is_clear.ensures.same.1;
-  looks = subst (λ (b : Bool). LeadsBy (λ s. LookClear b) (known c.args.cpu.now) (known c.is_clear.new.cpu)) is (steps_of c.is_clear.ensures.makes);
+  makes = let k = c.softirq.ensures.kept in let s = c.softirq.ensures.still in let f = c.begin_control.ensures.makes in
+      let one = coming IsServed (NetTxAction (setup c.args.shared.now)) c.softirq.ensures.makes (record {
+        kept = record { share = k.share; turns = s.turns; first = ap (λ (x : FirstPart). x.first) k.control; told = k.told };
+        control = k.control;
+        trail = s.trail;
+        fates = c.softirq.ensures.fates;
+      }) in
+      (one.0 ++ BeginControl f.0 ∷ [], Serves f.0 (sym c.if-raised.ensures) one.1, makes_then one.2 f.1);
 }
 
 pub returns : goal.returns
@@ -61,6 +54,5 @@ returns g c = record {
   );
   clear = search rules;
   off = λ sole down. ap (λ v. unmarked (solo v)) c.is_clear.ensures.same.1;
-  found = λ yes. finds g c true yes;
-  again = λ no. looked (known c.args.cpu.now) (known c.is_clear.new.cpu) none_yet (finds g c false no);
+  makes = let looks = coming (λ (v w : View). w ≡ v) (λ s. LookClear c.is_clear.result) c.is_clear.ensures.makes c.is_clear.ensures.same.1 in (looks.0, Looks (sym c.if-raised.ensures) looks.1, looks.2);
 }

@@ -1,8 +1,9 @@
-use Rattle.std.proofs.Common.{rules, refl, ◌∙◌}
-use Rattle.lq_table.specs.Sees.{view, setup, known, solo}
+use Rattle.std.proofs.Common.{rules, true, false, [], refl, ◌∙◌}
+use Rattle.lq_table.specs.Sees.{view, setup, solo}
 use Rattle.lq_ring.proofs.Seats.{seat_on}
-use Rattle.lq_control.specs.Steps.{none_yet}
-use Rattle.lq_control.proofs.StepLemmas.{rounds_then}
+use Rattle.lq_control.specs.Steps.{NotClear}
+use Rattle.lq_ring.proofs.StepsThen.{makes_none}
+use Rattle.lq_control.proofs.StepLemmas.{clear_more}
 use Rattle.lq_control.proofs.Alone.{down_kept, marks_clear}
 use Rattle.lq_control.proofs.Served.{served_none, served_then, sole_served}
 use Rattle.lq_control.proofs.drains.wait_until_clear.Goals as goal
@@ -17,7 +18,7 @@ loop-init g c = record {
   ready = c.requires.at.2;
   served = served_none (view c.args.cpu.now) (view c.args.cpu.now) refl;
   off = λ _ _. refl;
-  rounds = none_yet;
+  waits = ([], NotClear, makes_none c.args.cpu.now);
 }
 
 pub loop-preserved : goal.loop-preserved
@@ -32,7 +33,7 @@ loop-preserved g c =
       served = served_then (view c.args.cpu.now) (view c.loop.cpu) (view c.serve_or_look.new.cpu) i.served step.served;
       off = λ sole down. let before = i.off sole down in
           step.off (sole_served (view c.args.cpu.now) (view c.loop.cpu) i.served sole) (down_kept (setup c.args.shared.now) (view c.args.cpu.now) (view c.loop.cpu) c.requires.seat.2 i.seat.2 before down) ∙ before;
-      rounds = rounds_then (setup c.args.shared.now) _ _ _ i.rounds (step.again c.if-serve_or_look.false);
+      waits = clear_more (setup c.args.shared.now) false c.serve_or_look.result c.if-serve_or_look.false i.waits step.makes;
     }
 
 pub returns-then-serve_or_look : goal.returns-then-serve_or_look
@@ -40,7 +41,7 @@ returns-then-serve_or_look g c = record {
   same = search rules;
   served = served_then (view c.args.cpu.now) (view c.loop.cpu) (view c.serve_or_look.new.cpu) c.loop.invariant.served c.serve_or_look.ensures.served;
   at = search rules;
-  steps = (known c.loop.cpu, c.loop.invariant.rounds, c.serve_or_look.ensures.found c.if-serve_or_look.true);
+  makes = clear_more (setup c.args.shared.now) true c.serve_or_look.result c.if-serve_or_look.true c.loop.invariant.waits c.serve_or_look.ensures.makes;
   alone = λ sole down.
       let i = c.loop.invariant in let step = c.serve_or_look.ensures in let before = i.off sole down in
       let sole_now = sole_served (view c.args.cpu.now) (view c.loop.cpu) i.served sole in

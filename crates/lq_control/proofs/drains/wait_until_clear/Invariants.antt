@@ -1,10 +1,11 @@
 use Rattle.std.proofs.Common.{◌≡◌, false, IsSome}
 use Rattle.lq_model.specs.declared.machine.Position.TheVariants.{Control}
-use Rattle.lq_table.specs.Sees.{view, setup, known, position, IsSeatOf, IsSameSeat, IsSole, account_of, solo}
+use Rattle.lq_table.specs.Sees.{view, setup, position, IsSeatOf, IsSameSeat, IsSole, account_of, solo}
 use Rattle.lq_qdisc.specs.Sends.{IsReadyToSend}
 use Rattle.lq_control.specs.Alone.{unmarked}
 use Rattle.lq_control.specs.Control.{IsServed}
-use Rattle.lq_control.specs.Steps.{Rounds}
+use Rattle.lq_ring.specs.StepLists.{MakesStepsFrom}
+use Rattle.lq_control.specs.Steps.{WaitUntilClear}
 use Rattle.lq_control.proofs.drains.wait_until_clear.Given as goal
 
 abbrev pub invariant-loop : goal.invariant-loop
@@ -17,5 +18,5 @@ invariant-loop g l = record {
   ready : IsReadyToSend l.cpu;
   served : IsServed (view l.fn.cpu) (view l.cpu);
   off : IsSole (view l.fn.cpu) → IsSome (account_of (view l.fn.cpu)).down → unmarked (solo (view l.cpu)) ≡ unmarked (solo (view l.fn.cpu));
-  rounds : Rounds (setup l.shared) (known l.fn.cpu) (known l.cpu);
+  waits : MakesStepsFrom (λ s. WaitUntilClear (setup l.shared) s false) l.fn.cpu l.cpu;
 }

@@ -1,6 +1,6 @@
 use Rattle.std.proofs.Common.{rules, ◌≡◌, ◌<◌, ℕ, [], ◌∷◌, ◌++◌, subst, arith}
 use Rattle.lq_table.specs.Step.{LoadXoff, MakesSteps}
-use Rattle.lq_run.proofs.StepsThen.{makes_then}
+use Rattle.lq_table.proofs.StepsThen.{makes_then}
 use Rattle.lq_control.specs.EndSteps.{EachIs, OtherIs, xoff_steps}
 use Rattle.lq_control.proofs.EndStepLemmas.{stops_more}
 use Rattle.lq_control.proofs.finishes.are_stops.Goals as goal

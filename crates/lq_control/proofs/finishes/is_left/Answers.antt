@@ -3,7 +3,7 @@ use Rattle.lq_model.specs.declared.machine.Position.TheVariants.{Control}
 use Rattle.lq_table.specs.Sees.{position}
 use Rattle.lq_table.specs.Step.{LoadInside, LoadState, MakesSteps}
 use Rattle.lq_table.specs.Views.{View}
-use Rattle.lq_run.proofs.StepsThen.{makes_then}
+use Rattle.lq_table.proofs.StepsThen.{makes_then}
 use Rattle.lq_control.specs.EndSteps.{LookLeft, StillInside}
 use Rattle.lq_control.specs.Steps.{CallInside}
 use Rattle.lq_control.proofs.EndStepLemmas.{left_by}

@@ -6,7 +6,7 @@ use Rattle.lq_table.specs.Step.{LoadInside, LoadLock, LoadState, MakesSteps, Ste
 use Rattle.lq_table.specs.Moves.{is_set}
 use Rattle.lq_table.specs.Views.{View, Setup}
 use Rattle.lq_run.specs.Steps.{MakesStepsOf}
-use Rattle.lq_run.proofs.StepsThen.{makes_then}
+use Rattle.lq_table.proofs.StepsThen.{makes_then}
 use Rattle.lq_control.specs.EndSteps.{AllHung, Deactivated, LoadStops, NotOver, NotQuiet, Over, are_quiet}
 use Rattle.lq_control.specs.Finish.{AreKept, AreStopsBelow, Hangs, IsActiveOrPurged, IsLook}
 use Rattle.lq_control.specs.Steps.{CallInside, NoCall}

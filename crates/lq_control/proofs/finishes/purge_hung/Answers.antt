@@ -6,13 +6,17 @@ use Rattle.lq_model.specs.Account.{Purge, after}
 use Rattle.lq_model.specs.declared.fate.Cause.{Cause}
 use Rattle.lq_model.specs.declared.fate.Cause.TheVariants as cause
 use Rattle.lq_model.specs.declared.fate.Fate.TheVariants as fate
-use Rattle.lq_table.specs.Views.{View, Setup, PacketPart, HolderPart, FirstPart, Left, Known}
+use Rattle.lq_table.specs.Views.{View, Setup, PacketPart, HolderPart, FirstPart, Left}
 use Rattle.lq_table.specs.Rule.{shown, IsResting}
 use Rattle.lq_table.specs.Purges.{begin_purge_view, HoldsAtMost, HoldPackets}
-use Rattle.lq_table.specs.Sees.{view, known, setup, IsSameSeat, IsAccounts, account_of, solo}
-use Rattle.lq_control.specs.Steps.{PurgesHeld, known_after}
-use Rattle.lq_table.specs.Step.{BeginHungPurge}
-use Rattle.lq_control.proofs.StepLemmas.{both, steps_of}
+use Rattle.lq_table.specs.Sees.{view, known, IsSameSeat, IsAccounts, account_of, solo}
+use Rattle.lq_run.specs.Steps.{End}
+use Rattle.lq_ring.specs.StepLists.{MakesStepsFrom}
+use Rattle.lq_qdisc.specs.StepLists.{Then}
+use Rattle.lq_control.specs.EndSteps.{LookLeft}
+use Rattle.lq_control.specs.Steps.{DevResetQueue, Only, QdiscReset, TakeLock, Wait}
+use Rattle.lq_table.specs.Step.{BeginHungPurge, Standing, Step}
+use Rattle.lq_control.proofs.StepLemmas.{and_then, coming, only}
 use Rattle.lq_ring.proofs.Seats.{seat_on}
 use Rattle.lq_ring.specs.Fates.{fates_onto}
 use Rattle.lq_run.proofs.Ends.{kept_ended, sole_ended}
@@ -60,32 +64,30 @@ module _ (g : given.Over) (c : goal.After-purge_held-arg-1 g) where
       let b = c.begin_hung_purge.ensures.begun in
       b.1 ∙ ap (λ (m : ℕ). begin_purge_view (cause.Hung m) b.0 v2) of_unit
 
-pub purge_held-purged-requires-clause-may : goal.purge_held-purged-requires-clause-may
-purge_held-purged-requires-clause-may g c _ _ = record {
-  at = search rules;
-  slot =
-      let d = c.take_lock.ensures.got.0 in let s = (v2 g c).holder.slot in let e = begun g c in
-      let at_ = c.take_lock.ensures.station.1 ∙ ap (λ (x : View). Some (shown (record x.holder { slot = s }))) (sym e) in
-      let about = ap (λ (x : View). x.share.about) (look g c).1 ∙ c.requires.seat.2 in
-      let known_ = slot_within (v1 g c).share.about d.slot c.take_lock.ensures.got.7 in
-      let within = subst (λ (k : Setup). IfSome d.slot (λ n. n < length k.infos)) about known_ in
-      let infos = c.args.shared.now.infos.now in (
-        s,
-        c.begin_hung_purge.ensures.same.1 ∙ at_,
-        ap (λ (x : View). x.packets.owed) e,
-        ap (λ (x : View). x.holder.slot) e,
-        subst (λ (x : View). IfSome x.holder.slot (λ n. n < length infos)) (sym (got g c)) within,
-      );
-  bands =
-      let b = c.begin_hung_purge.ensures.begun in let e = begun g c in (
-        record { cause = by g c; bands = b.0 },
-        ap (λ (x : View). x.holder.left) e,
-        refl,
-        subst (λ (n : ℕ). HoldsAtMost n b.0) (sym (ap (λ (x : View). x.holder.size) e)) b.2,
-        subst (λ (k : Setup). HoldPackets k.infos b.0) (ap (λ (x : View). x.share.about) (got g c) ∙ c.requires.seat.2) b.3,
-      );
-  rests = search rules;
-}
+pub purge_held-purged-requires-clause-slot : goal.purge_held-purged-requires-clause-slot
+purge_held-purged-requires-clause-slot g c _ _ =
+    let d = c.take_lock.ensures.got.0 in let s = (v2 g c).holder.slot in let e = begun g c in
+    let at_ = c.take_lock.ensures.station.1 ∙ ap (λ (x : View). Some (shown (record x.holder { slot = s }))) (sym e) in
+    let about = ap (λ (x : View). x.share.about) (look g c).1 ∙ c.requires.seat.2 in
+    let known_ = slot_within (v1 g c).share.about d.slot c.take_lock.ensures.got.7 in
+    let within = subst (λ (k : Setup). IfSome d.slot (λ n. n < length k.infos)) about known_ in
+    let infos = c.args.shared.now.infos.now in (
+      s,
+      c.begin_hung_purge.ensures.same.1 ∙ at_,
+      ap (λ (x : View). x.packets.owed) e,
+      ap (λ (x : View). x.holder.slot) e,
+      subst (λ (x : View). IfSome x.holder.slot (λ n. n < length infos)) (sym (got g c)) within,
+    )
+
+pub purge_held-purged-requires-clause-bands : goal.purge_held-purged-requires-clause-bands
+purge_held-purged-requires-clause-bands g c _ _ =
+    let b = c.begin_hung_purge.ensures.begun in let e = begun g c in (
+      record { cause = by g c; bands = b.0 },
+      ap (λ (x : View). x.holder.left) e,
+      refl,
+      subst (λ (n : ℕ). HoldsAtMost n b.0) (sym (ap (λ (x : View). x.holder.size) e)) b.2,
+      subst (λ (k : Setup). HoldPackets k.infos b.0) (ap (λ (x : View). x.share.about) (got g c) ∙ c.requires.seat.2) b.3,
+    )
 
 -- What is known after the purge: all that was held was taken, and but for that and the run lock the station is as before the call.
 module _ (g : given.Over) (c : goal.After-end_resize-arg-1 g) where
@@ -208,26 +210,16 @@ returns g c = record {
         (ap (λ (b : FirstPart). b.phase) control5 ∙ active.0, ap (λ (b : FirstPart). b.purge) control5 ∙ active.1),
       );
   raised = (whole g c).raised;
-  purges =
-      let k = setup c.args.shared.now in let b = c.begin_hung_purge.ensures in let e = c.end_resize.ensures.makes in let kept = kept_ended e in
-      let got_ = known c.take_lock.new.cpu in let begun_ = known c.begin_hung_purge.new.cpu in let new = known c.purge_held-purged.new.cpu in
-      let count = c.purge_held-purged.result in let by_ = cause.Hung got_.view.holder.station.unit in let slot = got_.view.holder.slot in
-      let started = both begun_ (known_after (BeginHungPurge b.begun.0 b.made.0 ∷ []) got_) b.begun.1 b.made.1 in
-      let purges = c.purge_held-purged.ensures.purges slot (ap (λ (x : View). x.packets.owed) (begun g c.before.before.before)) in
-      let of_it = sym (of_unit g c.before.before.before) in
-      let held_ = subst (λ (n : ℕ). PurgesHeld k (cause.Hung n) slot count begun_ new) of_it purges in record {
-        left = known c.wait_until_left.new.cpu;
-        locked = got_;
-        purged = new;
-        waits = steps_of c.wait_until_left.ensures.makes;
-        takes = steps_of c.take_lock.ensures.makes;
-        purges = record {
-          bands = b.begun.0;
-          state = b.made.0;
-          knows = b.begun.4;
-          purges = subst (λ (x : Known). PurgesHeld k by_ slot count x new) started held_;
-        };
-        releases = (record { calm = record { share = kept.0.1; state = kept.1; settled = kept.0.8 }; sole = sole_ended e }, steps_of e);
-        comes_to = comes_to g c;
-      };
+  makes =
+      let b = c.begin_hung_purge.ensures in let e = c.end_resize.ensures.makes in let begun_ = c.begin_hung_purge.new.cpu in let new = c.purge_held-purged.new.cpu in
+      let got_ = view c.take_lock.new.cpu in let count = c.purge_held-purged.result in let slot = got_.holder.slot in let m = b.makes in
+      let held_ = subst (λ (n : ℕ). MakesStepsFrom (QdiscReset (cause.Hung n) slot count) begun_ new) (sym (of_unit g c.before.before.before))
+      (c.purge_held-purged.ensures.makes slot (ap (λ (x : View). x.packets.owed) (begun g c.before.before.before))) in
+      let t = and_then (Only (BeginHungPurge m.0 m.1 ∷ [])) (QdiscReset (cause.Hung got_.holder.station.unit) slot count) (only m.2) held_ in
+      let resets : Standing → List Step → Type 0 = λ before. DevResetQueue BeginHungPurge (cause.Hung before.view.holder.station.unit) count before in
+      let ends : Standing → List Step → Type 0 = λ s. End in
+      coming (PurgesHung count) (Then (λ s. Wait LookLeft true) (Then (λ s. TakeLock) (Then resets ends)))
+      (and_then (λ s. Wait LookLeft true) (Then (λ s. TakeLock) (Then resets ends)) c.wait_until_left.ensures.makes
+      (and_then (λ s. TakeLock) (Then resets ends) c.take_lock.ensures.makes (and_then resets ends (t.0, (m.0, m.1, t.1), t.2) e)))
+      (comes_to g c);
 }

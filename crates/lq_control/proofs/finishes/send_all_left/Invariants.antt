@@ -1,8 +1,9 @@
 use Rattle.std.proofs.Common.{◌≡◌, false}
 use Rattle.lq_model.specs.declared.machine.Position.TheVariants.{Idle}
-use Rattle.lq_table.specs.Sees.{view, known, setup, position, IsSeatOf}
+use Rattle.lq_table.specs.Sees.{view, setup, position, IsSeatOf}
 use Rattle.lq_qdisc.specs.Sends.{IsCallKept, IsReadyToSend}
-use Rattle.lq_control.specs.EndSteps.{SendsLeftBelow}
+use Rattle.lq_ring.specs.StepLists.{MakesStepsFrom}
+use Rattle.lq_control.specs.EndSteps.{SendLeftBelow}
 use Rattle.lq_control.specs.Finish.{AreTurnsFrom, AreAllDone, IsSent}
 use Rattle.lq_control.proofs.finishes.send_all_left.Given as goal
 
@@ -16,5 +17,5 @@ invariant-loop-n g l = record {
   turns : AreTurnsFrom (setup l.shared) l.n (view l.cpu).turns;
   sent : IsSent (setup l.shared) (view l.fn.cpu) (view l.cpu);
   done : AreAllDone (setup l.shared) (view l.fn.cpu).turns → view l.cpu ≡ view l.fn.cpu;
-  sends : SendsLeftBelow (setup l.shared) l.n (known l.fn.cpu) (known l.cpu);
+  sends : MakesStepsFrom (SendLeftBelow (setup l.shared) l.n) l.fn.cpu l.cpu;
 }

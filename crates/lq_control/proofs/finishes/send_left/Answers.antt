@@ -1,6 +1,6 @@
-use Rattle.std.proofs.Common.{rules, ◌≡◌, ◌<◌, ◌≤◌, ◌+◌, ◌*◌, ℕ, List, inl, inr, refl, length, get_or}
+use Rattle.std.proofs.Common.{rules, ◌≡◌, ◌<◌, ◌≤◌, ◌+◌, ◌*◌, ℕ, true, List, [], refl, length, get_or}
 use Rattle.std.proofs.Common.{slice_index, slice_get, Option, Some, sym, ap, ◌∙◌, subst, arith}
-use Rattle.std.specs.Prelude.{slice_set}
+use Rattle.std.specs.Prelude.{is_some, slice_set}
 use Rattle.std.specs.Option.{option_map_or}
 use Rattle.std.proofs.lemmas.Option.{slice_get-get_or}
 use Rattle.lq_model.specs.Plan.{owner_in, rank_in, station_in}
@@ -10,7 +10,14 @@ use Rattle.lq_table.specs.Rule.{times}
 use Rattle.lq_table.specs.Sees.{view, known, setup}
 use Rattle.lq_qdisc.specs.Steps.{TransmitsBy}
 use Rattle.lq_control.specs.Finish.{count_below, AreFor, AreTurnsFrom}
-use Rattle.lq_control.proofs.EndStepLemmas.{sends_if_left}
+use Rattle.lq_qdisc.specs.Seats.{IsTurnOf}
+use Rattle.lq_qdisc.specs.Sends.{came_as, trail_with}
+use Rattle.lq_qdisc.specs.StepLists.{QueueXmit}
+use Rattle.lq_ring.proofs.StepsThen.{makes_none}
+use Rattle.lq_control.specs.EndSteps.{IsElsewhere, Transmit}
+use Rattle.lq_control.specs.Steps.{Drain}
+use Rattle.lq_control.proofs.StepLemmas.{and_then, coming}
+use Rattle.lq_control.proofs.EndStepLemmas.{sends_left, sends_none}
 use Rattle.lq_control.proofs.FinishLemmas.{in_turn, not_left, turns_elsewhere, turns_past, turns_sent}
 use Rattle.lq_control.proofs.FinishLemmas.{sent_by, sent_none, sent_same, sent_then}
 use Rattle.lq_control.proofs.finishes.send_left.Given as given
@@ -61,27 +68,25 @@ returns-then-info-number g c = record {
       (λ is. c.if-info-number.true (is ∙ sym c.number.ensures)) c.requires.may.turns;
   sent = let v = view c.args.cpu.now in sent_same (setup c.args.shared.now) v v refl;
   done = search rules;
-  sends =
+  makes =
       let e = entry c.infos.ensures c.requires.packet c.requires.may.made in
-      inl (λ is. c.if-info-number.true (sym e.station ∙ is ∙ sym c.number.ensures), refl);
+      ([], IsElsewhere (λ is. c.if-info-number.true (sym e.station ∙ is ∙ sym c.number.ensures)), makes_none c.args.cpu.now);
 }
 
 -- where it is of this station
 pub load_turn-requires-clause-owner : goal.load_turn-requires-clause-owner
 load_turn-requires-clause-owner g c _ _ = (entry c.infos.ensures c.requires.packet c.requires.may.made).sender
 
-pub transmit-sending-requires-clause-may : goal.transmit-sending-requires-clause-may
-transmit-sending-requires-clause-may g c _ _ = record {
-  at = search rules;
-  ready = search rules;
-  packet =
-      let n = c.args.n in let made = c.requires.may.made.infos in let e = entry c.infos.ensures c.requires.packet c.requires.may.made in
-      let own = e.station ∙ (c.if-info-number.false ∙ c.number.ensures) in
-      ((c.requires.packet, made.queues_are n c.requires.packet own), own, made.bands n c.requires.packet);
-  owner =
-      let owner = owner_in (setup c.args.shared.now).infos c.args.n in let sender = c.requires.may.made.infos.owners c.args.n c.requires.packet in
-      (subst (λ (x : View). 0 < times owner x.share.owners) (sym c.load_turn.ensures.same.1) (c.requires.may.made.owners owner sender), sender);
-}
+pub transmit-sending-requires-clause-packet : goal.transmit-sending-requires-clause-packet
+transmit-sending-requires-clause-packet g c _ _ =
+    let n = c.args.n in let made = c.requires.may.made.infos in let e = entry c.infos.ensures c.requires.packet c.requires.may.made in
+    let own = e.station ∙ (c.if-info-number.false ∙ c.number.ensures) in
+    ((c.requires.packet, made.queues_are n c.requires.packet own), own, made.bands n c.requires.packet)
+
+pub transmit-sending-requires-clause-owner : goal.transmit-sending-requires-clause-owner
+transmit-sending-requires-clause-owner g c _ _ =
+    let owner = owner_in (setup c.args.shared.now).infos c.args.n in let sender = c.requires.may.made.infos.owners c.args.n c.requires.packet in
+    (subst (λ (x : View). 0 < times owner x.share.owners) (sym c.load_turn.ensures.same.1) (c.requires.may.made.owners owner sender), sender)
 
 -- What is known where it was left: its turn is due, so it was transmitted in turn.
 module _ (g : given.Over) (c : goal.After-drain g) where
@@ -106,10 +111,13 @@ module _ (g : given.Over) (c : goal.After-drain g) where
   due : slice_index before.turns info.owner ≡ 2 * info.rank
   due = in_turn k c.args.n info is.here own is.ranked is.sender before.turns c.requires.may.turns left
 
-  sent : TransmitsBy k c.args.n c.transmit-sending.result (known c.load_turn.new.cpu) (known c.transmit-sending.new.cpu)
-  sent =
+  turn_is : IsTurnOf c.args.shared.now c.args.n c.load_turn.new.cpu
+  turn_is =
       let same = c.load_turn.ensures.same.1 in let twice = ap (λ (r : ℕ). 2 * r) is.rank in
-      c.transmit-sending.ensures.in_turn ((λ j. slice_index (same j).turns (is.owner j)) ∙ (due ∙ sym twice))
+      (λ j. slice_index (same j).turns (is.owner j)) ∙ (due ∙ sym twice)
+
+  sent : TransmitsBy k c.args.n c.transmit-sending.result (known c.load_turn.new.cpu) (known c.transmit-sending.new.cpu)
+  sent = c.transmit-sending.ensures.in_turn turn_is
 
   sent_word : (view c.transmit-sending.new.cpu).turns ≡ slice_set before.turns info.owner (2 * info.rank + 2)
   sent_word = sent.turns ∙ (λ j. slice_set (c.load_turn.ensures.same.1 j).turns (is.owner j) (2 * is.rank j + 2))
@@ -132,10 +140,12 @@ returns-then-load_turn-info g c = record {
   done = λ done. let e = is g c in let low = left g c in
       let past = not_left (k g c) c.args.n (info g c) e.here (own g c) e.ranked e.sender (before g c).turns done in
       absurd (omega arith);
-  sends =
-      let e = is g c in let loaded = c.load_turn.ensures in let sent_ = known c.transmit-sending.new.cpu in
-      sends_if_left (k g c) c.args.n c.load_turn.result _ _ _ _ e.here (own g c) loaded.same.1 loaded.made
-      (inr ((let test = c.if-load_turn-info.true in let r = e.rank in omega arith), _, sent_, sent g c, c.drain.ensures.steps));
+  makes =
+      let e = is g c in let loaded = c.load_turn.ensures in let answer = c.transmit-sending.result in let s = sent g c in
+      let send = coming (λ v w. (is_some (came_as (k g c).infos c.args.n answer) ≡ true) × (w.turns ≡ slice_set v.turns (owner_in (k g c).infos c.args.n) (2 * rank_in (k g c).infos c.args.n + 2)) × (w.trail ≡ trail_with (came_as (k g c).infos c.args.n answer) v))
+      (QueueXmit (k g c) c.args.n answer) (c.transmit-sending.ensures.makes (turn_is g c)) (s.came, s.turns, s.trail) in
+      sends_left (k g c) c.args.n c.load_turn.result _ e.here (own g c) answer (let test = c.if-load_turn-info.true in let r = e.rank in omega arith) loaded.makes
+      (and_then (Transmit (k g c) c.args.n answer) (Drain (k g c)) send c.drain.ensures.makes);
 }
 
 -- where it was transmitted before
@@ -153,8 +163,8 @@ returns-else-load_turn-info g c = record {
   sent =
       sent_same (setup c.args.shared.now) (view c.args.cpu.now) (view c.load_turn.new.cpu) c.load_turn.ensures.same.1;
   done = search rules;
-  sends =
-      let e = entry c.infos.ensures c.requires.packet c.requires.may.made in let loaded = c.load_turn.ensures in
-      sends_if_left (setup c.args.shared.now) c.args.n c.load_turn.result _ _ _ _ e.here (c.if-info-number.false ∙ c.number.ensures)
-      loaded.same.1 loaded.made (inl ((let test = c.if-load_turn-info.false in let r = e.rank in omega arith), refl));
+  makes =
+      let e = entry c.infos.ensures c.requires.packet c.requires.may.made in
+      sends_none (setup c.args.shared.now) c.args.n c.load_turn.result _ e.here (c.if-info-number.false ∙ c.number.ensures)
+      (let test = c.if-load_turn-info.false in let r = e.rank in omega arith) c.load_turn.ensures.makes;
 }

@@ -1,24 +1,27 @@
-use Rattle.std.proofs.Common.{◌≡◌, rules, false, refl, None, [], sym, ap, ◌∙◌, subst}
+use Rattle.std.proofs.Common.{◌≡◌, rules, ℕ, List, false, refl, None, [], ◌∷◌, sym, ap, ◌∙◌, subst}
 use Rattle.lq_model.specs.Account.{Account}
 use Rattle.lq_model.specs.declared.machine.Position.TheVariants.{Control}
 use Rattle.lq_table.specs.Controls.{begin_control_view}
-use Rattle.lq_table.specs.Views.{View, FirstPart, SharePart, first_account}
-use Rattle.lq_table.specs.Sees.{view, known, setup, position, IsElseSame, Solo, account_of, solo}
+use Rattle.lq_table.specs.Views.{View, FirstPart, Setup, SharePart, first_account}
+use Rattle.lq_table.specs.Sees.{view, setup, position, IsElseSame, Solo, account_of, solo}
 use Rattle.lq_table.specs.declared.shared.Cpu.{Cpu}
 use Rattle.lq_ring.proofs.Seats.{seat_on}
 use Rattle.lq_qdisc.specs.Alone.{account_in}
 use Rattle.lq_qdisc.specs.Sends.{IsReadyToSend}
 use Rattle.lq_qdisc.proofs.AloneSteps.{account_at}
-use Rattle.lq_qdisc.specs.StepLists.{LeadsBy}
+use Rattle.lq_table.specs.Step.{BeginControl, MakesSteps, Standing, Step}
+use Rattle.lq_ring.specs.StepLists.{MakesStepsFrom}
+use Rattle.lq_ring.proofs.StepsThen.{makes_none}
+use Rattle.lq_qdisc.specs.StepLists.{Then}
 use Rattle.lq_control.specs.Control.{IsServed}
-use Rattle.lq_control.specs.EndSteps.{Look, none_yet}
-use Rattle.lq_control.specs.Steps.{}
+use Rattle.lq_control.specs.EndSteps.{Look, ServeEach, ServeToEnd, ServedNone}
+use Rattle.lq_control.specs.Steps.{Drain, Finding}
 use Rattle.lq_control.specs.Ending.{IsEndedAlike}
 use Rattle.lq_control.specs.Finish.{IsLook, Shows}
 use Rattle.lq_control.specs.declared.finishes.Seen.{Seen}
 use Rattle.lq_control.specs.declared.finishes.Seen.TheVariants as seen
-use Rattle.lq_control.proofs.EndStepLemmas.{serves_more, serves_to_end}
-use Rattle.lq_control.proofs.StepLemmas.{steps_of}
+use Rattle.lq_control.proofs.EndStepLemmas.{serves_more}
+use Rattle.lq_control.proofs.StepLemmas.{and_then, coming, finds}
 use Rattle.lq_control.proofs.EndingLemmas.{alike_further, alike_same}
 use Rattle.lq_control.proofs.Keeps.{seat_then}
 use Rattle.lq_control.proofs.Looks.{IsLooked}
@@ -40,6 +43,17 @@ looked_at a b c same e look ready low =
       ap (λ (x : View). x.place.raised) f ∙ (ap (λ (x : View). x.place.raised) e ∙ low),
     )
 
+-- up to this look
+ends_at : {D : Type 0} {k : Setup} {found answer : Seen} {a b c d : Cpu D} → found ≡ answer → MakesStepsFrom (ServeEach k) a b → (n : ℕ) × MakesSteps (BeginControl n ∷ []) b c → MakesStepsFrom (λ s. Look k.queues found) c d
+    → IsServed (view a) (view d) → MakesStepsFrom (ServeToEnd k answer) a d
+ends_at {D} {k} {found} {answer} {a} {b} {c} {d} is serves begin looks served =
+    let look : Standing → List Step → Type 0 = λ s. Look k.queues found in
+    subst (λ (x : Seen). MakesStepsFrom (ServeToEnd k x) a d) is (coming IsServed (Then (ServeEach k) (Then (Finding BeginControl) look))
+    (and_then (ServeEach k) (Then (Finding BeginControl) look) serves (and_then (Finding BeginControl) look (finds BeginControl begin) looks)) served)
+
+drained_low : {D : Type 0} {k : Setup} {b a : Cpu D} → MakesStepsFrom (Drain k) b a → (view a).place.raised ≡ false
+drained_low m = ap (λ (v : View). v.place.raised) m.2.knows ∙ m.1.1
+
 pub loop-init : goal.loop-init
 loop-init g c = let v = view c.args.cpu.now in record {
   can = (search rules);
@@ -51,7 +65,7 @@ loop-init g c = let v = view c.args.cpu.now in record {
   low = c.requires.at.1;
   served = served_none v v refl;
   alike = λ h. alike_same c.args.shared.now.infos.now (first_account (setup c.args.shared.now)) (solo v) h;
-  on = none_yet;
+  on = ([], ServedNone, makes_none c.args.cpu.now);
 }
 
 pub irq-requires-clause-seat : goal.irq-requires-clause-seat
@@ -91,11 +105,10 @@ loop-preserved g c =
       same = (ids ∙ i.same.0, ids1 ∙ i.same.1);
       at = d.at.0;
       ready = d.at.1;
-      low = d.steps.1;
+      low = drained_low d.makes;
       served = served_then v0 v1 v6 i.served more;
       alike = λ h. alike_further infos start (solo v0) (solo v4) (subst (λ (s : Solo). IsEndedAlike infos start (solo v0) s) (sym same4) (i.alike h)) (ap (λ (s : Solo). s.raised) same4 ∙ i.low) (solo v5) (solo v6) active n.alone d.alone;
-      on = serves_more k c.irq.result (known c.args.cpu.now) (known c.loop.cpu) (known c.begin_control.new.cpu) (known c.look.new.cpu) (known c.end_control.new.cpu) (known c.irq.new.cpu) (known c.drain.new.cpu)
-          i.on b.view b.made (subst (λ (x : Seen). LeadsBy (λ s. Look k.queues x) (known c.begin_control.new.cpu) (known c.look.new.cpu)) c.in-Going.is (steps_of l.makes)) e.view e.made n.steps d.steps;
+      on = serves_more k c.irq.result i.on b.makes (subst (λ (x : Seen). MakesStepsFrom (λ s. Look k.queues x) c.begin_control.new.cpu c.look.new.cpu) c.in-Going.is l.makes) e.makes n.makes d.makes;
     }
 
 pub returns-in-Ended : goal.returns-in-Ended
@@ -106,7 +119,7 @@ returns-in-Ended g c =
       kept = l.kept;
       shows = subst (λ (x : Seen). Shows x (view c3)) c.in-Ended.is l.shows;
       alone = λ h. subst (λ (s : Solo). IsEndedAlike c.args.shared.now.infos.now (first_account (setup c.args.shared.now)) (solo (view c0)) s) (sym (solo_looked (view c1) (view c2) (view c3) b.view l.same.1)) (i.alike h);
-      serves = serves_to_end (setup c.args.shared.now) c.look.result seen.Ended (known c0) (known c1) (known c2) (known c3) c.in-Ended.is i.on b.view b.made (steps_of l.makes) (served_to_look (view c0) (view c1) (view c2) (view c3) i.served b.view l.same.1);
+      makes = ends_at c.in-Ended.is i.on b.makes l.makes (served_to_look (view c0) (view c1) (view c2) (view c3) i.served b.view l.same.1);
     }
 
 pub returns-in-Hung : goal.returns-in-Hung
@@ -117,5 +130,5 @@ returns-in-Hung g c =
       kept = l.kept;
       shows = subst (λ (x : Seen). Shows x (view c3)) c.in-Hung.is l.shows;
       alone = λ h. subst (λ (s : Solo). IsEndedAlike c.args.shared.now.infos.now (first_account (setup c.args.shared.now)) (solo (view c0)) s) (sym (solo_looked (view c1) (view c2) (view c3) b.view l.same.1)) (i.alike h);
-      serves = serves_to_end (setup c.args.shared.now) c.look.result seen.Hung (known c0) (known c1) (known c2) (known c3) c.in-Hung.is i.on b.view b.made (steps_of l.makes) (served_to_look (view c0) (view c1) (view c2) (view c3) i.served b.view l.same.1);
+      makes = ends_at c.in-Hung.is i.on b.makes l.makes (served_to_look (view c0) (view c1) (view c2) (view c3) i.served b.view l.same.1);
     }

@@ -1,19 +1,22 @@
-use Rattle.std.proofs.Common.{rules, ◌≡◌, ℕ, false, ap, ◌∙◌, subst}
+use Rattle.std.proofs.Common.{rules, ◌≡◌, ℕ, false, List, [], ◌∷◌, ap, ◌∙◌, subst}
 use Rattle.lq_model.specs.Account.{Resize}
 use Rattle.lq_table.specs.Locks.{locked_to}
-use Rattle.lq_table.specs.Sees.{known, setup, view, Solo, heard, solo}
+use Rattle.lq_table.specs.Sees.{view, Solo, heard, solo}
 use Rattle.lq_model.specs.declared.machine.Phase.TheVariants.{Purged}
-use Rattle.lq_control.specs.Steps.{ResizesAll}
+use Rattle.lq_ring.specs.StepLists.{MakesStepsFrom}
+use Rattle.lq_qdisc.specs.StepLists.{Then}
+use Rattle.lq_table.specs.Step.{MoveStation, Standing, Step, Unlock}
+use Rattle.lq_control.specs.Steps.{Only, ResizeRings, TakeLock}
 use Rattle.lq_ring.specs.Resized.{all_lost}
 use Rattle.lq_table.specs.Views.{View}
 use Rattle.lq_control.proofs.Keeps.{keeps_freed, keeps_resized, keeps_then, resized_from, seat_then}
-use Rattle.lq_control.proofs.StepLemmas.{freed, none_of, resizes_of, steps_of}
+use Rattle.lq_control.proofs.StepLemmas.{IsTurned, and_then, none_of, only, resized, turned_by}
 use Rattle.lq_control.proofs.resizes.relength.Given as given
 use Rattle.lq_control.proofs.resizes.relength.Goals as goal
 
 -- what the resize does of what the seat knows
-turned : (g : given.Over) (c : goal.After-release g) → ResizesAll (setup c.args.shared.now) c.args.len c.args.event c.resize_all.result (known c.take_lock.new.cpu) (known c.resize_all.new.cpu)
-turned g c = let e = c.resize_all.ensures in resizes_of e.held e.makes e.packets e.is_known e.knows e.counted
+turned : (g : given.Over) (c : goal.After-release g) → IsTurned c.args.len c.args.event c.resize_all.result c.take_lock.new.cpu c.resize_all.new.cpu
+turned g c = turned_by c.resize_all.ensures.resizes
 
 pub returns : goal.returns
 returns g c = record {
@@ -40,11 +43,13 @@ returns g c = record {
         ),
       );
   trail = search rules;
-  steps =
-      let r = turned g c in let len = c.args.len in
-      let phase : (view c.take_lock.new.cpu).control.phase ≡ Purged = ap (λ (x : View). x.control.phase) c.take_lock.ensures.got.1 ∙ c.requires.purged.0 in
+  makes =
+      let r = turned g c in let len = c.args.len in let event = c.args.event in let lock = c.take_lock.new.cpu in let new = c.resize_all.new.cpu in
+      let phase : (view lock).control.phase ≡ Purged = ap (λ (x : View). x.control.phase) c.take_lock.ensures.got.1 ∙ c.requires.purged.0 in
       let none : c.resize_all.result ≡ 0 = r.counted ∙ none_of len r.held (r.is_known.0 phase) in
-      (known c.take_lock.new.cpu, known c.resize_all.new.cpu, steps_of c.take_lock.ensures.makes, subst (λ (n : ℕ). ResizesAll (setup c.args.shared.now) len c.args.event n (known c.take_lock.new.cpu) (known c.resize_all.new.cpu)) none r, freed c.release.ensures.makes);
+      let turn : Standing → List Step → Type 0 = ResizeRings len event 0 in let ends : Standing → List Step → Type 0 = Only (MoveStation ∷ Unlock ∷ []) in
+      and_then (λ s. TakeLock) (Then turn ends) c.take_lock.ensures.makes
+      (and_then turn ends (subst (λ (n : ℕ). MakesStepsFrom (ResizeRings len event n) lock new) none (resized r)) (only c.release.ensures.makes));
   alone = λ sole.
       ap solo c.release.ensures.released
       ∙ (ap (λ v. locked_to false (solo v)) (turned g c).is ∙ ap (λ (s : Solo). locked_to false (heard (Resize c.args.len c.args.event) s)) (c.take_lock.ensures.sole sole).0);

@@ -1,29 +1,30 @@
-use Rattle.std.proofs.Common.{rules, ◌≡◌, ℕ, ◌<◌, true, [], ◌∷◌, None, refl, sym, ap, ◌∙◌, subst, arith}
+use Rattle.std.proofs.Common.{rules, ◌≡◌, ℕ, ◌<◌, true, List, ◌∷◌, None, refl, sym, ap, ◌∙◌, subst, arith}
 use Rattle.lq_model.specs.Account.{Resize}
 use Rattle.lq_model.specs.Alone.{changed}
 use Rattle.lq_model.specs.declared.plan.EventKind.TheVariants as kind
-use Rattle.lq_table.specs.Views.{View, FirstPart, HolderPart, first_account, Known}
+use Rattle.lq_table.specs.Views.{View, FirstPart, HolderPart, first_account}
 use Rattle.std.proofs.lemmas.Bool.Decides.{nat_tests}
 use Rattle.lq_band_laws.specs.Ring.{IsAtRest, at_start}
 use Rattle.lq_table.specs.Controls.{begin_control_view}
 use Rattle.lq_table.specs.Rule.{IsResting}
-use Rattle.lq_table.specs.Sees.{view, setup, known, IsSole, solo, heard}
+use Rattle.lq_table.specs.Sees.{view, setup, IsSole, solo, heard}
 use Rattle.lq_table.specs.Locks.{try_lock_view_in_control, locked_to}
 use Rattle.lq_run.specs.Runs.{ended}
 use Rattle.lq_run.proofs.Ends.{kept_ended, sole_ended}
 use Rattle.lq_ring.specs.Resized.{all_lost, having_resized}
-use Rattle.lq_qdisc.specs.StepLists.{LeadsBy}
+use Rattle.lq_run.specs.Steps.{End}
+use Rattle.lq_qdisc.specs.StepLists.{Then}
 use Rattle.lq_control.proofs.Alone.{resize_alone, resized_same, stepped_at}
-use Rattle.lq_table.specs.Step.{BeginControl}
-use Rattle.lq_control.specs.Steps.{ResizesAll, TakeLock, known_after}
+use Rattle.lq_table.specs.Step.{BeginControl, Standing, Step}
+use Rattle.lq_control.specs.Steps.{Finding, ResizeRings, TakeLock}
 use Rattle.lq_control.proofs.Keeps.{keeps_begun, keeps_ended, keeps_resized, keeps_then, resized_from, seat_then}
-use Rattle.lq_control.proofs.StepLemmas.{both, resizes_of, steps_of}
+use Rattle.lq_control.proofs.StepLemmas.{IsTurned, and_then, finds, resized, turned_by}
 use Rattle.lq_control.proofs.resizes.resize.Given as given
 use Rattle.lq_control.proofs.resizes.resize.Goals as goal
 
 -- what the resize does of what the seat knows
-turned : (g : given.Over) (c : goal.After-end_resize g) → ResizesAll (setup c.args.shared.now) c.args.len c.args.event c.resize_all-shrunk.result (known c.take_lock.new.cpu) (known c.resize_all-shrunk.new.cpu)
-turned g c = let e = c.resize_all-shrunk.ensures in resizes_of e.held e.makes e.packets e.is_known e.knows e.counted
+turned : (g : given.Over) (c : goal.After-end_resize g) → IsTurned c.args.len c.args.event c.resize_all-shrunk.result c.take_lock.new.cpu c.resize_all-shrunk.new.cpu
+turned g c = turned_by c.resize_all-shrunk.ensures.resizes
 
 pub returns : goal.returns
 returns g c =
@@ -61,15 +62,10 @@ returns g c =
           let got = c.take_lock.ensures.got in let r = turned g c in let len = c.args.len in let event = c.args.event in
           let is = resized_from len event (all_lost len r.held) got.0 (view c.begin_control.new.cpu) (view c.take_lock.new.cpu) (view c.resize_all-shrunk.new.cpu) got.1 r.is in
           (kept_ended c.end_resize.ensures.makes).0.9 ∙ (ap (λ (x : View). x.trail) is ∙ ap (λ (x : View). Resize len event ∷ x.trail) c.begin_control.ensures.view);
-      steps =
-          let first = c.begin_control.ensures in let e = c.end_resize.ensures.makes in let kept = kept_ended e in (
-            first.made.0,
-            known c.take_lock.new.cpu,
-            known c.resize_all-shrunk.new.cpu,
-            subst (λ (x : Known). LeadsBy (λ s. TakeLock) x (known c.take_lock.new.cpu)) (both (known c.begin_control.new.cpu) (known_after (BeginControl first.made.0 ∷ []) (known c.args.cpu.now)) first.view first.made.1) (steps_of c.take_lock.ensures.makes),
-            turned g c,
-            (record { calm = record { share = kept.0.1; state = kept.1; settled = kept.0.8 }; sole = sole_ended e }, steps_of e),
-          );
+      makes =
+          let turn : Standing → List Step → Type 0 = ResizeRings c.args.len c.args.event c.resize_all-shrunk.result in let ends : Standing → List Step → Type 0 = λ s. End in
+          and_then (Finding BeginControl) (Then (λ s. TakeLock) (Then turn ends)) (finds BeginControl c.begin_control.ensures.makes)
+          (and_then (λ s. TakeLock) (Then turn ends) c.take_lock.ensures.makes (and_then turn ends (resized (turned g c)) c.end_resize.ensures.makes));
       alone = (
         alone_,
         λ plan h.
@@ -89,6 +85,6 @@ end_resize-requires-clause-may g c _ _ = record {
   rests =
       let empty = empty-rests c.args.len c.requires.len.0 in
       subst (λ (h : HolderPart). IsResting h.size h.ends × (h.resizing ≡ None))
-      (sym (ap (λ (x : View). x.holder) c.resize_all-shrunk.ensures.knows)) ((empty, empty, empty), refl);
+      (sym (ap (λ (x : View). x.holder) c.resize_all-shrunk.ensures.resizes.2)) ((empty, empty, empty), refl);
   back = search rules;
 }

@@ -1,13 +1,15 @@
 use Rattle.std.proofs.Common.{false, true, List, ◌∷◌, sym, ap, ◌∙◌, subst}
 use Rattle.lq_table.specs.Views.{first_account}
-use Rattle.lq_table.specs.Sees.{view, setup, known, Solo, heard, solo}
+use Rattle.lq_table.specs.Sees.{view, setup, Solo, heard, solo}
 use Rattle.lq_table.specs.Locks.{locked_to}
 use Rattle.lq_model.specs.Account.{Event, Resize, Up}
 use Rattle.lq_model.specs.Alone.{changed}
 use Rattle.lq_model.specs.declared.plan.EventKind.TheVariants as kind
 use Rattle.lq_qdisc.specs.Alone.{HasAll}
 use Rattle.lq_control.proofs.Keeps.{keeps_reopened, keeps_served, keeps_then, reopened_at, reopened_trail, seat_then}
-use Rattle.lq_control.proofs.StepLemmas.{reopened}
+use Rattle.lq_qdisc.specs.StepLists.{Then}
+use Rattle.lq_control.specs.Steps.{Deactivate, DevDeactivateMany, Reactivate, Relength, WaitUntilClear}
+use Rattle.lq_control.proofs.StepLemmas.{and_then, reactivated}
 use Rattle.lq_control.proofs.Alone.{downed, downed_at, relength_alone, stepped_at}
 use Rattle.lq_control.proofs.resizes.tx_queue_len.Goals as goal
 
@@ -24,13 +26,10 @@ returns g c = record {
   trail =
       reopened_trail (view c.relength.new.cpu) (view c.clear_deactivated.new.cpu) (view c.end_control.new.cpu) c.clear_deactivated.ensures.view c.end_control.ensures.view
       ∙ ap (λ (es : List Event). Up ∷ es) (c.relength.ensures.trail ∙ ap (λ (es : List Event). Resize c.args.len c.args.event ∷ es) (c.wait_until_clear.ensures.served.trail ∙ c.deactivate-purged.ensures.trail));
-  steps = (
-    known c.wait_until_clear.new.cpu,
-    known c.relength.new.cpu,
-    (known c.deactivate-purged.new.cpu, c.deactivate-purged.ensures.steps, c.wait_until_clear.ensures.steps),
-    c.relength.ensures.steps,
-    reopened c.clear_deactivated.ensures.makes c.end_control.ensures.makes,
-  );
+  makes = let k = setup c.args.shared.now in let event = c.args.event in let len = c.args.len in let count = c.deactivate-purged.result in
+      and_then (DevDeactivateMany k event count) (Then (Relength event len) Reactivate)
+      (and_then (Deactivate event count) (λ s. WaitUntilClear k s true) c.deactivate-purged.ensures.makes c.wait_until_clear.ensures.makes)
+      (and_then (Relength event len) Reactivate c.relength.ensures.makes (reactivated c.clear_deactivated.ensures.makes c.end_control.ensures.makes));
   alone = λ plan h.
       let infos = c.args.shared.now.infos.now in let start = first_account (setup c.args.shared.now) in let v = solo (view c.args.cpu.now) in let len = c.args.len in let event = c.args.event in
       let down = downed_at (setup c.args.shared.now) event (view c.args.cpu.now) (view c.deactivate-purged.new.cpu) (view c.wait_until_clear.new.cpu) c.deactivate-purged.ensures.same.1.share c.requires.seat.2 h.sender.sole (c.deactivate-purged.ensures.alone h.sender.sole) c.wait_until_clear.ensures.alone in

@@ -3,12 +3,15 @@ use Rattle.lq_model.specs.Account.{Event, Swap, Up}
 use Rattle.lq_model.specs.Alone.{changed}
 use Rattle.lq_model.specs.declared.plan.EventKind.TheVariants as kind
 use Rattle.lq_table.specs.Views.{first_account}
-use Rattle.lq_table.specs.Sees.{view, known, setup, Solo, device_to, heard, solo}
+use Rattle.lq_table.specs.Sees.{view, setup, Solo, device_to, heard, solo}
 use Rattle.lq_table.specs.Locks.{locked_to}
 use Rattle.lq_table.specs.Rule.{units_of}
 use Rattle.lq_qdisc.specs.Alone.{HasAll}
 use Rattle.lq_control.proofs.Keeps.{keeps_reopened, reopened_at, reopened_trail, seat_then}
-use Rattle.lq_control.proofs.StepLemmas.{reopened}
+use Rattle.lq_qdisc.specs.StepLists.{Then}
+use Rattle.lq_table.specs.Step.{Standing, Step}
+use Rattle.lq_control.specs.Steps.{ChangeDevice, Deactivate, DevDeactivateMany, Reactivate, WaitUntilClear}
+use Rattle.lq_control.proofs.StepLemmas.{and_then, reactivated}
 use Rattle.lq_control.proofs.Alone.{downed, downed_at, stepped_at, swap_alone}
 use Rattle.lq_control.proofs.swaps.swap.Goals as goal
 
@@ -41,14 +44,12 @@ returns g c = record {
   trail =
       reopened_trail (view c.swap_device-old.new.cpu) (view c.clear_deactivated.new.cpu) (view c.end_control.new.cpu) c.clear_deactivated.ensures.view c.end_control.ensures.view
       ∙ ap (λ (es : List Event). Up ∷ es) (c.swap_device-old.ensures.trail ∙ ap (λ (es : List Event). Swap c.args.unit ∷ es) (c.wait_until_clear.ensures.served.trail ∙ c.deactivate.ensures.trail));
-  steps = (
-    known c.wait_until_clear.new.cpu,
-    known c.swap_device-old.new.cpu,
-    c.deactivate.result,
-    (known c.deactivate.new.cpu, c.deactivate.ensures.steps, c.wait_until_clear.ensures.steps),
-    c.swap_device-old.ensures.steps,
-    reopened c.clear_deactivated.ensures.makes c.end_control.ensures.makes,
-  );
+  makes = let k = setup c.args.shared.now in let event = c.args.event in let count = c.deactivate.result in
+      let change : Standing → List Step → Type 0 = ChangeDevice k c.args.unit (g.D.TxDevice.state c.args.device) (g.D.TxDevice.state c.swap_device-old.result) in
+      let t = and_then (DevDeactivateMany k event count) (Then change Reactivate)
+      (and_then (Deactivate event count) (λ s. WaitUntilClear k s true) c.deactivate.ensures.makes c.wait_until_clear.ensures.makes)
+      (and_then change Reactivate c.swap_device-old.ensures.makes (reactivated c.clear_deactivated.ensures.makes c.end_control.ensures.makes)) in
+      (t.0, (count, t.1), t.2);
   alone = λ plan params is_unit told h.
       let infos = c.args.shared.now.infos.now in let start = first_account (setup c.args.shared.now) in let v = solo (view c.args.cpu.now) in let unit = c.args.unit in let event = c.args.event in let device = (g.D.TxDevice.state c.args.device) in
       let down = downed_at (setup c.args.shared.now) event (view c.args.cpu.now) (view c.deactivate.new.cpu) (view c.wait_until_clear.new.cpu) c.deactivate.ensures.same.1.share c.requires.seat.2 h.sender.sole (c.deactivate.ensures.alone h.sender.sole) c.wait_until_clear.ensures.alone in

@@ -6,14 +6,14 @@ use Rattle.lq_table.specs.Views.{View, HolderPart, Setup, WholePart, no_station,
 use Rattle.lq_table.specs.Locks.{try_lock_view_in_control, locked_to}
 use Rattle.lq_table.specs.Rule.{shown, station_count, units_of}
 use Rattle.lq_table.specs.Controls.{IsSwap, swap_view}
-use Rattle.lq_table.specs.Sees.{view, known, setup, Solo, device_to, heard, solo}
+use Rattle.lq_table.specs.Sees.{view, setup, Solo, device_to, heard, solo}
 use Rattle.lq_model.specs.Account.{Swap}
 use Rattle.lq_control.specs.Control.{all_opened, with_lock_free}
-use Rattle.lq_table.specs.Step.{MoveStation, SetStation, SwapDevice, Unlock, standing}
-use Rattle.lq_run.proofs.StepsThen.{makes_then}
-use Rattle.lq_control.specs.Steps.{open_steps}
+use Rattle.lq_table.specs.Step.{MoveStation, SetStation, SwapDevice, Unlock}
+use Rattle.lq_table.proofs.StepsThen.{makes_then}
+use Rattle.lq_control.specs.Steps.{TakeLock, open_steps}
 use Rattle.lq_control.proofs.Keeps.{seat_then}
-use Rattle.lq_control.proofs.StepLemmas.{station_set, steps_of}
+use Rattle.lq_control.proofs.StepLemmas.{and_then, station_set}
 use Rattle.lq_control.proofs.swaps.swap_device.Goals as goal
 
 pub swap-requires-clause-station : goal.swap-requires-clause-station
@@ -67,23 +67,14 @@ returns g c = record {
       got.1 (ap (λ (x : Known). x.view) (station_set (c.change_device-old.ensures.makes (view c.take_lock.new.cpu).holder c.take_lock.ensures.station.1))) c.swap.ensures.view opened.1 c.release.ensures.released in
       ap (λ (x : View). x.trail) e
       ∙ ap (λ (o : Option StationState). Swap (unwrap_or o no_station).unit ∷ v.trail) (c.change_device-old.ensures.makes (view c.take_lock.new.cpu).holder c.take_lock.ensures.station.1).carries;
-  steps =
-      let locked = known c.take_lock.new.cpu in let at = c.take_lock.ensures.station.1 in let changed = c.change_device-old.ensures.makes locked.view.holder at in
-      let m = makes_then (makes_then (makes_then changed c.swap.ensures.makes) c.open_queues.ensures.makes) c.release.ensures.makes in record {
-        locked = locked;
-        takes = steps_of c.take_lock.ensures.makes;
-        goes = c.change_device-old.ensures.went locked.view.holder at;
-        swaps = (
-          standing c.take_lock.new.cpu,
-          SetStation (with_device (shown locked.view.holder) c.args.unit (g.D.TxDevice.state c.args.device)) ∷ SwapDevice ∷ open_steps (c.args.shared.now.queues - 1) ++ MoveStation ∷ Unlock ∷ [],
-          refl,
-          refl,
-          refl,
-          m.knows,
-          m.made,
-          m.told,
-        );
-      };
+  makes =
+      let h = (view c.take_lock.new.cpu).holder in let at = c.take_lock.ensures.station.1 in let changed = c.change_device-old.ensures.makes h at in let unit = c.args.unit in
+      let came = g.D.TxDevice.state c.args.device in
+      let m = makes_then (makes_then (makes_then changed c.swap.ensures.makes) c.open_queues.ensures.makes) c.release.ensures.makes in
+      let steps = SetStation (with_device (shown h) unit came) ∷ SwapDevice ∷ open_steps (c.args.shared.now.queues - 1) ++ MoveStation ∷ Unlock ∷ [] in
+      and_then (λ s. TakeLock) (λ before xs. (g.D.TxDevice.state c.change_device-old.result ≡ before.view.holder.station.device)
+      × (xs ≡ SetStation (with_device (shown before.view.holder) unit came) ∷ SwapDevice ∷ open_steps (c.args.shared.now.queues - 1) ++ MoveStation ∷ Unlock ∷ []))
+      c.take_lock.ensures.makes (steps, (c.change_device-old.ensures.went h at, refl), m);
   alone = λ sole.
       let h = (view c.take_lock.new.cpu).holder in let changed = (c.change_device-old.ensures.makes h c.take_lock.ensures.station.1).carries in let before = view c.change_device-old.new.cpu in
       let device = (g.D.TxDevice.state c.args.device) in

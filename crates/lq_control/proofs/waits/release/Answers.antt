@@ -1,5 +1,5 @@
 use Rattle.std.proofs.Common.{rules}
-use Rattle.lq_run.proofs.StepsThen.{makes_then}
+use Rattle.lq_table.proofs.StepsThen.{makes_then}
 use Rattle.lq_control.proofs.waits.release.Goals as goal
 
 pub returns : goal.returns

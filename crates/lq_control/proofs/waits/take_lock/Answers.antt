@@ -3,7 +3,7 @@ use Rattle.lq_device.specs.Station.{StationState}
 use Rattle.lq_model.specs.declared.machine.Position.{Position}
 use Rattle.lq_model.specs.declared.machine.Position.TheVariants.{Control}
 use Rattle.lq_ring.proofs.Seats.{seat_on}
-use Rattle.lq_run.proofs.StepsThen.{makes_then}
+use Rattle.lq_table.proofs.StepsThen.{makes_then}
 use Rattle.lq_run.proofs.Tried.{tries}
 use Rattle.lq_table.specs.Rule.{shown, units_of}
 use Rattle.lq_table.specs.Sees.{view, IsAccounts, IsSole, solo}

@@ -2,7 +2,7 @@ use Rattle.std.proofs.Common.{rules, ℕ, [], ◌∷◌, ◌++◌, Option, Some,
 use Rattle.std.specs.Option.{unwrap_or}
 use Rattle.lq_device.specs.Station.{StationState, with_slot}
 use Rattle.lq_ring.specs.StepLists.{MakesStepsFrom}
-use Rattle.lq_run.proofs.StepsThen.{makes_then}
+use Rattle.lq_table.proofs.StepsThen.{makes_then}
 use Rattle.lq_table.specs.Sees.{view, carried, packet_at}
 use Rattle.lq_table.specs.Step.{LoadXoff, MakesSteps, SetMissed, SetStation}
 use Rattle.lq_table.specs.Views.{no_station}
@@ -57,17 +57,9 @@ returns g c = record {
       (LoadXoff q 0 ∷ m.0, IsOffered (from_there (λ s xs. StartXmit queues n q s c.start_xmit.result xs) loaded m.1), makes_then loaded m.2);
 }
 
-pub start_xmit-requires-clause-may : goal.start_xmit-requires-clause-may
-start_xmit-requires-clause-may g c κs within = record {
-  packet = search rules;
-  queue_is = search rules;
-  at = search rules;
-  serving = search rules;
-  hand = search rules;
-  room = search rules;
-  running = search rules;
-  is_open = sees_open c.queue_of-queue.result c.load_xoff.result (packet_at c.args.shared.now c.args.n) c.requires.may.0 c.args.cpu.now c.load_xoff.new.cpu c.if-load_xoff-ne0.false c.requires.may.1.at c.requires.may.1.serving.3 c.load_xoff.ensures.view c.load_xoff.ensures.sole;
-}
+pub start_xmit-requires-clause-is_open : goal.start_xmit-requires-clause-is_open
+start_xmit-requires-clause-is_open g c κs within =
+    sees_open c.queue_of-queue.result c.load_xoff.result (packet_at c.args.shared.now c.args.n) c.requires.may.0 c.args.cpu.now c.load_xoff.new.cpu c.if-load_xoff-ne0.false c.requires.may.1.at c.requires.may.1.serving.3 c.load_xoff.ensures.view c.load_xoff.ensures.sole
 
 pub load_xoff-requires-clause-slot : goal.load_xoff-requires-clause-slot
 load_xoff-requires-clause-slot g c _ _ = carries_slot c.args.cpu.now c.requires.may.1.serving

@@ -3,7 +3,7 @@ use Rattle.lq_model.specs.Account.{Event, Stop}
 use Rattle.lq_model.specs.declared.machine.Position.TheVariants.{StoreXoff}
 use Rattle.lq_table.specs.Views.{View, HolderPart, Setup}
 use Rattle.lq_table.specs.Sees.{view, position, Solo, heard, solo}
-use Rattle.lq_run.proofs.StepsThen.{makes_then}
+use Rattle.lq_table.proofs.StepsThen.{makes_then}
 use Rattle.lq_table.specs.Step.{MakesSteps}
 use Rattle.lq_qdisc.specs.Direct.{hung_below}
 use Rattle.lq_qdisc.specs.StepLists.{hung_steps}

@@ -1,4 +1,4 @@
-use Rattle.std.proofs.Common.{rules, ◌≡◌, Bool, true, false, not, sym, ap, ◌∙◌, subst, [], ◌∷◌}
+use Rattle.std.proofs.Common.{rules, ◌≡◌, Bool, true, not, sym, ap, ◌∙◌, subst, [], ◌∷◌}
 use Rattle.lq_ring.proofs.StepsThen.{makes_then}
 use Rattle.lq_run.specs.Steps.{MakesStepsOf}
 use Rattle.lq_table.specs.Step.{ClearSched, LoadState}

@@ -17,13 +17,14 @@ use Rattle.lq_qdisc.proofs.interrupts.irq.Goals.{then-opened, else-opened}
 pub returns : goal.returns
 returns g c =
     let q : c.loop-queue.queue ≡ c.args.shared.now.queues = omega arith in let k = setup c.args.shared.now in let old = c.args.cpu.now in let new = c.loop-queue.cpu in let opened = c.loop-queue.opened in
-    let all : WakesBelow k k.queues opened (known old) (known new) = leads (λ _. WakeEach k.queues opened) old new (subst (λ (n : ℕ). MakesStepsOf (WakeEach n opened) old new) q c.loop-queue.invariant.makes) in record {
+    let made : MakesStepsOf (WakeEach k.queues opened) old new = subst (λ (n : ℕ). MakesStepsOf (WakeEach n opened) old new) q c.loop-queue.invariant.makes in
+    let all : WakesBelow k k.queues opened (known old) (known new) = leads (λ _. WakeEach k.queues opened) old new made in record {
       kept = search rules;
       fates = search rules;
       at = search rules;
       ready = search rules;
       still = search rules;
-      steps = all;
+      makes = made;
       alone = irq_alone k c.args.shared.now.infos.now opened (view old) (view new) c.requires.seat.2 (below_view k k.queues opened (known old) (known new) all);
     }
 

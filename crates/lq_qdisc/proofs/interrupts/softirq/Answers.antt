@@ -1,11 +1,11 @@
-use Rattle.std.proofs.Common.{rules, sym, Bool, true, false, [], ◌∷◌, ◌++◌, ap, ◌∙◌, subst, refl}
+use Rattle.std.proofs.Common.{rules, sym, Bool, true, [], ◌∷◌, ◌++◌, ap, ◌∙◌, subst, refl}
 use Rattle.lq_ring.proofs.StepsThen.{makes_then}
 use Rattle.lq_table.specs.Sees.{view, known, setup}
 use Rattle.lq_table.specs.Step.{Enter, Leave, MakesSteps, standing}
 use Rattle.lq_run.specs.Steps.{MakesStepsOf}
 use Rattle.lq_qdisc.proofs.ViewRelations.{IsDue}
 use Rattle.lq_qdisc.specs.StepLists.{BeginSoftirq, IsDueNow, IsNotDue, NetTxAction, QdiscRun, Then}
-use Rattle.lq_qdisc.specs.Steps.{InterruptsBy}
+use Rattle.lq_ring.specs.StepLists.{MakesStepsFrom}
 use Rattle.lq_qdisc.proofs.ListLemmas.{from_there, leads, then_makes}
 use Rattle.lq_qdisc.proofs.AloneCalls.{softirq_alone}
 use Rattle.lq_qdisc.proofs.ViewLemmas.{due_view, interrupts_view}
@@ -20,8 +20,8 @@ pub returns : goal.returns
 returns g c =
     let k = setup c.args.shared.now in let b = c.args.cpu.now in let m = c.enter.new.cpu in let d = c.begin_softirq in let w = c.leave.new.cpu in let e = c.enter.ensures.makes in
     let due_is : IsDue d.result (view m) (view d.new.cpu) = subst (λ (v : View). IsDue d.result (view m) v) (sym d.ensures.makes.2.knows) (due_view (standing m) d.ensures.makes.1 d.ensures.makes.2.told) in
-    let all : InterruptsBy k (known b) (known w) =
-    leads (NetTxAction k) b w (elim c.if-begin_softirq.branch [
+    let made : MakesStepsFrom (NetTxAction k) b w =
+    elim c.if-begin_softirq.branch [
       | then-begin_softirq x ↦
           let due = subst (λ (on : Bool). MakesStepsOf (BeginSoftirq on) m d.new.cpu) x.if-begin_softirq.true d.ensures.makes in
           let t = then_makes {one = λ _. BeginSoftirq true} {two = QdiscRun k} m d.new.cpu x.qdisc_run.new.cpu due x.qdisc_run.ensures.makes in
@@ -31,7 +31,7 @@ returns g c =
           let t = subst (λ (on : Bool). MakesStepsOf (BeginSoftirq on) m d.new.cpu) x.if-begin_softirq.false d.ensures.makes in
           let ends = subst (λ (z : _). MakesSteps (Leave ∷ []) z w) x.cpu-is c.leave.ensures.makes in
           (Enter ∷ t.0 ++ Leave ∷ [], IsNotDue t.1, makes_then e (makes_then t.2 ends))
-    ]) in record {
+    ] in record {
       kept =
           let l = c.leave.ensures in let e = c.enter.ensures in let d = c.begin_softirq.ensures in let old = view c.enter.new.cpu in let new = view c.begin_softirq.new.cpu in let due = c.begin_softirq.result in
           let share = d.still.0.share ∙ ap (λ (v : View). v.share) e.view in
@@ -61,8 +61,8 @@ returns g c =
       at = search rules;
       ready = search rules;
       still = search rules;
-      steps = all;
+      makes = made;
       alone =
-          let i = interrupts_view (setup c.args.shared.now) (known c.args.cpu.now) (known c.leave.new.cpu) all in
+          let i = interrupts_view (setup c.args.shared.now) (known c.args.cpu.now) (known c.leave.new.cpu) (leads (NetTxAction k) b w made) in
           softirq_alone (setup c.args.shared.now) c.args.shared.now.infos.now (view c.args.cpu.now) i.0 (view c.leave.new.cpu) c.requires.seat.2 c.requires.ready.1 c.requires.raised i.1 i.3;
     }

@@ -1,17 +1,12 @@
-use Rattle.std.proofs.Common.{rules, ◌≡◌, ℕ, ◌+◌, ◌<◌, List, [], ◌∷◌, ◌++◌, Ok, Err, length, get_or, sym, ap, ◌∙◌, subst}
+use Rattle.std.proofs.Common.{rules, ◌≡◌, ℕ, ◌<◌, List, [], ◌∷◌, ◌++◌, Ok, Err, length, get_or, sym, ap, ◌∙◌, subst}
 use Rattle.std.specs.Option.{option_map_or}
 use Rattle.std.specs.Prelude.{Option}
 use Rattle.std.proofs.lemmas.Option.{slice_get-get_or}
 use Rattle.lq_model.specs.Plan.{band_in}
 use Rattle.lq_model.specs.declared.fate.Info.{Info}
-use Rattle.lq_table.specs.Sees.{view, solo}
-use Rattle.lq_table.specs.Producers.{SeesEnd}
-use Rattle.lq_table.specs.Fates.{settle_view_owed}
 use Rattle.lq_table.specs.Views.{View}
-use Rattle.lq_qdisc.specs.Outcomes.{Enqueues}
-use Rattle.lq_qdisc.specs.declared.answers.Sending.TheVariants as sending
 use Rattle.lq_model.specs.declared.fate.Fate.TheVariants as fate
-use Rattle.lq_run.proofs.StepsThen.{makes_then}
+use Rattle.lq_table.proofs.StepsThen.{makes_then}
 use Rattle.lq_ring.specs.StepLists.{Produce}
 use Rattle.lq_table.specs.Step.{Settle}
 use Rattle.lq_qdisc.specs.StepLists.{DropsFull, PutsIn}
@@ -28,10 +23,6 @@ pub returns-in-Ok : goal.returns-in-Ok
 returns-in-Ok g c = record {
   same = search rules;
   at = search rules;
-  came =
-      let e = c.in-Ok.ensures in
-      subst (λ (b : ℕ). Enqueues c.args.n b sending.Queued (view c.args.cpu.now) (view c.produce.new.cpu))
-      (band_read c.args.shared.now.infos.now c.infos.result.now c.args.n _ c.infos.ensures c.requires.may.1.brings.0) (e.knows, e.sole, e.step);
   makes =
       let m = c.in-Ok.ensures.makes in
       (m.0, PutsIn (subst (λ (b : ℕ). Produce b c.args.n (Ok tt) m.0) (band_read c.args.shared.now.infos.now c.infos.result.now c.args.n _ c.infos.ensures c.requires.may.1.brings.0) m.1), m.2);
@@ -41,12 +32,6 @@ pub returns-in-Err : goal.returns-in-Err
 returns-in-Err g c = record {
   same = search rules;
   at = search rules;
-  came =
-      let e = c.in-Err.ensures in let s = c.settle.ensures in let full = view c.produce.new.cpu in let seen = c.in-Err.full.seen in
-      let settled : view c.settle.new.cpu ≡ settle_view_owed full = s.settled in let step : solo (view c.settle.new.cpu) ≡ solo full = s.step in
-      let sees = subst (λ (b : ℕ). SeesEnd b (view c.args.cpu.now) (seen + 1))
-      (band_read c.args.shared.now.infos.now c.infos.result.now c.args.n _ c.infos.ensures c.requires.may.1.brings.0) e.sole in
-      (settled ∙ ap settle_view_owed e.knows, sees, step ∙ e.step);
   makes =
       let m = c.in-Err.ensures.makes in let full = c.in-Err.full in (
         m.0 ++ Settle c.args.n (fate.Full full.seen) ∷ [],
@@ -55,11 +40,18 @@ returns-in-Err g c = record {
       );
 }
 
-pub produce-requires-clause-may : goal.produce-requires-clause-may
-produce-requires-clause-may g c _ _ = record {
-  below = let p = c.requires.may.1.brings in subst (λ (b : ℕ). b < 3) (sym (band_read c.args.shared.now.infos.now c.infos.result.now c.args.n _ c.infos.ensures p.0)) p.1;
-  at = (c.requires.may.0, c.requires.may.1.at);
-  packet =
-      let p = c.requires.may.1.brings in ((p.2, sym (band_read c.args.shared.now.infos.now c.infos.result.now c.args.n _ c.infos.ensures p.0)), p.3);
-  idle = c.requires.may.1.holds;
-}
+pub produce-requires-clause-below : goal.produce-requires-clause-below
+produce-requires-clause-below g c _ _ =
+    let p = c.requires.may.1.brings in subst (λ (b : ℕ). b < 3) (sym (band_read c.args.shared.now.infos.now c.infos.result.now c.args.n _ c.infos.ensures p.0)) p.1
+
+pub produce-requires-clause-at : goal.produce-requires-clause-at
+produce-requires-clause-at g c _ _ =
+    (c.requires.may.0, c.requires.may.1.at)
+
+pub produce-requires-clause-packet : goal.produce-requires-clause-packet
+produce-requires-clause-packet g c _ _ =
+    let p = c.requires.may.1.brings in ((p.2, sym (band_read c.args.shared.now.infos.now c.infos.result.now c.args.n _ c.infos.ensures p.0)), p.3)
+
+pub produce-requires-clause-idle : goal.produce-requires-clause-idle
+produce-requires-clause-idle g c _ _ =
+    c.requires.may.1.holds

@@ -6,8 +6,8 @@ use Rattle.lq_table.specs.Sees.{setup}
 use Rattle.lq_table.specs.Step.{LoadState, Standing, Step}
 use Rattle.lq_table.specs.Views.{Setup, View}
 use Rattle.lq_table.specs.States.{some_bit}
-use Rattle.lq_qdisc.specs.StepLists.{EndsAfter, EndsAtOnce, Release, RunAfterBypass, RunToEnd, ServesAfter}
-use Rattle.lq_qdisc.proofs.LockLemmas.{releases}
+use Rattle.lq_qdisc.specs.StepLists.{EndsAfter, EndsAtOnce, RunAfterBypass, RunToEnd, ServesAfter}
+use Rattle.lq_run.specs.Steps.{End, MakesStepsOf}
 use Rattle.lq_qdisc.proofs.ListLemmas.{from_there}
 use Rattle.lq_qdisc.specs.declared.answers.Through.{Through}
 use Rattle.lq_qdisc.specs.declared.answers.Through.TheVariants.{Back, Yes}
@@ -38,32 +38,28 @@ returns-then-is_non_empty g c =
 pub run_to_end-requires-clause-seat : goal.run_to_end-requires-clause-seat
 run_to_end-requires-clause-seat g c _ _ = let l = c.load_state.ensures in seat_same c.args.shared.now c.args.cpu.now c.load_state.new.cpu l.same.0 (ap (λ (v : View). v.share) l.view) c.requires.seat
 
-pub run_to_end-requires-clause-may : goal.run_to_end-requires-clause-may
-run_to_end-requires-clause-may g c _ _ = let l = c.load_state.ensures in record {
-  at = search rules;
-  serves = record {
-    serving = serving_same c.args.cpu.now c.load_state.new.cpu l.same.3 l.same.1 (ap (λ (v : View). v.holder) l.view) (ap (λ (v : View). v.locks) l.view) c.requires.may.serving;
-    hand = search rules;
-    slot = search rules;
-  };
-  begun = search rules;
+pub run_to_end-requires-clause-serves : goal.run_to_end-requires-clause-serves
+run_to_end-requires-clause-serves g c _ _ = let l = c.load_state.ensures in record {
+  serving = serving_same c.args.cpu.now c.load_state.new.cpu l.same.3 l.same.1 (ap (λ (v : View). v.holder) l.view) (ap (λ (v : View). v.locks) l.view) c.requires.serving;
+  hand = search rules;
+  slot = search rules;
 }
 
 -- a packet that wasn't accepted
-ends_back : {k : Setup} {before : Standing} {xs : List Step} (t : Through) → t ≢ Yes → Release before xs → RunAfterBypass k before t xs
+ends_back : {k : Setup} {before : Standing} {xs : List Step} (t : Through) → t ≢ Yes → End xs → RunAfterBypass k before t xs
 ends_back Yes other r = absurd (other refl)
 ends_back (Back reason) other r = EndsAtOnce r
 
 pub returns-else-eq : goal.returns-else-eq
 returns-else-eq g c =
     let k = setup c.args.shared.now in let b = c.args.cpu.now in let a = c.end.new.cpu in let kept = kept_ended c.end.ensures.makes in
-    let ends : MakesStepsFrom Release c.else-eq.cpu a = releases c.else-eq.cpu a c.end.ensures.makes in
+    let ends : MakesStepsOf End c.else-eq.cpu a = c.end.ensures.makes in
     let makes_ : MakesStepsFrom (λ s. RunAfterBypass k s c.args.through) b a = elim c.else-eq.branch [
       | else-eq-via-then-eq+else-is_non_empty w ↦
-          let l = w.load_state in let r = subst (λ z. MakesStepsFrom Release z a) w.cpu-is ends in let is : c.args.through ≡ Yes = (search rules) in
+          let l = w.load_state in let r = subst (λ z. MakesStepsOf End z a) w.cpu-is ends in let is : c.args.through ≡ Yes = (search rules) in
           subst (λ (t : Through). MakesStepsFrom (λ s. RunAfterBypass k s t) b a) (sym is)
-          (LoadState l.result ∷ r.0, EndsAfter (sym w.is_non_empty.ensures ∙ w.if-is_non_empty.false) (from_there Release l.ensures.makes r.1), makes_then l.ensures.makes r.2)
+          (LoadState l.result ∷ r.0, EndsAfter (sym w.is_non_empty.ensures ∙ w.if-is_non_empty.false) r.1, makes_then l.ensures.makes r.2)
       | else-eq-via-else-eq w ↦
-          let r = subst (λ z. MakesStepsFrom Release z a) w.cpu-is ends in let other : c.args.through ≢ Yes = (search rules) in
+          let r = subst (λ z. MakesStepsOf End z a) w.cpu-is ends in let other : c.args.through ≢ Yes = (search rules) in
           (r.0, ends_back c.args.through other r.1, r.2)
     ] in record { kept = search rules; fates = search rules; at = search rules; free = search rules; came = search rules; makes = makes_ }

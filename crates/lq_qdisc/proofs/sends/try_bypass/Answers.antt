@@ -1,13 +1,14 @@
-use Rattle.std.proofs.Common.{inl, inr, ap, ◌∙◌}
+use Rattle.std.proofs.Common.{false, true, inl, inr, ap, ◌∙◌}
 use Rattle.lq_run.specs.Runs.{after_got, after_missed}
 use Rattle.lq_run.proofs.Begins.{kept_begun}
+use Rattle.lq_run.specs.Steps.{Begin}
 use Rattle.lq_table.specs.Sees.{setup, view}
 use Rattle.lq_table.specs.Views.{HolderPart}
 use Rattle.lq_qdisc.specs.StepLists.{BypassLocked, EnqueueAndRun}
 use Rattle.lq_qdisc.proofs.ListLemmas.{then_makes}
 use Rattle.lq_qdisc.proofs.SendLemmas.{LeavesTheRest, brings_then}
 use Rattle.lq_qdisc.proofs.TakeLemmas.{seat_same}
-use Rattle.lq_qdisc.proofs.LockLemmas.{brings_begun, gets_lock, misses, serves_begun}
+use Rattle.lq_qdisc.proofs.LockLemmas.{begins_as, brings_begun, serves_begun}
 use Rattle.lq_qdisc.proofs.sends.try_bypass.Goals as goal
 
 pub returns-then-begin : goal.returns-then-begin
@@ -15,14 +16,14 @@ returns-then-begin g c =
     let b = c.begin.ensures in let k = (kept_begun b.makes).0 in let r = c.bypass_locked in
     let calm : LeavesTheRest c.args.cpu.now c.begin.new.cpu = record { seat = k.0; share = k.1; packets = k.2; control = k.4; turns = k.7; trail = k.9; told = k.5; settled = k.8 } in
     brings_then c.args.shared.now.infos.now c.args.n r.result c.args.cpu.now c.begin.new.cpu r.new.cpu calm r.ensures
-    (let m = then_makes {two = λ s. BypassLocked (setup c.args.shared.now) c.args.n s r.result} c.args.cpu.now c.begin.new.cpu r.new.cpu (gets_lock c.args.cpu.now c.begin.new.cpu c.begin.result c.if-begin.true (b.got c.if-begin.true).0 b.makes) r.ensures.makes in (m.0, inr m.1, m.2))
+    (let m = then_makes {one = λ s. Begin true} {two = λ s. BypassLocked (setup c.args.shared.now) c.args.n s r.result} c.args.cpu.now c.begin.new.cpu r.new.cpu (begins_as true c.args.cpu.now c.begin.new.cpu c.if-begin.true b.makes) r.ensures.makes in (m.0, inr m.1, m.2))
 
 pub returns-else-begin : goal.returns-else-begin
 returns-else-begin g c =
     let b = c.begin.ensures in let k = (kept_begun b.makes).0 in let r = c.enqueue_and_run in
     let calm : LeavesTheRest c.args.cpu.now c.begin.new.cpu = record { seat = k.0; share = k.1; packets = k.2; control = k.4; turns = k.7; trail = k.9; told = k.5; settled = k.8 } in
     brings_then c.args.shared.now.infos.now c.args.n r.result c.args.cpu.now c.begin.new.cpu r.new.cpu calm r.ensures
-    (let m = then_makes {two = EnqueueAndRun (setup c.args.shared.now) c.args.n r.result} c.args.cpu.now c.begin.new.cpu r.new.cpu (misses c.args.cpu.now c.begin.new.cpu c.begin.result c.if-begin.false (b.missed c.if-begin.false).0 b.makes) r.ensures.makes in (m.0, inl m.1, m.2))
+    (let m = then_makes {one = λ s. Begin false} {two = EnqueueAndRun (setup c.args.shared.now) c.args.n r.result} c.args.cpu.now c.begin.new.cpu r.new.cpu (begins_as false c.args.cpu.now c.begin.new.cpu c.if-begin.false b.makes) r.ensures.makes in (m.0, inl m.1, m.2))
 
 pub bypass_locked-requires-clause-seat : goal.bypass_locked-requires-clause-seat
 bypass_locked-requires-clause-seat g c _ _ = let k = (kept_begun c.begin.ensures.makes).0 in seat_same c.args.shared.now c.args.cpu.now c.begin.new.cpu k.0 k.1 c.requires.seat

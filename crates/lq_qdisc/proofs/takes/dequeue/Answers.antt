@@ -8,7 +8,7 @@ use Rattle.lq_qdisc.proofs.takes.dequeue.Goals as goal
 pub dequeue_requeued-requires-clause-slot : goal.dequeue_requeued-requires-clause-slot
 dequeue_requeued-requires-clause-slot g c κs within =
     let is = sym c.requeued.ensures ∙ c.in-Some.is in
-    (is, subst (λ (s : Option ℕ). IsKnownSlot (setup c.args.shared.now) s) is c.requires.may.slot)
+    (is, subst (λ (s : Option ℕ). IsKnownSlot (setup c.args.shared.now) s) is c.requires.serves.slot)
 
 pub returns-in-Some : goal.returns-in-Some
 returns-in-Some g c = record {

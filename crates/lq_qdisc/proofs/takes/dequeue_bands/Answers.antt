@@ -1,10 +1,12 @@
 use Rattle.std.proofs.Common.{rules, ◌≡◌, ℕ, [], ◌∷◌, ◌++◌, Bool, false, true, sym, ap, ◌∙◌, Option, Some, None}
-use Rattle.lq_run.proofs.StepsThen.{makes_then}
+use Rattle.std.specs.Option.{option_map_or}
+use Rattle.lq_qdisc.specs.declared.answers.Taken.TheVariants as taken
+use Rattle.lq_table.proofs.StepsThen.{makes_then}
 use Rattle.lq_ring.specs.StepLists.{MakesStepsFrom}
 use Rattle.lq_table.specs.States.{some_bit}
 use Rattle.lq_table.specs.Step.{ClearDraining, ClearMissed, LoadState, MakesSteps}
 use Rattle.lq_table.specs.declared.shared.Cpu.{Cpu}
-use Rattle.lq_qdisc.specs.StepLists.{FindsNothing, PfifoFastDequeue, ScanBands, ScansAgain, TakesAtOnce, taken_as}
+use Rattle.lq_qdisc.specs.StepLists.{FindsNothing, PfifoFastDequeue, ScanBands, ScansAgain, TakesAtOnce}
 use Rattle.lq_qdisc.proofs.ListLemmas.{from_there}
 use Rattle.lq_qdisc.specs.Calls.{cleared}
 use Rattle.lq_table.specs.Sees.{view, Solo}
@@ -14,7 +16,7 @@ use Rattle.lq_qdisc.proofs.takes.dequeue_bands.Goals as goal
 -- the bands were found empty, and scanned once more after the clearing of both bits
 again_makes : {D : Type 0} (b m l w a : Cpu D) (found : Option ℕ) (answer : Bool) → answer ≡ true → MakesStepsFrom (λ s. ScanBands s None) b m
     → ((state : ℕ) × (answer ≡ some_bit state) × MakesSteps (LoadState state ∷ []) m l) → MakesSteps (ClearMissed ∷ ClearDraining ∷ []) l w
-    → MakesStepsFrom (λ s. ScanBands s found) w a → MakesStepsFrom (λ s. PfifoFastDequeue s (taken_as found)) b a
+    → MakesStepsFrom (λ s. ScanBands s found) w a → MakesStepsFrom (λ s. PfifoFastDequeue s (option_map_or (λ n. taken.Packet n) found taken.Empty)) b a
 again_makes b m l w a found answer set n loads clears again =
     let state = loads.0 in let before : MakesSteps (n.0 ++ LoadState state ∷ ClearMissed ∷ ClearDraining ∷ []) b w = makes_then n.2 (makes_then loads.2 clears) in (
       n.0 ++ LoadState state ∷ ClearMissed ∷ ClearDraining ∷ again.0,

@@ -9,7 +9,7 @@ use Rattle.lq_table.specs.Stops.{picking}
 use Rattle.lq_table.specs.Sees.{view, carried, account_of, solo}
 use Rattle.lq_qdisc.specs.Calls.{FindsPacket, FindsStopped, Picks, laid_aside}
 use Rattle.lq_qdisc.proofs.TakeLemmas.{carries_slot, carries_still, finds_stopped, kept_moved, kept_then, opened_at_dequeue, serving_same, serving_with, stop_is, stopped_at_dequeue}
-use Rattle.lq_run.proofs.StepsThen.{makes_then}
+use Rattle.lq_table.proofs.StepsThen.{makes_then}
 use Rattle.lq_device.specs.Station.{with_slot}
 use Rattle.lq_table.specs.Step.{LoadXoff, MakesSteps, SetStation}
 use Rattle.lq_qdisc.specs.StepLists.{FindsStop, FindsXoff, KeepsRequeued, TakesRequeued}

@@ -1,5 +1,5 @@
 use Rattle.std.proofs.Common.{rules, ℕ, [], ◌∷◌, sym, ap, ◌∙◌, subst}
-use Rattle.lq_run.proofs.StepsThen.{makes_then}
+use Rattle.lq_table.proofs.StepsThen.{makes_then}
 use Rattle.lq_table.specs.Step.{ClearMissed, LoadXoff, MakesSteps, SetDraining, SetMissed}
 use Rattle.lq_table.specs.Stops.{load_xoff_view}
 use Rattle.lq_table.specs.Views.{View}

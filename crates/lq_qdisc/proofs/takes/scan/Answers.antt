@@ -12,16 +12,10 @@ use Rattle.lq_qdisc.proofs.ListLemmas.{from_there}
 use Rattle.lq_qdisc.proofs.TakeLemmas.{none_more, empty_more, looking_here, lead_more, account_same, kept_then, kept_none, kept_take, run_none, run_take, sole_kept}
 use Rattle.lq_qdisc.proofs.takes.scan.Goals as goal
 
-pub consume-requires-clause-may : goal.consume-requires-clause-may
-consume-requires-clause-may g c κs within = record {
-  below = search rules;
-  at =
-      let at_ = c.requires.at in
-      (at_.0, c.loop-band.invariant.at at_.0 at_.1 ∙ looking_here c.loop-band.band at_.0 c.loop-band-test.true);
-  rests = search rules;
-  station = search rules;
-  idle = search rules;
-}
+pub consume-requires-clause-at : goal.consume-requires-clause-at
+consume-requires-clause-at g c κs within =
+    let at_ = c.requires.at in
+    (at_.0, c.loop-band.invariant.at at_.0 at_.1 ∙ looking_here c.loop-band.band at_.0 c.loop-band-test.true)
 
 pub loop-band-init : goal.loop-band-init
 loop-band-init g c = let below : MakesStepsFrom (λ s. EmptyBelow s 0) c.args.cpu.now c.args.cpu.now = ([], NoBand, makes_none c.args.cpu.now) in search rules

@@ -2,8 +2,8 @@ use Rattle.std.proofs.Common.{rules, ◌≡◌, ◌+◌, arith, ℕ, get_or, inr
 use Rattle.lq_table.specs.Views.{Work}
 use Rattle.lq_table.specs.Resizes.{is_member, out_of, hand_with}
 use Rattle.lq_table.specs.Sees.{view}
-use Rattle.lq_ring.specs.Work.{work_at, working, with_slots, zeroed_to}
-use Rattle.lq_ring.proofs.Works.{turner_chain, chain, work_back, zeroed_out, zeroed_next}
+use Rattle.lq_ring.specs.Work.{work_at, working, zeroed_to}
+use Rattle.lq_ring.proofs.Works.{turner_chain, chain, work_back, zeroed_out, zeroed_next, with_slots}
 use Rattle.lq_ring.proofs.StepsThen.{turns_none, turns_out, turns_then}
 use Rattle.lq_ring.proofs.moves.clear_stale.Goals as goal
 

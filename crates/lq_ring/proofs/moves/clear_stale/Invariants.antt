@@ -1,6 +1,7 @@
 use Rattle.std.proofs.Common.{◌≡◌}
 use Rattle.lq_table.specs.Sees.{view, IsSeatOf, IsElseSame}
-use Rattle.lq_ring.specs.Work.{work_at, working, with_slots, zeroed_to}
+use Rattle.lq_ring.specs.Work.{work_at, working, zeroed_to}
+use Rattle.lq_ring.proofs.Works.{with_slots}
 use Rattle.lq_ring.specs.StepLists.{MakesStepsFrom, TurnRing}
 use Rattle.lq_ring.proofs.moves.clear_stale.Given as goal
 

@@ -1,7 +1,7 @@
 use Rattle.std.proofs.Common.{◌≡◌, ◌≤◌, ◌+◌, drop, length}
 use Rattle.lq_table.specs.Sees.{view, IsSeatOf, IsElseSame}
-use Rattle.lq_ring.specs.Work.{work_at, working, having_settled, dropped_to}
-use Rattle.lq_ring.proofs.Works.{shrunk_to}
+use Rattle.lq_ring.specs.Work.{work_at, working}
+use Rattle.lq_ring.proofs.Works.{shrunk_to, having_settled, dropped_to}
 use Rattle.lq_ring.specs.StepLists.{MakesStepsFrom, TurnRing}
 use Rattle.lq_ring.proofs.moves.drop_rest.Given as goal
 

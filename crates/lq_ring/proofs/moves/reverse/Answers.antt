@@ -1,8 +1,8 @@
 use Rattle.std.proofs.Common.{rules, ◌≡◌, ◌+◌, ◌-◌, arith, ℕ, suc, sym, ap, ◌∙◌, subst, length, refl}
 use Rattle.lq_table.specs.Views.{Work}
 use Rattle.lq_table.specs.Sees.{view}
-use Rattle.lq_ring.specs.Work.{work_at, working, members_of, with_slots, exchanged, reversed_to}
-use Rattle.lq_ring.proofs.Works.{AreMembers, at_chain, turner_chain, chain, work_back, reversed_long, reversed_members}
+use Rattle.lq_ring.specs.Work.{work_at, working, exchanged, reversed_to}
+use Rattle.lq_ring.proofs.Works.{AreMembers, at_chain, turner_chain, chain, work_back, reversed_long, reversed_members, members_of, with_slots}
 use Rattle.lq_ring.proofs.StepsThen.{turns_none, turns_then}
 use Rattle.lq_ring.proofs.moves.reverse.Goals as goal
 

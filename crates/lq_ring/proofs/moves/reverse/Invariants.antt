@@ -1,6 +1,7 @@
 use Rattle.std.proofs.Common.{◌≡◌}
 use Rattle.lq_table.specs.Sees.{view, IsSeatOf, IsElseSame}
-use Rattle.lq_ring.specs.Work.{work_at, working, with_slots, reversed_to}
+use Rattle.lq_ring.specs.Work.{work_at, working, reversed_to}
+use Rattle.lq_ring.proofs.Works.{with_slots}
 use Rattle.lq_ring.specs.StepLists.{MakesStepsFrom, TurnRing}
 use Rattle.lq_ring.proofs.moves.reverse.Given as goal
 

@@ -1,8 +1,8 @@
 use Rattle.std.proofs.Common.{rules, ◌-◌, ◌/◌, arith, ℕ, sym, ap, ◌∙◌, subst, length, List}
 use Rattle.lq_table.specs.Views.{Work}
 use Rattle.lq_table.specs.Sees.{view}
-use Rattle.lq_ring.specs.Work.{work_at, members_of, with_slots, reversed_to}
-use Rattle.lq_ring.proofs.Works.{AreMembers, at_chain, turner_chain, chain, reversed_long, reversed_members}
+use Rattle.lq_ring.specs.Work.{work_at, reversed_to}
+use Rattle.lq_ring.proofs.Works.{AreMembers, at_chain, turner_chain, chain, reversed_long, reversed_members, members_of, with_slots}
 use Rattle.lq_ring.proofs.StepsThen.{turns_then}
 use Rattle.lq_ring.proofs.moves.rotate.Goals as goal
 

@@ -4,8 +4,8 @@ use Rattle.lq_model.specs.declared.fate.Fate.TheVariants as fate
 use Rattle.lq_table.specs.Views.{Work}
 use Rattle.lq_table.specs.Fates.{MayShrink}
 use Rattle.lq_table.specs.Sees.{view}
-use Rattle.lq_ring.specs.Work.{work_at, working, having_settled}
-use Rattle.lq_ring.proofs.Works.{settled_none, work_back, shrunk_is}
+use Rattle.lq_ring.specs.Work.{work_at, working}
+use Rattle.lq_ring.proofs.Works.{settled_none, work_back, shrunk_is, having_settled}
 use Rattle.lq_ring.proofs.StepsThen.{turns_none, turns_settled}
 use Rattle.lq_ring.proofs.moves.settle_word.Goals as goal
 

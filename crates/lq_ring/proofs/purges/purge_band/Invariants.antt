@@ -2,7 +2,7 @@ use Rattle.std.proofs.Common.{◌≡◌, ◌∷◌, List, Some}
 use Rattle.lq_table.specs.Views.{Left}
 use Rattle.lq_table.specs.Sees.{view, slot, IsSeatOf, IsSameSeat}
 use Rattle.lq_ring.specs.Take.{CarriesStation}
-use Rattle.lq_ring.specs.Purged.{IsPurgedTo}
+use Rattle.lq_ring.proofs.PurgeSteps.{IsPurgedTo}
 use Rattle.lq_table.specs.Step.{LoadSize, MakesSteps, Step, standing, step_leaves}
 use Rattle.lq_ring.specs.StepLists.{PurgeEach}
 use Rattle.lq_ring.proofs.purges.purge_band.Given as goal

@@ -1,15 +1,14 @@
-use Rattle.std.proofs.Common.{◌≡◌, [], ◌∷◌, ◌++◌, ap, ◌∙◌, sym, subst, Some}
+use Rattle.std.proofs.Common.{◌≡◌, [], ◌∷◌, ◌++◌, ap, ◌∙◌, sym, Some}
 use Rattle.std.specs.Prelude.{option_map}
 use Rattle.lq_device.specs.Station.{StationState, with_ends}
 use Rattle.lq_ring.specs.Put.{no_locks}
 use Rattle.lq_table.specs.Rule.{shown}
-use Rattle.lq_table.specs.Views.{Setup, View}
+use Rattle.lq_table.specs.Views.{View}
 use Rattle.lq_table.specs.Producers.{load_size_view}
-use Rattle.lq_table.specs.Sees.{view, setup}
-use Rattle.lq_table.specs.Step.{LoadSize, SetEnds, standing}
-use Rattle.lq_ring.specs.Resized.{HoldOwnPackets, IsKnownHeld, all_lost, having_resized, locked_three}
+use Rattle.lq_table.specs.Sees.{view}
+use Rattle.lq_table.specs.Step.{LoadSize, SetEnds}
+use Rattle.lq_ring.specs.Resized.{all_lost, having_resized, locked_three}
 use Rattle.lq_ring.specs.StepLists.{ResizesThree, unlock_steps}
-use Rattle.lq_ring.proofs.ListLemmas.{all_told}
 use Rattle.lq_ring.proofs.StepsThen.{makes_then}
 use Rattle.lq_ring.proofs.resize.resize_all.Goals as goal
 
@@ -23,18 +22,16 @@ returns g c =
     ∙ (u.1.knows
     ∙ (ap (λ (x : View). record x { locks = no_locks }) m.2.1
     ∙ (ap (λ (x : View). record (having_resized len event lost x) { locks = no_locks }) loaded
-    ∙ (λ j. record (having_resized len event lost v) { locks = sym c.requires.may.idle j })))) in
-    let about : (view c.load_size-size.new.cpu).share.about ≡ setup c.args.shared.now = ap (λ (x : View). x.share.about) loaded ∙ c.requires.seat.2 in
-    let told = all_told len event held _ _ _ m.1.0 m.1.1 (standing c.load_size-size.new.cpu) m.1.2.told in record {
-      held = held;
-      makes = (l.makes.0 ++ LoadSize z ∷ m.1.0 ++ unlock_steps u.0 t.low.index t.mid.index t.high.index ++ SetEnds 0 0 0 ∷ SetEnds 1 0 0 ∷ SetEnds 2 0 0 ∷ [], ResizesThree z u.0 l.makes.1 m.1.1, all);
+    ∙ (λ j. record (having_resized len event lost v) { locks = sym c.requires.idle j })))) in record {
+      resizes = (
+        held,
+        (l.makes.0 ++ LoadSize z ∷ m.1.0 ++ unlock_steps u.0 t.low.index t.mid.index t.high.index ++ SetEnds 0 0 0 ∷ SetEnds 1 0 0 ∷ SetEnds 2 0 0 ∷ [], ResizesThree z u.0 l.makes.1 m.1.1, all),
+        is,
+        m.3,
+      );
       same = (all.seat, r.has ∙ (u.1.has ∙ (m.2.0.3 ∙ (size.makes.has ∙ l.stands.5))));
       station =
-          let h = v.holder in let start : c.unlock_all.new.cpu.station ≡ Some (shown h) = u.1.carries ∙ (m.2.0.1 ∙ (size.makes.carries ∙ (l.stands.4 ∙ c.requires.may.station))) in
+          let h = v.holder in let start : c.unlock_all.new.cpu.station ≡ Some (shown h) = u.1.carries ∙ (m.2.0.1 ∙ (size.makes.carries ∙ (l.stands.4 ∙ c.requires.station))) in
           (r.carries ∙ ap (λ o. option_map (λ (st : StationState). with_ends st 2 0 0) (option_map (λ (st : StationState). with_ends st 1 0 0) (option_map (λ (st : StationState). with_ends st 0 0 0) o))) start)
           ∙ ap (λ (x : View). Some (shown x.holder)) (sym is);
-      knows = is;
-      counted = m.3;
-      packets = subst (λ (x : Setup). HoldOwnPackets x.infos held) about told.0;
-      is_known = subst (λ (x : View). IsKnownHeld x held) loaded told.1;
     }

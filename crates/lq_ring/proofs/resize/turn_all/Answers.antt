@@ -16,33 +16,64 @@ use Rattle.lq_table.specs.declared.shared.Shared.{Shared}
 use Rattle.lq_ring.specs.StepLists.{TurnsThree}
 use Rattle.lq_ring.proofs.StepsThen.{makes_then}
 use Rattle.lq_ring.specs.Resized.{all_lost}
-use Rattle.lq_ring.proofs.InTurn.{all_ready, begun_from, ready_step, refilled_of, resize_is, turns4, waits0, waits1, waits2}
+use Rattle.lq_ring.proofs.InTurn.{IsReadyToResize, all_ready, begun_from, ready_step, refilled_of, resize_is, turns4, waits0, waits1, waits2}
+use Rattle.lq_ring.proofs.resize.turn_all.Given as given
 use Rattle.lq_ring.proofs.resize.turn_all.Goals as goal
 
 abbrev begun-is : {D : Type 0} {len event : ℕ} (t : Shared D) (b a : Cpu D) → IsSeatOf t b → (held : ℕ → List ℕ) × (slots : Three (List ℕ)) × (found : ℕ) × MakesSteps (BeginResize len event held slots found ∷ []) b a
     → BeginsResize t.infos.now t.max_len len event (view b) (view a)
 begun-is {D} {len} {event} t b a seat m = begun_from t b a len event m.0 m.1 m.2 seat m.3
 
+low_ready : (g : given.Over) (c : goal.After-turn_at-arg-1 g) → IsReadyToResize c.args.shared.now.max_len c.args.shared.now.infos.now (shown (view c.args.cpu.now).holder) c.args.resize.size c.args.resize.len c.args.resize.event 0 (view c.begin_resize.new.cpu)
+low_ready g c =
+    let v = view c.args.cpu.now in let b = begun-is c.args.shared.now c.args.cpu.now c.begin_resize.new.cpu c.requires.seat c.begin_resize.ensures.makes in let v1 = view c.begin_resize.new.cpu in
+    let all = all_ready _ c.args.resize.size c.args.resize.len c.args.resize.event _ b.0 b.1 v v1 b.2 (ap holds_lock c.requires.at.0) (λ b h. (c.requires.locks b h).0) c.requires.rests.2 b.3 b.4 in
+    all 0 (omega arith)
+
+pub turn_at-low-requires-clause-turner : goal.turn_at-low-requires-clause-turner
+turn_at-low-requires-clause-turner g c _ _ = let r = low_ready g c in (r.turner, r.event_is)
+
+pub turn_at-low-requires-clause-lock : goal.turn_at-low-requires-clause-lock
+turn_at-low-requires-clause-lock g c _ _ = (low_ready g c).lock
+
 pub turn_at-low-requires-clause-ready : goal.turn_at-low-requires-clause-ready
 turn_at-low-requires-clause-ready g c _ _ =
-    let v = view c.args.cpu.now in let b = begun-is c.args.shared.now c.args.cpu.now c.begin_resize.new.cpu c.requires.seat c.begin_resize.ensures.makes in
-    let all = all_ready _ c.args.resize.size c.args.resize.len c.args.resize.event _ b.0 b.1 v (view c.begin_resize.new.cpu) b.2 (ap holds_lock c.requires.may.at.0) (λ b h. (c.requires.may.locks b h).0) c.requires.may.rests.2 b.3 b.4 in
-    (shown v.holder, c.begin_resize.ensures.same.1 ∙ c.requires.may.station, all 0 (omega arith))
+    let r = low_ready g c in (shown (view c.args.cpu.now).holder, r.held, c.begin_resize.ensures.same.1 ∙ c.requires.station, r.whole, r.packets)
+
+mid_ready : (g : given.Over) (c : goal.After-turn_at-arg-2-1 g) → IsReadyToResize c.args.shared.now.max_len c.args.shared.now.infos.now (shown (view c.args.cpu.now).holder) c.args.resize.size c.args.resize.len c.args.resize.event 1 (view c.turn_at-low.new.cpu)
+mid_ready g c =
+    let v = view c.args.cpu.now in let b = begun-is c.args.shared.now c.args.cpu.now c.begin_resize.new.cpu c.requires.seat c.begin_resize.ensures.makes in let v1 = view c.begin_resize.new.cpu in
+    let all = all_ready _ c.args.resize.size c.args.resize.len c.args.resize.event _ b.0 b.1 v v1 b.2 (ap holds_lock c.requires.at.0) (λ b h. (c.requires.locks b h).0) c.requires.rests.2 b.3 b.4 in
+    let low = c.turn_at-low.ensures.stands in
+    ready_step _ _ _ _ _ (shown v.holder) 0 1 low.0 _ _ v1 _ (omega arith) (omega arith) (λ e. absurd (omega arith)) low.1.1 (all 1 (omega arith))
+
+pub turn_at-mid-requires-clause-turner : goal.turn_at-mid-requires-clause-turner
+turn_at-mid-requires-clause-turner g c _ _ = let r = mid_ready g c in (r.turner, r.event_is)
+
+pub turn_at-mid-requires-clause-lock : goal.turn_at-mid-requires-clause-lock
+turn_at-mid-requires-clause-lock g c _ _ = (mid_ready g c).lock
 
 pub turn_at-mid-requires-clause-ready : goal.turn_at-mid-requires-clause-ready
 turn_at-mid-requires-clause-ready g c _ _ =
-    let v = view c.args.cpu.now in let b = begun-is c.args.shared.now c.args.cpu.now c.begin_resize.new.cpu c.requires.seat c.begin_resize.ensures.makes in let v1 = view c.begin_resize.new.cpu in let st = shown v.holder in
-    let all = all_ready _ c.args.resize.size c.args.resize.len c.args.resize.event _ b.0 b.1 v v1 b.2 (ap holds_lock c.requires.may.at.0) (λ b h. (c.requires.may.locks b h).0) c.requires.may.rests.2 b.3 b.4 in
-    let low = c.turn_at-low.ensures.stands in
-    (st, c.turn_at-low.ensures.stands.1.0.1 ∙ (c.begin_resize.ensures.same.1 ∙ c.requires.may.station), ready_step _ _ _ _ _ st 0 1 low.0 _ _ v1 _ (omega arith) (omega arith) (λ e. absurd (omega arith)) low.1.1 (all 1 (omega arith)))
+    let r = mid_ready g c in (shown (view c.args.cpu.now).holder, r.held, c.turn_at-low.ensures.stands.1.0.1 ∙ (c.begin_resize.ensures.same.1 ∙ c.requires.station), r.whole, r.packets)
+
+high_ready : (g : given.Over) (c : goal.After-turn_at-arg-3-1 g) → IsReadyToResize c.args.shared.now.max_len c.args.shared.now.infos.now (shown (view c.args.cpu.now).holder) c.args.resize.size c.args.resize.len c.args.resize.event 2 (view c.turn_at-mid.new.cpu)
+high_ready g c =
+    let v = view c.args.cpu.now in let b = begun-is c.args.shared.now c.args.cpu.now c.begin_resize.new.cpu c.requires.seat c.begin_resize.ensures.makes in let v1 = view c.begin_resize.new.cpu in
+    let all = all_ready _ c.args.resize.size c.args.resize.len c.args.resize.event _ b.0 b.1 v v1 b.2 (ap holds_lock c.requires.at.0) (λ b h. (c.requires.locks b h).0) c.requires.rests.2 b.3 b.4 in
+    let low = c.turn_at-low.ensures.stands in let mid = c.turn_at-mid.ensures.stands in let v2 = view c.turn_at-low.new.cpu in let st = shown v.holder in
+    let next = ready_step _ _ _ _ _ st 0 2 low.0 _ _ v1 v2 (omega arith) (omega arith) (λ e. absurd (omega arith)) low.1.1 (all 2 (omega arith)) in
+    ready_step _ _ _ _ _ st 1 2 mid.0 _ _ v2 _ (omega arith) (omega arith) (λ e. absurd (omega arith)) mid.1.1 next
+
+pub turn_at-high-requires-clause-turner : goal.turn_at-high-requires-clause-turner
+turn_at-high-requires-clause-turner g c _ _ = let r = high_ready g c in (r.turner, r.event_is)
+
+pub turn_at-high-requires-clause-lock : goal.turn_at-high-requires-clause-lock
+turn_at-high-requires-clause-lock g c _ _ = (high_ready g c).lock
 
 pub turn_at-high-requires-clause-ready : goal.turn_at-high-requires-clause-ready
 turn_at-high-requires-clause-ready g c _ _ =
-    let v = view c.args.cpu.now in let b = begun-is c.args.shared.now c.args.cpu.now c.begin_resize.new.cpu c.requires.seat c.begin_resize.ensures.makes in let v1 = view c.begin_resize.new.cpu in let st = shown v.holder in
-    let all = all_ready _ c.args.resize.size c.args.resize.len c.args.resize.event _ b.0 b.1 v v1 b.2 (ap holds_lock c.requires.may.at.0) (λ b h. (c.requires.may.locks b h).0) c.requires.may.rests.2 b.3 b.4 in
-    let low = c.turn_at-low.ensures.stands in let mid = c.turn_at-mid.ensures.stands in let v2 = view c.turn_at-low.new.cpu in
-    let next = ready_step _ _ _ _ _ st 0 2 low.0 _ _ v1 v2 (omega arith) (omega arith) (λ e. absurd (omega arith)) low.1.1 (all 2 (omega arith)) in
-    (st, c.turn_at-mid.ensures.stands.1.0.1 ∙ (c.turn_at-low.ensures.stands.1.0.1 ∙ (c.begin_resize.ensures.same.1 ∙ c.requires.may.station)), ready_step _ _ _ _ _ st 1 2 mid.0 _ _ v2 _ (omega arith) (omega arith) (λ e. absurd (omega arith)) mid.1.1 next)
+    let r = high_ready g c in (shown (view c.args.cpu.now).holder, r.held, c.turn_at-mid.ensures.stands.1.0.1 ∙ (c.turn_at-low.ensures.stands.1.0.1 ∙ (c.begin_resize.ensures.same.1 ∙ c.requires.station)), r.whole, r.packets)
 
 pub store_size-requires-clause-ready : goal.store_size-requires-clause-ready
 store_size-requires-clause-ready g c _ _ =

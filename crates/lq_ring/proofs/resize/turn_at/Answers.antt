@@ -14,25 +14,24 @@ use Rattle.lq_ring.specs.Work.{work_at, IsTurner, IsWorkBegun}
 use Rattle.lq_ring.proofs.Works.{turner_after}
 use Rattle.lq_ring.proofs.resize.turn_at.Goals as goal
 
-pub turn_band-done-requires-clause-may : goal.turn_band-done-requires-clause-may
-turn_band-done-requires-clause-may g c _ _ = record {
-  place = search rules;
-  turner = search rules;
-  whole =
-      let r = c.requires.ready in let ends = c.ends_of-ends.ensures r.0 r.1 in
-      (r.2.held, subst (λ (z : ℕ × ℕ). IsWorkBegun c.args.shared.now.max_len c.args.resize.size z.0 z.1 c.args.resize.len r.2.held (work_at c.args.band (view c.args.cpu.now))) (λ j. (sym ends.0 j, sym ends.1 j)) r.2.whole);
-  packets = λ n l. let r = c.requires.ready.2 in r.packets n (drop-in c.args.resize.len r.held n (subst (λ (ls : List ℕ). Contains ls n) r.whole.waiting_is l));
-}
+pub turn_band-done-requires-clause-whole : goal.turn_band-done-requires-clause-whole
+turn_band-done-requires-clause-whole g c _ _ =
+    let r = c.requires.ready in let ends = c.ends_of-ends.ensures r.0 r.2 in
+    (r.1, subst (λ (z : ℕ × ℕ). IsWorkBegun c.args.shared.now.max_len c.args.resize.size z.0 z.1 c.args.resize.len r.1 (work_at c.args.band (view c.args.cpu.now))) (λ j. (sym ends.0 j, sym ends.1 j)) r.3)
+
+pub turn_band-done-requires-clause-packets : goal.turn_band-done-requires-clause-packets
+turn_band-done-requires-clause-packets g c _ _ =
+    λ n l. let r = c.requires.ready in r.4 n (drop-in c.args.resize.len r.1 n (subst (λ (ls : List ℕ). Contains ls n) r.3.waiting_is l))
 
 pub index_after-index-requires : goal.index_after-index-requires
 index_after-index-requires g c =
-    let r = c.requires.ready.2 in let k = c.turn_band-done.ensures.kept.0 ∙ ap length r.whole.kept_is in let l = length-take c.args.resize.len r.held in omega arith
+    let r = c.requires.ready in let k = c.turn_band-done.ensures.kept.0 ∙ ap length r.3.kept_is in let l = length-take c.args.resize.len r.1 in omega arith
 
 pub set_producer-requires-clause-holder : goal.set_producer-requires-clause-holder
 set_producer-requires-clause-holder g c _ _ =
-    let b = c.args.band in let v = view c.args.cpu.now in let done = c.turn_band-done.ensures.stands in let r = c.requires.ready.2 in
-    let turner = subst IsTurner (sym done.1.1) (turner_after b done.0 v r.turner) in
-    (turner.0, (turner.1.0, turner.1.1), ap (λ (x : View). (at b x.locks).holds) done.1.1 ∙ r.lock)
+    let b = c.args.band in let v = view c.args.cpu.now in let done = c.turn_band-done.ensures.stands in
+    let turner = subst IsTurner (sym done.1.1) (turner_after b done.0 v c.requires.turner.0) in
+    (turner.0, (turner.1.0, turner.1.1), ap (λ (x : View). (at b x.locks).holds) done.1.1 ∙ c.requires.lock)
 
 pub returns : goal.returns
 returns g c = record {

@@ -13,12 +13,12 @@ use Rattle.lq_ring.proofs.takes.discard_one.Goals.{then-head-size-2, else-head-s
 
 pub set_ends-requires-clause-station : goal.set_ends-requires-clause-station
 set_ends-requires-clause-station g c κs within =
-    let z = c.zero_tail.ensures in let s = c.requires.may.station in
+    let z = c.zero_tail.ensures in let s = c.requires.station in
     (s.0, (z.carries ∙ ap (λ (x : Standing). x.station) (zero_leaves c.args.band (c.ends_of-tail.result.head + 1) (c.ends_of-tail.result.head + 1 - c.ends_of-tail.result.tail) (standing c.args.cpu.now))) ∙ s.1)
 
 pub returns-after-head-size-2 : goal.returns-after-head-size-2
 returns-after-head-size-2 g c =
-    let b = c.args.band in let size = c.args.size in let own : Ends = ends_at b c.args.cpu.now in let s = c.requires.may.station in let e = c.ends_of-tail.ensures s.0 s.1 in
+    let b = c.args.band in let size = c.args.size in let own : Ends = ends_at b c.args.cpu.now in let s = c.requires.station in let e = c.ends_of-tail.ensures s.0 s.1 in
     let tail = c.ends_of-tail.result.tail in let head = c.ends_of-tail.result.head + 1 in
     let tail_is : own.tail ≡ tail = sym (e.0 ∙ s.3) in let head_is : own.head ≡ head = sym (ap (λ (n : ℕ). n + 1) e.1 ∙ s.2) in
     let due : (own.tail + batch size ≤ own.head) ⊎ (own.head ≡ size) = ⊎_elim

@@ -17,7 +17,7 @@ use Rattle.lq_ring.proofs.takes.zero_tail.Goals as goal
 pub loop-n-preserved : goal.loop-n-preserved
 loop-n-preserved g c =
     let b = c.args.band in let v = view c.args.cpu.now in let n = c.loop-n.n in let old = c.loop-n.invariant in let size = v.holder.size in
-    let own : Ends = ends_at b c.args.cpu.now in let known : Ends = at b v.whole.state.ends in let ends = c.requires.may.ends in let more = c.loop-n-test.true in
+    let own : Ends = ends_at b c.args.cpu.now in let known : Ends = at b v.whole.state.ends in let ends = c.requires.ends in let more = c.loop-n-test.true in
     let same = c.zero_slot.ensures.same in
     let head : own.head ≡ c.args.head = ap (λ (e : Ends). e.head) ends.0 in let tail : own.tail ≡ c.args.tail = ap (λ (e : Ends). e.tail) ends.0 in
     let one : n + 1 ≡ suc n = omega arith in
@@ -33,7 +33,7 @@ loop-n-preserved g c =
 
 pub loop-n-init : goal.loop-n-init
 loop-n-init g c =
-    let b = c.args.band in let v = view c.args.cpu.now in let size = v.holder.size in let own : Ends = ends_at b c.args.cpu.now in let ends = c.requires.may.ends in let inside = ends.1 in
+    let b = c.args.band in let v = view c.args.cpu.now in let size = v.holder.size in let own : Ends = ends_at b c.args.cpu.now in let ends = c.requires.ends in let inside = ends.1 in
     let head : own.head ≡ c.args.head = ap (λ (e : Ends). e.head) ends.0 in let tail : own.tail ≡ c.args.tail = ap (λ (e : Ends). e.tail) ends.0 in
     let edge : own.edge ≡ c.args.head = ap (λ (e : Ends). e.edge) ends.0 in let first : own.head - 0 ≡ own.edge = omega arith in
     let none : emptied_down size own 0 ≡ own = down_here size own 0 (omega arith) ∙ (λ j. record { head = own.head; tail = own.tail; edge = first j }) in record {
@@ -47,7 +47,7 @@ loop-n-init g c =
 pub zero_slot-requires-clause-ends : goal.zero_slot-requires-clause-ends
 zero_slot-requires-clause-ends g c κs within_ =
     let b = c.args.band in let v = view c.args.cpu.now in let n = c.loop-n.n in let old = c.loop-n.invariant in let size = v.holder.size in
-    let own : Ends = ends_at b c.args.cpu.now in let ends = c.requires.may.ends in let before = c.requires.may.before in let more = c.loop-n-test.true in let inside = ends.1 in
+    let own : Ends = ends_at b c.args.cpu.now in let ends = c.requires.ends in let before = c.requires.before in let more = c.loop-n-test.true in let inside = ends.1 in
     let head : own.head ≡ c.args.head = ap (λ (e : Ends). e.head) ends.0 in let tail : own.tail ≡ c.args.tail = ap (λ (e : Ends). e.tail) ends.0 in
     let is : ends_at b c.loop-n.cpu ≡ record { head = own.head; tail = own.tail; edge = own.head - n } =
     ap (λ (x : View). at b x.holder.ends) old.view_is ∙ (at_put_same b (emptied_down size own n) v.holder.ends ∙ down_here size own n (omega arith)) in

@@ -5,7 +5,7 @@ use Rattle.lq_senders.proofs.Turns.{FirstEvents, no-events-yet, one-event-more}
 use Rattle.lq_senders.proofs.course.events_before.Goals as goal
 
 pub loop-e-init : goal.loop-e-init
-loop-e-init g c = record { owner = refl; first = no-events-yet c.args.run.now.plan.now c.args.run.now.infos.now c.args.run.now.tables.now c.args.next c.args.n c.args.sender.now.seats.items (map g.D.TxDevice.state c.args.sender.now.spares.items) }
+loop-e-init g c = record { owner = refl; first = no-events-yet c.args.run.now.job.plan.now c.args.run.now.job.infos.now c.args.run.now.tables.now c.args.next c.args.n c.args.sender.now.seats.items (map g.D.TxDevice.state c.args.sender.now.spares.items) }
 
 pub returns-then-event-n-clause-owner : goal.returns-then-event-n-clause-owner
 returns-then-event-n-clause-owner g c = c.loop-e.invariant.owner
@@ -19,7 +19,7 @@ returns-then-event-n-clause-done g c k event above below there = c.loop-e.invari
 pub returns-then-event-n-clause-left : goal.returns-then-event-n-clause-left
 returns-then-event-n-clause-left g c k event above there =
     let behind = c.if-event-n.true in
-    let order = in-order c.args.run.now.plan.now c.loop-e.e k c.event.result event c.stays_within_limits.ensures.order above c.event.ensures.event there in omega arith
+    let order = in-order c.args.run.now.job.plan.now c.loop-e.e k c.event.result event c.stays_within_limits.ensures.order above c.event.ensures.event there in omega arith
 
 pub returns-then-event-n-clause-stands : goal.returns-then-event-n-clause-stands
 returns-then-event-n-clause-stands g c m standing = c.loop-e.invariant.first.stands m standing
@@ -44,25 +44,25 @@ loop-e-preserved g c =
     let test = c.if-event-n.false in
     record {
       owner = c.do_any_event.ensures.owner ∙ c.loop-e.invariant.owner;
-      first = one-event-more c.args.run.now.plan.now c.args.run.now.infos.now c.args.run.now.tables.now c.args.next c.args.n c.loop-e.e c.event.result c.args.sender.now.seats.items (map g.D.TxDevice.state c.args.sender.now.spares.items)
+      first = one-event-more c.args.run.now.job.plan.now c.args.run.now.job.infos.now c.args.run.now.tables.now c.args.next c.args.n c.loop-e.e c.event.result c.args.sender.now.seats.items (map g.D.TxDevice.state c.args.sender.now.spares.items)
           c.loop-e.sender.seats.items (map g.D.TxDevice.state c.loop-e.sender.spares.items) c.do_any_event.new.sender.seats.items (map g.D.TxDevice.state c.do_any_event.new.sender.spares.items)
           c.loop-e.auto.e c.event.ensures.event (omega arith) c.do_any_event.ensures.stands c.do_any_event.ensures.calls c.do_any_event.ensures.devices c.do_any_event.ensures.runs c.loop-e.invariant.first;
     }
 
 pub returns-clause-done : goal.returns-clause-done
 returns-clause-done g c k event above below there =
-    let test = c.loop-e-test.false in let end = c.events-e-end.ensures.events in let last = c.events.ensures.events in let within = slice_get_within c.args.run.now.plan.now.events k event there in
+    let test = c.loop-e-test.false in let end = c.events-e-end.ensures.events in let last = c.events.ensures.events in let within = slice_get_within c.args.run.now.job.plan.now.events k event there in
     c.loop-e.invariant.first.done k event above (omega arith) there
 
 pub returns-clause-left : goal.returns-clause-left
 returns-clause-left g c k event above there =
-    let last = c.events.ensures.events in let within = slice_get_within c.args.run.now.plan.now.events k event there in absurd (omega arith)
+    let last = c.events.ensures.events in let within = slice_get_within c.args.run.now.job.plan.now.events k event there in absurd (omega arith)
 
 pub returns-clause-stands : goal.returns-clause-stands
 returns-clause-stands g c m standing =
     let test = c.loop-e-test.false in let end = c.events-e-end.ensures.events in let next = c.requires.next in let stop : c.loop-e.e ≤ c.events-e-end.result = c.loop-e.auto.e-end (omega arith) in
     let same : c.loop-e.e ≡ c.events.result = let last = c.events.ensures.events in omega arith in
-    (subst (λ (e : ℕ). FirstEvents c.args.run.now.plan.now c.args.run.now.infos.now c.args.run.now.tables.now c.args.next c.args.n e c.args.sender.now.seats.items (map g.D.TxDevice.state c.args.sender.now.spares.items) c.loop-e.sender.seats.items (map g.D.TxDevice.state c.loop-e.sender.spares.items)) same c.loop-e.invariant.first).stands m standing
+    (subst (λ (e : ℕ). FirstEvents c.args.run.now.job.plan.now c.args.run.now.job.infos.now c.args.run.now.tables.now c.args.next c.args.n e c.args.sender.now.seats.items (map g.D.TxDevice.state c.args.sender.now.spares.items) c.loop-e.sender.seats.items (map g.D.TxDevice.state c.loop-e.sender.spares.items)) same c.loop-e.invariant.first).stands m standing
 
 pub returns-clause-calls : goal.returns-clause-calls
 returns-clause-calls g c = c.loop-e.invariant.first.calls
@@ -71,10 +71,10 @@ pub returns-clause-runs : goal.returns-clause-runs
 returns-clause-runs g c units stand tell stations runs =
     let test = c.loop-e-test.false in let end = c.events-e-end.ensures.events in let next = c.requires.next in let stop : c.loop-e.e ≤ c.events-e-end.result = c.loop-e.auto.e-end (omega arith) in
     let same : c.loop-e.e ≡ c.events.result = let last = c.events.ensures.events in omega arith in
-    (subst (λ (e : ℕ). FirstEvents c.args.run.now.plan.now c.args.run.now.infos.now c.args.run.now.tables.now c.args.next c.args.n e c.args.sender.now.seats.items (map g.D.TxDevice.state c.args.sender.now.spares.items) c.loop-e.sender.seats.items (map g.D.TxDevice.state c.loop-e.sender.spares.items)) same c.loop-e.invariant.first).runs units stand tell stations runs
+    (subst (λ (e : ℕ). FirstEvents c.args.run.now.job.plan.now c.args.run.now.job.infos.now c.args.run.now.tables.now c.args.next c.args.n e c.args.sender.now.seats.items (map g.D.TxDevice.state c.args.sender.now.spares.items) c.loop-e.sender.seats.items (map g.D.TxDevice.state c.loop-e.sender.spares.items)) same c.loop-e.invariant.first).runs units stand tell stations runs
 
 pub returns-clause-devices : goal.returns-clause-devices
 returns-clause-devices g c units stand =
     let test = c.loop-e-test.false in let end = c.events-e-end.ensures.events in let next = c.requires.next in let stop : c.loop-e.e ≤ c.events-e-end.result = c.loop-e.auto.e-end (omega arith) in
     let same : c.loop-e.e ≡ c.events.result = let last = c.events.ensures.events in omega arith in
-    (subst (λ (e : ℕ). FirstEvents c.args.run.now.plan.now c.args.run.now.infos.now c.args.run.now.tables.now c.args.next c.args.n e c.args.sender.now.seats.items (map g.D.TxDevice.state c.args.sender.now.spares.items) c.loop-e.sender.seats.items (map g.D.TxDevice.state c.loop-e.sender.spares.items)) same c.loop-e.invariant.first).devices units stand
+    (subst (λ (e : ℕ). FirstEvents c.args.run.now.job.plan.now c.args.run.now.job.infos.now c.args.run.now.tables.now c.args.next c.args.n e c.args.sender.now.seats.items (map g.D.TxDevice.state c.args.sender.now.spares.items) c.loop-e.sender.seats.items (map g.D.TxDevice.state c.loop-e.sender.spares.items)) same c.loop-e.invariant.first).devices units stand

@@ -11,7 +11,7 @@ use Rattle.lq_senders.proofs.ends.finish_all.Goals.{After-index-run-j}
 pub loop-j-init : goal.loop-j-init
 loop-j-init g c = none-did Finishes c.args.seats.now.items
 
-at : (g : _) (c : After-index-run-j g) → JoinedAt c.args.run.now.plan.now c.args.run.now.infos.now 0 c.loop-j.j c.index-run-j.result c.index_mut.result.now
+at : (g : _) (c : After-index-run-j g) → JoinedAt c.args.run.now.job.plan.now c.args.run.now.job.infos.now 0 c.loop-j.j c.index-run-j.result c.index_mut.result.now
 at g c =
     let first = c.loop-j.invariant in let long = first.long in let same = c.requires.joined.long in let test = c.loop-j-test.true in
     c.requires.joined.each c.loop-j.j c.index-run-j.result c.index_mut.result.now
@@ -25,7 +25,7 @@ pub finish-requires-clause-raised : goal.finish-requires-clause-raised
 finish-requires-clause-raised g c κs within = (at g c).joined.raised
 
 pub finish-requires-clause-may : goal.finish-requires-clause-may
-finish-requires-clause-may g c κs within = may-finish c.args.run.now.plan.now c.args.run.now.infos.now c.loop-j.j c.index-run-j.result c.index_mut.result.now (at g c)
+finish-requires-clause-may g c κs within = may-finish c.args.run.now.job.plan.now c.args.run.now.job.infos.now c.loop-j.j c.index-run-j.result c.index_mut.result.now (at g c)
 
 pub loop-j-preserved : goal.loop-j-preserved
 loop-j-preserved g c =

@@ -6,8 +6,8 @@ use Rattle.lq_senders.proofs.ends.join_all.Given as goal
 
 abbrev pub invariant-loop-sender : goal.invariant-loop-sender
 invariant-loop-sender g l = record {
-  joined : SenderJoined l.run.plan.now l.run.infos.now l.others.len l.run.tables.now l.seats.items;
-  others : AreDoneSenders l.run.plan.now l.run.infos.now l.run.tables.now l.others.items;
+  joined : SenderJoined l.run.job.plan.now l.run.job.infos.now l.others.len l.run.tables.now l.seats.items;
+  others : AreDoneSenders l.run.job.plan.now l.run.job.infos.now l.run.tables.now l.others.items;
   devices : SameDevices l.fn.seats.items l.seats.items;
   fewer : l.others.len ≤ l.fn.others.len;
   alone : l.fn.others.len ≡ 0 → l.seats.items ≡ l.fn.seats.items;

@@ -5,7 +5,7 @@ use Rattle.lq_senders.proofs.ends.join_sender.Given as goal
 
 abbrev pub invariant-loop-other : goal.invariant-loop-other
 invariant-loop-other g l = record {
-  down : JoinsDown l.run.plan.now l.run.infos.now (l.fn.sender.owner - 1) l.others.len l.run.tables.now l.seats.items l.others.items;
+  down : JoinsDown l.run.job.plan.now l.run.job.infos.now (l.fn.sender.owner - 1) l.others.len l.run.tables.now l.seats.items l.others.items;
   devices : SameDevices l.fn.seats.items l.seats.items;
 }
 

@@ -12,17 +12,17 @@ loop-j-init g c = record {
   owner = refl;
   seats = let none = ap length c.requires.empty.none_yet in let ok = c.args.sender.now.seats.ok.0 in omega arith;
   room = c.requires.empty.room;
-  splits = splits-none c.args.run.now.plan.now c.args.run.now.infos.now (c.args.sender.now.owner - 1) c.args.run.now.tables.now c.args.seats.now.items c.args.sender.now.seats.items c.requires.empty.none_yet
-      (subst (λ (n : ℕ). AreSplitting c.args.run.now.plan.now c.args.run.now.infos.now n c.args.run.now.tables.now c.args.seats.now.items) c.requires.empty.owner_is c.requires.splitting);
+  splits = splits-none c.args.run.now.job.plan.now c.args.run.now.job.infos.now (c.args.sender.now.owner - 1) c.args.run.now.tables.now c.args.seats.now.items c.args.sender.now.seats.items c.requires.empty.none_yet
+      (subst (λ (n : ℕ). AreSplitting c.args.run.now.job.plan.now c.args.run.now.job.infos.now n c.args.run.now.tables.now c.args.seats.now.items) c.requires.empty.owner_is c.requires.splitting);
   devices = same-devices c.args.seats.now.items;
 }
 
 -- the sender of the sender is one of the plan's
-below : (g : _) (c : goal.After-index-run-j g) → (c.args.sender.now.owner - 1) + 1 < c.args.run.now.plan.now.senders
-below g c = subst (λ (k : ℕ). k < c.args.run.now.plan.now.senders) c.requires.empty.owner_is c.requires.sender
+below : (g : _) (c : goal.After-index-run-j g) → (c.args.sender.now.owner - 1) + 1 < c.args.run.now.job.plan.now.senders
+below g c = subst (λ (k : ℕ). k < c.args.run.now.job.plan.now.senders) c.requires.empty.owner_is c.requires.sender
 
 -- the seat that is split
-at : (g : _) (c : goal.After-index-run-j g) → SplitsAt c.args.run.now.plan.now c.args.run.now.infos.now ((c.args.sender.now.owner - 1) + 1) c.loop-j.j c.index-run-j.result c.index_mut.result.now
+at : (g : _) (c : goal.After-index-run-j g) → SplitsAt c.args.run.now.job.plan.now c.args.run.now.job.infos.now ((c.args.sender.now.owner - 1) + 1) c.loop-j.j c.index-run-j.result c.index_mut.result.now
 at g c =
     let splits = c.loop-j.invariant.splits in let test = c.loop-j-test.true in let long = splits.long in
     splits.ahead c.loop-j.j c.index-run-j.result c.index_mut.result.now (omega arith)
@@ -44,8 +44,8 @@ loop-j-preserved g c =
     let own = c.loop-j.invariant in
     let splits = own.splits in let test = c.loop-j-test.true in let long = splits.long in
     let j = c.loop-j.j in
-    let plan = c.args.run.now.plan.now in
-    let infos = c.args.run.now.infos.now in
+    let plan = c.args.run.now.job.plan.now in
+    let infos = c.args.run.now.job.infos.now in
     let tables = c.args.run.now.tables.now in
     let now = c.loop-j.seats.items in
     let t = c.index-run-j.result in
@@ -70,12 +70,12 @@ loop-j-preserved g c =
 pub returns-clause-splitting : goal.returns-clause-splitting
 returns-clause-splitting g c =
     let is = c.requires.empty.owner_is in
-    subst (λ (n : ℕ). AreSplitting c.args.run.now.plan.now c.args.run.now.infos.now n c.args.run.now.tables.now c.loop-j.seats.items) (omega arith)
-    (splits-all c.args.run.now.plan.now c.args.run.now.infos.now (c.args.sender.now.owner - 1) c.loop-j.j c.args.run.now.tables.now c.loop-j.seats.items c.loop-j.sender.seats.items c.loop-j-test.false c.loop-j.invariant.splits)
+    subst (λ (n : ℕ). AreSplitting c.args.run.now.job.plan.now c.args.run.now.job.infos.now n c.args.run.now.tables.now c.loop-j.seats.items) (omega arith)
+    (splits-all c.args.run.now.job.plan.now c.args.run.now.job.infos.now (c.args.sender.now.owner - 1) c.loop-j.j c.args.run.now.tables.now c.loop-j.seats.items c.loop-j.sender.seats.items c.loop-j-test.false c.loop-j.invariant.splits)
 
 pub returns-clause-ready : goal.returns-clause-ready
 returns-clause-ready g c =
     let own = c.loop-j.invariant in
     let past = c.loop-j-test.false in let below = c.loop-j.auto.j-end in
-    sender-split c.args.run.now.plan.now c.args.run.now.infos.now (c.args.sender.now.owner - 1) c.loop-j.sender.owner c.loop-j.j c.args.run.now.tables.now c.loop-j.seats.items c.loop-j.sender.seats.items
+    sender-split c.args.run.now.job.plan.now c.args.run.now.job.infos.now (c.args.sender.now.owner - 1) c.loop-j.sender.owner c.loop-j.j c.args.run.now.tables.now c.loop-j.seats.items c.loop-j.sender.seats.items
     (own.owner ∙ c.requires.empty.owner_is) (omega arith) own.splits

@@ -18,7 +18,7 @@ loop-place-init g c = record {
 }
 
 -- the sender has no seat yet
-empty : (g : _) (c : After-index_mut g) → HasNoSeats c.args.run.now.plan.now c.loop-place.place c.index_mut.result.now
+empty : (g : _) (c : After-index_mut g) → HasNoSeats c.args.run.now.job.plan.now c.loop-place.place c.index_mut.result.now
 empty g c =
     let own = c.loop-place.invariant in let test = c.loop-place-test.true in let len = own.len in let ok = c.loop-place.others.ok.0 in
     own.others.empty c.loop-place.place c.index_mut.result.now (omega arith) (read-at c.loop-place.others.items c.loop-place.place c.index_mut.result.now (omega arith) c.index_mut.ensures.value)
@@ -29,7 +29,7 @@ place-is g c = let is = (empty g c).owner_is in omega arith
 pub split_sender-requires-clause-empty : goal.split_sender-requires-clause-empty
 split_sender-requires-clause-empty g c κs within =
     let place = place-is g c in
-    subst (λ (k : ℕ). HasNoSeats c.args.run.now.plan.now k c.index_mut.result.now) (omega arith) (empty g c)
+    subst (λ (k : ℕ). HasNoSeats c.args.run.now.job.plan.now k c.index_mut.result.now) (omega arith) (empty g c)
 
 pub split_sender-requires-clause-sender : goal.split_sender-requires-clause-sender
 split_sender-requires-clause-sender g c κs within =
@@ -39,12 +39,12 @@ split_sender-requires-clause-sender g c κs within =
 pub split_sender-requires-clause-splitting : goal.split_sender-requires-clause-splitting
 split_sender-requires-clause-splitting g c κs within =
     let is = (empty g c).owner_is in
-    subst (λ (n : ℕ). AreSplitting c.args.run.now.plan.now c.args.run.now.infos.now n c.args.run.now.tables.now c.loop-place.seats.items) (omega arith) c.loop-place.invariant.splitting
+    subst (λ (n : ℕ). AreSplitting c.args.run.now.job.plan.now c.args.run.now.job.infos.now n c.args.run.now.tables.now c.loop-place.seats.items) (omega arith) c.loop-place.invariant.splitting
 
 pub loop-place-preserved : goal.loop-place-preserved
 loop-place-preserved g c =
     let own = c.loop-place.invariant in let test = c.loop-place-test.true in let len = own.len in let ok = c.loop-place.others.ok.0 in let place = place-is g c.before.before in let is = (empty g c.before.before).owner_is in
-    let plan = c.args.run.now.plan.now in let infos = c.args.run.now.infos.now in let tables = c.args.run.now.tables.now in let new = c.split_sender.new.sender in
+    let plan = c.args.run.now.job.plan.now in let infos = c.args.run.now.job.infos.now in let tables = c.args.run.now.tables.now in let new = c.split_sender.new.sender in
     record {
       len = own.len;
       others = others-more plan infos c.loop-place.place tables c.loop-place.others.items new (omega arith) own.others
@@ -59,7 +59,7 @@ returns g c =
     let own = c.loop-place.invariant in let past = c.loop-place-test.false in let below = c.loop-place.auto.place-end in let one_each = c.requires.empty.one_each in
     let ok = c.args.others.now.ok.0 in let len = own.len in let fill = c.loop-place.others.ok.0 in
     record {
-      splitting = subst (λ n. AreSplitting c.args.run.now.plan.now c.args.run.now.infos.now n c.args.run.now.tables.now c.loop-place.seats.items) (omega arith) own.splitting;
+      splitting = subst (λ n. AreSplitting c.args.run.now.job.plan.now c.args.run.now.job.infos.now n c.args.run.now.tables.now c.loop-place.seats.items) (omega arith) own.splitting;
       ready = λ i l at. own.others.ready i l (let inside = slice_get_within c.loop-place.others.items i l at in omega arith) at;
       one_each = omega arith;
       devices = own.devices;

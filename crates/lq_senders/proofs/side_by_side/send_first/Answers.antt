@@ -11,4 +11,4 @@ pub returns-clause-devices : goal.returns-clause-devices
 returns-clause-devices g c units stand = c.send_loop.ensures.devices c.requires.owner units stand
 
 pub returns-clause-course : goal.returns-clause-course
-returns-clause-course g c = subst (λ (s : ℕ). SendsAll c.args.run.now.infos.now (opens_while_stopped c.args.run.now.plan.now) (opens_in c.args.run.now) s c.args.sender.seats.items c.send_loop.new.sender.seats.items) c.requires.owner c.send_loop.ensures.course
+returns-clause-course g c = subst (λ (s : ℕ). SendsAll c.args.run.now.job.infos.now (opens_while_stopped c.args.run.now.job.plan.now) (opens_in c.args.run.now) s c.args.sender.seats.items c.send_loop.new.sender.seats.items) c.requires.owner c.send_loop.ensures.course

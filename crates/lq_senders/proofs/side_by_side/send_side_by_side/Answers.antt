@@ -16,12 +16,12 @@ returns-then-threads-gt0-clause-done g c i l there =
     let new = c.for_each_mut.new.s in
     let same : length new ≡ length c.args.senders.now = c.for_each_mut.auto.s in
     let changed = (c.for_each_mut.ensures i l (subst (λ k. i < k) same (slice_get_within new i l there))).1 in
-    subst (λ (x : Sender g.row.D.Denot). IsDoneSender run.plan.now run.infos.now run.tables.now i x.owner x.seats.items) (changed.left ∙ get_or_from_slice_get new i l l there) changed.call.0
+    subst (λ (x : Sender g.row.D.Denot). IsDoneSender run.job.plan.now run.job.infos.now run.tables.now i x.owner x.seats.items) (changed.left ∙ get_or_from_slice_get new i l l there) changed.call.0
 
 pub returns-then-threads-gt0-clause-course : goal.returns-then-threads-gt0-clause-course
 returns-then-threads-gt0-clause-course g c i old l was there =
     let run = c.args.run.now in
     let changed = (c.for_each_mut.ensures i l (slice_get_within c.args.senders.now i old was)).1 in
-    subst (λ (x : Sender g.row.D.Denot). SendsAll run.infos.now (opens_while_stopped run.plan.now) (opens_in run) old.owner old.seats.items x.seats.items) (changed.left ∙ get_or_from_slice_get c.for_each_mut.new.s i l l there)
-    (subst (λ (x : Sender g.row.D.Denot). SendsAll run.infos.now (opens_while_stopped run.plan.now) (opens_in run) x.owner x.seats.items changed.after_call.now.seats.items)
+    subst (λ (x : Sender g.row.D.Denot). SendsAll run.job.infos.now (opens_while_stopped run.job.plan.now) (opens_in run) old.owner old.seats.items x.seats.items) (changed.left ∙ get_or_from_slice_get c.for_each_mut.new.s i l l there)
+    (subst (λ (x : Sender g.row.D.Denot). SendsAll run.job.infos.now (opens_while_stopped run.job.plan.now) (opens_in run) x.owner x.seats.items changed.after_call.now.seats.items)
     (changed.argument_is ∙ get_or_from_slice_get c.args.senders.now i old l was) changed.call.1)

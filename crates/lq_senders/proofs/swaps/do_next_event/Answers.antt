@@ -12,7 +12,7 @@ loop-j-init g c = none-did (DoesEventAt c.args.e c.event-event.result) c.args.se
 
 -- how the seat that is next stands
 there : (g : _) (c : goal.After-index_mut g)
-    → StandsAt c.args.run.now.plan.now c.args.run.now.infos.now 0 c.args.e c.requires.stands.0 c.loop-j.j c.index-run-j.result c.index_mut.result.now
+    → StandsAt c.args.run.now.job.plan.now c.args.run.now.job.infos.now 0 c.args.e c.requires.stands.0 c.loop-j.j c.index-run-j.result c.index_mut.result.now
 there g c =
     let standing = c.requires.stands.1 in let first = c.loop-j.invariant in let long = first.long in let same = standing.long in let test = c.loop-j-test.true in
     standing.each c.loop-j.j c.index-run-j.result c.index_mut.result.now
@@ -28,9 +28,9 @@ event_at-requires-clause-no_swap g c κs within = c.requires.no_swap c.event-eve
 pub event_at-requires-clause-may : goal.event_at-requires-clause-may
 event_at-requires-clause-may g c κs within at =
     let all = c.requires.stands.1.all in let test = c.loop-j-test.true in
-    may-do-at c.args.run.now.plan.now c.args.run.now.infos.now c.args.e c.event-event.result c.event-event.ensures.event c.stays_within_limits.ensures.order c.stays_within_limits.ensures.stations
+    may-do-at c.args.run.now.job.plan.now c.args.run.now.job.infos.now c.args.e c.event-event.result c.event-event.ensures.event c.stays_within_limits.ensures.order c.stays_within_limits.ensures.stations
     c.requires.stands.0 c.loop-j.j c.index-run-j.result c.index_mut.result.now (omega arith) c.event-event.ensures.within (there g c)
-    (ap (λ (k : Setup). is_at k.station c.event-event.result) (sym (made-of c.args.run.now.plan.now c.args.run.now.infos.now c.loop-j.j c.index-run-j.result (there g c).table c.index_mut.result.now (there g c).seat)) ∙ at)
+    (ap (λ (k : Setup). is_at k.station c.event-event.result) (sym (made-of c.args.run.now.job.plan.now c.args.run.now.job.infos.now c.loop-j.j c.index-run-j.result (there g c).table c.index_mut.result.now (there g c).seat)) ∙ at)
 
 pub loop-j-preserved : goal.loop-j-preserved
 loop-j-preserved g c =
@@ -45,20 +45,20 @@ did g c =
 
 pub returns-clause-stands : goal.returns-clause-stands
 returns-clause-stands g c n standing =
-    all-stand c.args.run.now.plan.now c.args.run.now.infos.now c.args.e c.event-event.result c.event-event.ensures.event c.stays_within_limits.ensures.order c.stays_within_limits.ensures.stations
+    all-stand c.args.run.now.job.plan.now c.args.run.now.job.infos.now c.args.e c.event-event.result c.event-event.ensures.event c.stays_within_limits.ensures.order c.stays_within_limits.ensures.stations
     c.args.run.now.tables.now c.args.seats.now.items c.loop-j.seats.items (did g c) n standing
 
 pub returns-clause-keeps : goal.returns-clause-keeps
 returns-clause-keeps g c =
-    all-keep c.args.run.now.plan.now c.args.run.now.infos.now c.args.e c.event-event.result c.event-event.ensures.event c.stays_within_limits.ensures.order c.stays_within_limits.ensures.stations
+    all-keep c.args.run.now.job.plan.now c.args.run.now.job.infos.now c.args.e c.event-event.result c.event-event.ensures.event c.stays_within_limits.ensures.order c.stays_within_limits.ensures.stations
     c.args.run.now.tables.now c.args.seats.now.items c.loop-j.seats.items (did g c)
 
 pub returns-clause-calls : goal.returns-clause-calls
 returns-clause-calls g c =
-    all-called c.args.run.now.plan.now c.args.run.now.infos.now c.args.e c.event-event.result c.event-event.ensures.event c.stays_within_limits.ensures.order c.stays_within_limits.ensures.stations
+    all-called c.args.run.now.job.plan.now c.args.run.now.job.infos.now c.args.e c.event-event.result c.event-event.ensures.event c.stays_within_limits.ensures.order c.stays_within_limits.ensures.stations
     c.args.run.now.tables.now c.args.seats.now.items c.loop-j.seats.items (did g c)
 
 pub returns-clause-runs : goal.returns-clause-runs
 returns-clause-runs g c stations runs =
-    all-run c.args.run.now.plan.now c.args.run.now.infos.now c.args.e c.event-event.result c.event-event.ensures.event c.stays_within_limits.ensures.order c.stays_within_limits.ensures.stations
+    all-run c.args.run.now.job.plan.now c.args.run.now.job.infos.now c.args.e c.event-event.result c.event-event.ensures.event c.stays_within_limits.ensures.order c.stays_within_limits.ensures.stations
     c.args.run.now.tables.now c.args.seats.now.items c.loop-j.seats.items (did g c) c.requires.stands.0 stations c.requires.stands.1 runs

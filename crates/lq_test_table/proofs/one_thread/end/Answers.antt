@@ -3,13 +3,13 @@ use Rattle.lq_table.specs.Views.{SharePart}
 use Rattle.lq_test_table.proofs.Only.{only_ended, only_made}
 use Rattle.lq_test_table.proofs.one_thread.end.Goals as goal
 
-pub finish-requires-clause-may : goal.finish-requires-clause-may
-finish-requires-clause-may g c _ _ = record {
-  at = search rules;
-  sole = let o = c.check_turns.ensures.only in (o.sole, inl o.active);
-  made = only_made c.args.shared.now c.check_turns.new.cpu c.check_turns.ensures.only;
-  turns = search rules;
-}
+pub finish-requires-clause-sole : goal.finish-requires-clause-sole
+finish-requires-clause-sole g c _ _ =
+    let o = c.check_turns.ensures.only in (o.sole, inl o.active)
+
+pub finish-requires-clause-made : goal.finish-requires-clause-made
+finish-requires-clause-made g c _ _ =
+    only_made c.args.shared.now c.check_turns.new.cpu c.check_turns.ensures.only
 
 pub returns : goal.returns
 returns g c = let o = c.check_turns.ensures.only in let f = c.finish.ensures in record {

@@ -9,7 +9,7 @@ use Rattle.lq_seat.proofs.seat.Seat.send.Goals.{After-transmit-sending}
 use Rattle.lq_seat.specs.Calls.{Drains, MaySendNext, SendsPacket}
 use Rattle.lq_seat.specs.Rests.{AreUnitsSmall, IsSeatBetween, phase_by}
 use Rattle.lq_seat.specs.State.{IsWellMade, SeatState, seat_seen, units_of}
-use Rattle.lq_table.specs.Sees.{setup, view}
+use Rattle.lq_table.specs.Sees.{view}
 use Rattle.lq_table.specs.Views.{Setup}
 
 -- after the transmit the seat is between two calls

@@ -1,4 +1,4 @@
-use Rattle.std.proofs.Common.{refl, ap, ◌∙◌}
+use Rattle.std.proofs.Common.{ap, ◌∙◌}
 use Rattle.std.proofs.lemmas.Option.{same_Some}
 use Rattle.lq_seat.proofs.table.Table.give_back.Goals as goal
 use Rattle.lq_seat.specs.State.{SeatState}

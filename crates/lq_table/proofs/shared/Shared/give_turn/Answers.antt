@@ -1,5 +1,5 @@
 mod Kept
-use Rattle.std.proofs.Common.{◌≡◌, ℕ, ◌+◌, ◌*◌, ◌<◌, arith, refl, sym, ap, ◌∙◌, subst, List, ◌∷◌}
+use Rattle.std.proofs.Common.{ℕ, ◌+◌, ◌*◌, ◌<◌, arith, refl, sym, ap, ◌∙◌, subst, List, ◌∷◌}
 use mathlib.Core.Option.{none}
 use Rattle.lq_model.specs.declared.fate.Info.{Info}
 use Rattle.lq_model.specs.Plan.{owner_in, rank_in}
@@ -37,7 +37,6 @@ returns g c =
     let owner = owner_read infos n no_info c.requires.packet.0 in let rank = rank_read infos n no_info c.requires.packet.0 in let word = c.turn_word-word.ensures ∙ ap turn_place owner in record {
       same = ((e.0, e.1), refl, refl, ap (λ (m : Sat). m.1) e.2.told);
       given = ap (λ (m : Sat). m.0) e.2.told ∙ (λ j. give_turn_view (owner j) (rank j) (view c.args.cpu.now));
-      made = e.2.noted ∙ (λ j. store (word j) (2 * rank j + 2) ∷ steps c.args.cpu.now);
       makes =
           let old = c.args.cpu.now in let k = sym (ap (λ (x : Setup). x.infos) c.requires.seat.2) in let o = owner ∙ ap (λ (xs : List Info). owner_in xs n) k in let r = rank ∙ ap (λ (xs : List Info). rank_in xs n) k in
           makes_one _ _ _ (e.0, e.1) refl refl (e.2.told ∙ (λ j. (give_turn_view (o j) (r j) (view old), old.known.seat.me.1)))

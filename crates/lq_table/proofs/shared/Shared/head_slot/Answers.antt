@@ -1,6 +1,6 @@
 mod Kept
 mod Marks
-use Rattle.std.proofs.Common.{rules, ◌≡◌, ℕ, ◌∷◌, ◌<◌, ◌≤◌, arith, sym, ap, ◌∙◌, subst, length, List, refl, ◌-◌, eqb, eq-eqb, eqb-true, true≢false}
+use Rattle.std.proofs.Common.{◌≡◌, ℕ, ◌∷◌, ◌<◌, ◌≤◌, arith, sym, ◌∙◌, subst, length, List, refl, ◌-◌, eqb, eq-eqb, eqb-true, true≢false}
 use mathlib.Core.Option.{none}
 use Rattle.lq_model.specs.declared.fate.Info.{Info}
 use Rattle.atomic_table.specs.Table.{step, Allows}
@@ -10,8 +10,7 @@ use Rattle.lq_table.proofs.ByName.{slot_within}
 use Rattle.lq_table.proofs.shared.Shared.head_slot.Answers.Marks.{head_marks}
 use Rattle.lq_table.proofs.shared.Shared.head_slot.Answers.Kept.{sees_head_sole}
 use Rattle.lq_log.specs.Made.{seen, load}
-use Rattle.lq_table.specs.Producers.{load_slot_log}
-use Rattle.lq_table.specs.Sees.{setup, steps, ends_at, view}
+use Rattle.lq_table.specs.Sees.{steps, ends_at, view}
 use Rattle.lq_table.proofs.shared.Shared.head_slot.Invariants.{head_slot_told_all}
 use Rattle.lq_table.proofs.CodeReads.{head_read}
 use Rattle.lq_table.proofs.StepFacts.{makes_one, slot_of_seat, decided}
@@ -39,13 +38,6 @@ pub invariant_of-cpu : goal.invariant_of-cpu
 invariant_of-cpu g c =
     let at = c.requires.at in
     record { told = c.args.cpu.now.known.told ∙ sym (head_marks _ c.load_word.result at.0 (step c.args.self.now.table.kit.shared.table_id.slots c.slot_word-word.result 0 0 none) (seen c.args.cpu.now.known.seat.me) (seen c.load_word.new.seat.me) at.1 c.load_word.ensures.2.told.0) }
-
-pub returns-clause-made : goal.returns-clause-made
-returns-clause-made g c =
-    let t = c.args.self.now in let old = c.args.cpu.now in let found = c.load_word.result in
-    let head = head_read old.station c.station.result.now c.args.band c.head-head.result (ends_at c.args.band old).head c.station.ensures c.head-head.ensures c.requires.station.1 in
-    let made : c.load_word.new.seat.me.0.steps ≡ load_slot_log (setup t) c.args.band c.head-head.result found ∷ steps old = search rules in
-    made ∙ ap (λ (i : ℕ). load_slot_log (setup t) c.args.band i found ∷ steps old) head
 
 pub returns-clause-makes : goal.returns-clause-makes
 returns-clause-makes g c =

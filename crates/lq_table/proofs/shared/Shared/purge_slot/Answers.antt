@@ -1,5 +1,5 @@
 mod Kept
-use Rattle.std.proofs.Common.{rules, ◌≡◌, ℕ, ◌<◌, ◌≤◌, ◌-◌, ◌∷◌, arith, sym, ap, ◌∙◌, subst, length, List, Option, Some, [], slice_get, refl, eqb, eq-eqb, eqb-true, true≢false}
+use Rattle.std.proofs.Common.{◌≡◌, ℕ, ◌<◌, ◌≤◌, ◌-◌, ◌∷◌, arith, sym, ap, ◌∙◌, subst, length, List, Option, Some, [], slice_get, refl, eqb, eq-eqb, eqb-true, true≢false}
 use mathlib.Core.Option.{none}
 use Rattle.lq_model.specs.declared.fate.Info.{Info}
 use Rattle.atomic_table.specs.Table.{step, Allows}
@@ -15,8 +15,7 @@ use Rattle.lq_table.specs.Purges.{first_purge, purge_slot_view_empty, purge_slot
 use Rattle.lq_model.specs.Band.{held_of}
 use Rattle.lq_band_laws.specs.Three.{at}
 use Rattle.lq_table.specs.Moves.{Sat}
-use Rattle.lq_table.specs.Producers.{load_slot_log}
-use Rattle.lq_table.specs.Sees.{view, setup, steps, ends_at}
+use Rattle.lq_table.specs.Sees.{view, steps, ends_at}
 use Rattle.lq_table.proofs.shared.Shared.purge_slot.Invariants.{purge_slot_told}
 use Rattle.lq_table.proofs.CodeReads.{head_read}
 use Rattle.lq_table.proofs.StepFacts.{makes_one, slot_of_seat, decided}
@@ -40,13 +39,6 @@ load_word-requires g c = (
             (purge_sees k slots seat.id (seen seat.me) b i at.0 at.1 c.requires.band inside few at.2 at.3 at.4 at.5 c.requires.packets.0 c.requires.packets.1 c.requires.rests.0 c.requires.rests.1 head c.requires.seat.1),
       )),
 )
-
-pub returns-clause-made : goal.returns-clause-made
-returns-clause-made g c =
-    let t = c.args.self.now in let old = c.args.cpu.now in let found = c.load_word.result in
-    let head = head_read old.station c.station.result.now c.args.band c.head-head.result (ends_at c.args.band old).head c.station.ensures c.head-head.ensures c.requires.station.1 in
-    let made : c.load_word.new.seat.me.0.steps ≡ load_slot_log (setup t) c.args.band c.head-head.result found ∷ steps old = search rules in
-    made ∙ ap (λ (i : ℕ). load_slot_log (setup t) c.args.band i found ∷ steps old) head
 
 pub returns-clause-none : goal.returns-clause-none
 returns-clause-none g c = λ u l purge left zero_.

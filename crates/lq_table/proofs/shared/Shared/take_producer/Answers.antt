@@ -53,7 +53,6 @@ returns-then-found-seen g c =
       got = λ _. (ap (λ (m : Sat). m.0) got.0, c.put.ensures, subst (λ (l : ℕ). seen_ / 2 < l) c.args.self.now.same.2 got.1);
       missed = λ no_. absurd (true≢false no_);
       sole = λ sole. sym (eq-eqb seen_ _ (sym is ∙ e.2.told.1 sole c.requires.idle));
-      made = made;
       makes = makes_one _ _ _ (e.0, e.1) refl c.put.ensures got.0 made (λ _. subst (λ (l : ℕ). seen_ / 2 < l) longest got.1, λ sole. sym (eq-eqb seen_ _ (sym is ∙ e.2.told.1 sole c.requires.idle)));
     }
 
@@ -67,6 +66,5 @@ returns-else-found-seen g c =
       got = λ is. absurd (false≢true is);
       missed = λ _. (ap (λ (m : Sat). m.0) same, refl);
       sole = λ (sole : IsSole v). sym (ne_eqb seen_ _ (λ y. apart (e.2.told.1 sole c.requires.idle ∙ sym y)));
-      made = made;
       makes = makes_one _ _ _ (e.0, e.1) refl refl same made (λ yes. absurd (false≢true yes), λ (sole : IsSole v). sym (ne_eqb seen_ _ (λ y. apart (e.2.told.1 sole c.requires.idle ∙ sym y))));
     }

@@ -44,7 +44,6 @@ returns-then-found-free g c =
     let owner = owner_read infos n no_info c.requires.packet.0 in let rank = rank_read infos n no_info c.requires.packet.0 in let word = c.turn_word-word.ensures ∙ ap turn_place owner in record {
       same = ((e.0, e.1), refl, refl, ap (λ (m : Sat). m.1) (t.1 is));
       turn = (sym (t.0 ∙ ap (slice_index v.turns) owner) ∙ (is ∙ ap (λ (r : ℕ). 2 * r) rank), ap (λ (m : Sat). m.0) (t.1 is) ∙ (λ j. take_turn_view n (owner j) (rank j) v));
-      made = e.2.noted ∙ (λ j. exchange (word j) (2 * rank j) (2 * rank j + 1) (eq-eqb _ _ is j) ∷ steps c.args.cpu.now);
       makes =
           let old = c.args.cpu.now in let k = sym (ap (λ (x : Setup). x.infos) c.requires.seat.2) in let o = owner ∙ ap (λ (xs : List Info). owner_in xs n) k in let r = rank ∙ ap (λ (xs : List Info). rank_in xs n) k in let x = c.compare_exchange_word-found in
           let due = is ∙ ap (λ (y : ℕ). 2 * y) r in let found = eq-eqb x.result _ due in (
@@ -61,7 +60,6 @@ returns-else-found-free g c =
     let owner = owner_read infos n no_info c.requires.packet.0 in let rank = rank_read infos n no_info c.requires.packet.0 in let word = c.turn_word-word.ensures ∙ ap turn_place owner in record {
       same = ((e.0, e.1), refl, refl, ap (λ (m : Sat). m.1) (t.2 apart));
       turn = (t.0 ∙ ap (slice_index v.turns) owner, λ is. apart (is ∙ ap (λ (r : ℕ). 2 * r) (sym rank)), ap (λ (m : Sat). m.0) (t.2 apart));
-      made = e.2.noted ∙ (λ j. exchange (word j) (2 * rank j) (2 * rank j + 1) (ne_eqb _ _ apart j) ∷ steps c.args.cpu.now);
       makes =
           let old = c.args.cpu.now in let k = sym (ap (λ (x : Setup). x.infos) c.requires.seat.2) in let o = owner ∙ ap (λ (xs : List Info). owner_in xs n) k in let r = rank ∙ ap (λ (xs : List Info). rank_in xs n) k in let x = c.compare_exchange_word-found in
           let found = ne_eqb x.result (due_word v n) (λ due. apart (due ∙ ap (λ (y : ℕ). 2 * y) (sym r))) in (

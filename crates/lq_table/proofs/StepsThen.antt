@@ -11,6 +11,15 @@ tell_then : (xs ys : List Step) (s : Standing) → steps_tell xs s → steps_tel
 tell_then [] ys s f g = g
 tell_then (x ∷ xs) ys s f g = (f.0, tell_then xs ys (step_leaves x s) f.1 g)
 
+-- and what each of the two tells
+pub tell_first : (xs ys : List Step) (s : Standing) → steps_tell (xs ++ ys) s → steps_tell xs s
+tell_first [] ys s t = tt
+tell_first (x ∷ xs) ys s t = (t.0, tell_first xs ys (step_leaves x s) t.1)
+
+pub tell_last : (xs ys : List Step) (s : Standing) → steps_tell (xs ++ ys) s → steps_tell ys (steps_leave xs s)
+tell_last [] ys s t = t
+tell_last (x ∷ xs) ys s t = tell_last xs ys (step_leaves x s) t.1
+
 module _ {D : Type 0} where
   pub stands_after : (xs : List Step) (b a : Cpu D) → MakesSteps xs b a → standing a ≡ steps_leave xs (standing b)
   stands_after xs b a m = λ j. record { view = m.knows j; slot = m.has j; station = m.carries j; indices = m.places j; steps = m.made j }
