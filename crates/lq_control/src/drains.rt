@@ -57,7 +57,8 @@ fn serve_or_look<'a, D: TxDevice>(shared: &Shared<'a, D>, cpu: &mut Cpu<D>) -> b
     ensures served { IsServed (view cpu.old) (view cpu.new) }
     ensures at { (position cpu.new ≡ Control false) × IsReadyToSend cpu.new }
     ensures clear { result ≡ true → OwesNoInterrupt (view cpu.new) }
-    ensures off { IsSole (view cpu.old) → IsSome (account_of (view cpu.old)).down → unmarked (solo (view cpu.new)) ≡ unmarked (solo (view cpu.old)) }
+    ensures off { IsSole (view cpu.old) → IsSome (account_of (view cpu.old)).down
+        → unmarked (solo (view cpu.new)) ≡ unmarked (solo (view cpu.old)) }
     ensures makes { MakesStepsFrom (λ s. ServeOrLook (setup shared.now) s result) cpu.old cpu.new }
 {
     if cpu.raised() {

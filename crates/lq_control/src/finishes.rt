@@ -83,7 +83,8 @@ fn are_stops<'a, D: TxDevice>(shared: &Shared<'a, D>, cpu: &mut Cpu<D>, word: u6
     requires station { cpu.old.station ≡ None }
     ensures makes { MakesStepsOf (LoadStops shared.now.queues word result) cpu.old cpu.new }
     ensures same { IsElseSame cpu.old cpu.new × (view cpu.new ≡ view cpu.old) }
-    ensures sole { IsSole (view cpu.old) → (view cpu.old).whole.state.shut ≡ None → result ≡ true → AreStopsBelow shared.now.queues word (view cpu.old) }
+    ensures sole { IsSole (view cpu.old) → (view cpu.old).whole.state.shut ≡ None → result ≡ true
+        → AreStopsBelow shared.now.queues word (view cpu.old) }
 {
     for queue in 0..shared.queues() {
         if shared.load_xoff(cpu, queue) != word {

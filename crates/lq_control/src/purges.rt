@@ -57,10 +57,13 @@ pub(crate) fn purge_held<'a, D: TxDevice>(
     cause: Cause,
 ) -> u32
     requires seat { IsSeatOf shared.now cpu.old }
-    requires at { (position cpu.old ≡ Control true) × ((view cpu.old).control.purge ≡ Some first_purge) × ((view cpu.old).packets.fresh ≡ None) }
+    requires at { (position cpu.old ≡ Control true) × ((view cpu.old).control.purge ≡ Some first_purge)
+        × ((view cpu.old).packets.fresh ≡ None) }
     requires slot { HasSlotToPurge shared.now cause cpu.old }
-    requires bands { (l : Left) × ((view cpu.old).holder.left ≡ Some l) × (l.cause ≡ cause) × HoldsAtMost (view cpu.old).holder.size l.bands × HoldPackets shared.now.infos.now l.bands }
-    requires rests { IsResting (view cpu.old).holder.size (view cpu.old).holder.ends × ((view cpu.old).holder.resizing ≡ None) × ((view cpu.old).locks ≡ no_locks) }
+    requires bands { (l : Left) × ((view cpu.old).holder.left ≡ Some l) × (l.cause ≡ cause)
+        × HoldsAtMost (view cpu.old).holder.size l.bands × HoldPackets shared.now.infos.now l.bands }
+    requires rests { IsResting (view cpu.old).holder.size (view cpu.old).holder.ends × ((view cpu.old).holder.resizing ≡ None)
+        × ((view cpu.old).locks ≡ no_locks) }
     ensures makes { (s : Option ℕ) → OwesPurged cause s (view cpu.old) → MakesStepsFrom (QdiscReset cause s result) cpu.old cpu.new }
     ensures same { IsSameSeat cpu.old cpu.new × (slot cpu.new ≡ slot cpu.old) }
     ensures purged { (s : Option ℕ) (l : Left) → OwesPurged cause s (view cpu.old) → (view cpu.old).holder.left ≡ Some l
@@ -80,14 +83,16 @@ pub(crate) fn purge_held<'a, D: TxDevice>(
 /// deactivated it. It answers their number.
 pub(crate) fn purge_all<'a, D: TxDevice>(shared: &Shared<'a, D>, cpu: &mut Cpu<D>) -> u32
     requires seat { IsSeatOf shared.now cpu.old }
-    requires at { (position cpu.old ≡ Control true) × (is_quiet (view cpu.old).control.phase ≡ true) × ((view cpu.old).control.purge ≡ None) }
+    requires at { (position cpu.old ≡ Control true) × (is_quiet (view cpu.old).control.phase ≡ true)
+        × ((view cpu.old).control.purge ≡ None) }
     requires bare { ((view cpu.old).packets ≡ no_packets) × ((view cpu.old).locks ≡ no_locks) }
     requires rests { Rests cpu.old × IsKnownSlot (view cpu.old).share.about (view cpu.old).holder.slot }
     requires station { CarriesStation cpu.old }
     ensures makes { (event : ℕ) × (down_of (view cpu.old).trail ≡ Some event)
         × MakesStepsFrom (DevResetQueue (BeginPurge event) (cause.Event event) result) cpu.old cpu.new }
     ensures same { IsSameSeat cpu.old cpu.new × (slot cpu.new ≡ slot cpu.old) }
-    ensures purged { let held = (view cpu.old).holder.slot in (event : ℕ) × (bands : Three Band) × (down_of (view cpu.old).trail ≡ Some event)
+    ensures purged { let held = (view cpu.old).holder.slot in (event : ℕ) × (bands : Three Band)
+        × (down_of (view cpu.old).trail ≡ Some event)
         × IsPurged (cause.Event event) (all_purged held bands) (view cpu.old) (view cpu.new)
         × (result ≡ length (all_purged held bands)) × AreKnown (view cpu.old) bands }
     ensures station { CarriesStation cpu.new }

@@ -30,7 +30,8 @@ use std::sync::Wait;
 fn change_device<D: TxDevice>(cpu: &mut Cpu<D>, unit: u32, device: D) -> D
     requires station { (h : HolderPart) × (cpu.old.station ≡ Some (shown h)) }
     requires device { ((D.state device).accepted ≡ []) × ((D.state device).hung ≡ false) }
-    ensures makes { (h : HolderPart) → cpu.old.station ≡ Some (shown h) → MakesSteps (SetStation (with_device (shown h) unit (D.state device)) ∷ []) cpu.old cpu.new }
+    ensures makes { (h : HolderPart) → cpu.old.station ≡ Some (shown h)
+        → MakesSteps (SetStation (with_device (shown h) unit (D.state device)) ∷ []) cpu.old cpu.new }
     ensures went { (h : HolderPart) → cpu.old.station ≡ Some (shown h) → D.state result ≡ h.station.device }
 {
     cpu.station_mut().change(unit, device)

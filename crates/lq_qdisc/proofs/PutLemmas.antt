@@ -12,26 +12,21 @@ use Rattle.lq_band_laws.specs.Ring.{locked_at, with_room}
 use Rattle.lq_band_laws.specs.Three.{at, put}
 use Rattle.lq_ring_core.specs.declared.ring.Full.{Full}
 use Rattle.lq_ring.specs.Put.{dropping_full, no_locks, putting}
-use Rattle.lq_ring.specs.StepLists.{DroppedFull, Gets, Joined, LockProducer, Loses, Produce, ProduceLocked, Produces, Waits}
+use Rattle.lq_ring.specs.StepLists.{DroppedFull, Joined, Produce, ProduceLocked, Produces}
 use Rattle.lq_ring.proofs.PutSteps.{ends_full, ends_put}
 use Rattle.lq_ring.proofs.StepsThen.{leave_then}
+use Rattle.lq_ring.proofs.ListLemmas.{lock_leaves}
 use Rattle.lq_run.specs.Steps.{MakesStepsOf}
 use Rattle.lq_table.specs.Fates.{settle_view_owed}
 use Rattle.lq_table.specs.Producers.{SeesEnd, load_size_view, producer_slot_view_full, with_lock_at}
 use Rattle.lq_table.specs.Sees.{heard, solo, view}
-use Rattle.lq_table.specs.Step.{LoadProducer, Settle, Standing, Step, TakeProducer, brought_packet, standing, step_leaves, steps_leave, steps_tell}
+use Rattle.lq_table.specs.Step.{Settle, Standing, Step, brought_packet, standing, steps_leave, steps_tell}
 use Rattle.lq_table.specs.Views.{Setup, View}
 use Rattle.lq_table.specs.declared.shared.Cpu.{Cpu}
 use Rattle.lq_qdisc.specs.StepLists.{DropsFull, PfifoFastEnqueue, PutsIn}
 use Rattle.lq_qdisc.specs.declared.answers.Sending.{Sending}
 use Rattle.lq_table.proofs.StepsThen.{tell_first, tell_last}
 use Rattle.lq_qdisc.proofs.ViewRelations.{Enqueues}
-
--- once the producer lock is got only that is known more
-waited : {band index : ℕ} {xs : List Step} → LockProducer band index xs → (s : Standing) → (steps_leave xs s).view ≡ with_lock_at band (locked_at index) s.view
-waited {band} (Waits {seen} odd l) s = waited l (step_leaves (LoadProducer band seen) s)
-waited {band} (Loses {seen} even l) s = waited l (step_leaves (TakeProducer band seen false) (step_leaves (LoadProducer band seen) s))
-waited {band} (Gets even is) s = ap (λ (i : ℕ). with_lock_at band (locked_at i) s.view) (sym is)
 
 joined : {band index n : ℕ} {rest : List Step} → ProduceLocked band index n (Ok tt) rest → (m : Standing) → m.view.locks ≡ put band (locked_at index) no_locks → steps_tell rest m
     → ((steps_leave rest m).view ≡ putting band n m.view) × SeesEnd band m.view 0
@@ -55,7 +50,7 @@ had band index n v m w brings = ap (λ (x : View). x.locks) w ∙ ap (put band (
 
 put_joined : {band n : ℕ} {xs : List Step} → Produce band n (Ok tt) xs → (s : Standing) → BringsUnlocked n s.view → steps_tell xs s → ((steps_leave xs s).view ≡ putting band n s.view) × SeesEnd band s.view 0
 put_joined {band} {n} (Produces {index} {locked} {rest} l p) s brings told =
-    let m = steps_leave locked s in let w = waited l s in let e = joined p m (had band index n s.view m.view w brings) (tell_last locked rest s told) in (
+    let m = steps_leave locked s in let w = lock_leaves l s in let e = joined p m (had band index n s.view m.view w brings) (tell_last locked rest s told) in (
       ap (λ (z : Standing). z.view) (leave_then locked rest s) ∙ (e.0 ∙ ap (putting band n) w),
       subst (λ (v : View). SeesEnd band v 0) w e.1,
     )
@@ -63,7 +58,7 @@ put_joined {band} {n} (Produces {index} {locked} {rest} l p) s brings told =
 put_dropped : {band n : ℕ} {full : Full} {xs : List Step} → Produce band n (Err full) xs → (s : Standing) → BringsUnlocked n s.view → steps_tell xs s
     → ((steps_leave xs s).view ≡ dropping_full n full.seen s.view) × SeesEnd band s.view (full.seen + 1)
 put_dropped {band} {n} {full} (Produces {index} {locked} {rest} l p) s brings told =
-    let m = steps_leave locked s in let w = waited l s in
+    let m = steps_leave locked s in let w = lock_leaves l s in
     let e = dropped p m (had band index n s.view m.view w brings) (ap (λ (v : View). v.packets.fresh) w ∙ brings.0) (tell_last locked rest s told) in (
       ap (λ (z : Standing). z.view) (leave_then locked rest s) ∙ (e.0 ∙ ap (dropping_full n full.seen) w),
       subst (λ (v : View). SeesEnd band v (full.seen + 1)) w e.1,

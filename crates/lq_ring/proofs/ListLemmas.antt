@@ -47,18 +47,18 @@ all_told : (len event : ℕ) (held : ℕ → List ℕ) (low mid high : ℕ) (xs 
 all_told len event held low mid high _ (TurnsThree {slots} {begun} {one} {two} {three} a b c) s t = (t.0.1, (t.0.2, t.0.3))
 
 -- the wait for a producer lock
-lock_leaves : (band index : ℕ) (xs : List Step) → LockProducer band index xs → (s : Standing) → (steps_leave xs s).view ≡ with_lock_at band (locked_at index) s.view
-lock_leaves band index _ (Waits {seen} {rest} odd h) s = lock_leaves band index rest h (step_leaves (LoadProducer band seen) s)
-lock_leaves band index _ (Loses {seen} {rest} even h) s = lock_leaves band index rest h (step_leaves (TakeProducer band seen false) (step_leaves (LoadProducer band seen) s))
-lock_leaves band index _ (Gets {seen} even is) s = ap (λ (i : ℕ). with_lock_at band (locked_at i) s.view) (sym is)
+pub lock_leaves : {band index : ℕ} {xs : List Step} → LockProducer band index xs → (s : Standing) → (steps_leave xs s).view ≡ with_lock_at band (locked_at index) s.view
+lock_leaves {band} (Waits {seen} odd h) s = lock_leaves h (step_leaves (LoadProducer band seen) s)
+lock_leaves {band} (Loses {seen} even h) s = lock_leaves h (step_leaves (TakeProducer band seen false) (step_leaves (LoadProducer band seen) s))
+lock_leaves {band} (Gets even is) s = ap (λ (i : ℕ). with_lock_at band (locked_at i) s.view) (sym is)
 
 all_locked : (xs : List Step) → LockAll xs → (s : Standing) → (locks : Three Lock) × ((steps_leave xs s).view ≡ record s.view { locks = locks })
 all_locked _ (LocksThree {low} {mid} {high} {one} {two} {three} a b c) s =
     let s1 = steps_leave one s in let s2 = steps_leave two s1 in (
       put 2 (locked_at high) (put 1 (locked_at mid) (put 0 (locked_at low) s.view.locks)),
       ap (λ (x : Standing). x.view) (leave_then (one ++ two) three s ∙ ap (steps_leave three) (leave_then one two s))
-          ∙ (lock_leaves 2 high three c s2
-          ∙ ap (with_lock_at 2 (locked_at high)) (lock_leaves 1 mid two b s1 ∙ ap (with_lock_at 1 (locked_at mid)) (lock_leaves 0 low one a s))),
+          ∙ (lock_leaves c s2
+          ∙ ap (with_lock_at 2 (locked_at high)) (lock_leaves b s1 ∙ ap (with_lock_at 1 (locked_at mid)) (lock_leaves a s))),
     )
 
 -- What the bands held is of the capture, and nothing where the station is deactivated and purged; a seat that has the table alone finds what

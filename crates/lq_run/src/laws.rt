@@ -21,7 +21,8 @@ pub fn sole_seats_get_free_locks()
 
 /// A seat that has the table alone schedules at the end of a run exactly if MISSED is set; the lock is free after that.
 pub fn sole_seats_schedule_missed()
-    ensures { (xs : List Step) (s : Standing) → End xs → steps_tell xs s → IsSole s.view → solo (steps_leave xs s).view ≡ ended (solo s.view) }
+    ensures { (xs : List Step) (s : Standing) → End xs → steps_tell xs s → IsSole s.view
+        → solo (steps_leave xs s).view ≡ ended (solo s.view) }
 {}
 
 /// A begin leaves the seat's raised mark as it was, and an end doesn't take it down.

@@ -1,5 +1,5 @@
 -- What a try of the run lock, and a look at it, leave of what a seat tells at run time, and of what a seat knows that has the table alone.
-use Rattle.std.proofs.Common.{◌≡◌, ℕ, suc, Bool, true, false, refl, arith}
+use Rattle.std.proofs.Common.{◌≡◌, Bool, true, false, refl}
 use Rattle.std.proofs.lemmas.Bool.{false≢true}
 use Rattle.std.specs.Prelude.{if◌then◌else◌}
 use Rattle.lq_model.specs.declared.machine.Answer.TheVariants.{Plain}
@@ -9,7 +9,7 @@ use Rattle.lq_model.specs.declared.machine.Position.{Position}
 use Rattle.lq_model.specs.declared.machine.Position.TheVariants as at
 use Rattle.lq_model.specs.declared.machine.Seat.{Seat}
 use Rattle.lq_model.specs.Control.{is_control}
-use Rattle.lq_model.specs.Machine.{Qdisc, bit}
+use Rattle.lq_model.specs.Machine.{Qdisc}
 use Rattle.lq_model.specs.Steps.{step_at, goes_to, gives_up, lock_got}
 use Rattle.lq_table.specs.Marks.{marks_of}
 use Rattle.lq_table.specs.Views.{View, HolderPart}
@@ -78,7 +78,3 @@ pub finds_marks : (v : View) → try_lock_at v.place.position ≡ true → marks
 finds_marks v h = marks_at v.place.position h (seen_lock (seen_by v) true) v.holder v
 
 -- THE STEPS
-
-pub is_locked : (b : Bool) (n : ℕ) → suc n ≡ bit b → b ≡ true
-is_locked true n e = refl
-is_locked false n e = absurd (omega arith)

@@ -1,5 +1,5 @@
 -- The steps on the run lock.
-use Rattle.std.specs.Prelude.{Bool, ℕ, true, ◌≡◌, ◌≢◌, ◌∷◌, Option, false, not, if◌then◌else◌, ◌<◌, Some, None, is_none, ◌&&◌, []}
+use Rattle.std.specs.Prelude.{Bool, ℕ, true, ◌≡◌, ◌∷◌, Option, false, not, if◌then◌else◌, ◌<◌, Some, None, is_none, ◌&&◌}
 use Rattle.lq_log.specs.Made.{Made, load, exchange, store}
 use Rattle.lq_model.specs.Control.{is_control}
 use Rattle.lq_model.specs.Machine.{Qdisc, bit, Purge, is_closed}
@@ -9,7 +9,7 @@ use Rattle.lq_model.specs.declared.machine.Position.{Position}
 use Rattle.lq_table.specs.Moves.{seen_by, stepped, moved, IsKnownSlot}
 use Rattle.lq_table.specs.Places.{lock_place}
 use Rattle.lq_table.specs.Rule.{shown, units_of, IsResting}
-use Rattle.lq_table.specs.Sees.{view, steps, slot, IsSameSeat, Solo, solo, IsAccounts}
+use Rattle.lq_table.specs.Sees.{view, slot, Solo, solo, IsAccounts}
 use Rattle.lq_table.specs.Views.{View, HolderPart}
 use Rattle.lq_table.specs.declared.shared.Cpu.{Cpu}
 
@@ -28,15 +28,6 @@ load_lock_log found = load lock_place found
 
 abbrev pub look_lock_view : View → View
 look_lock_view v = stepped Plain (seen_lock (seen_by v) true) v
-
--- a look at the run lock answers whether it is held; where it is that is a failed try
-abbrev pub SeesLock : Bool → View → View → Type 0
-SeesLock held v w = (held ≡ v.whole.qdisc.locked) × (held ≡ true → solo w ≡ locked_to true (solo v))
-
-module _ {D : Type 0} where
-  -- a look finds the run lock held: that is a failed try
-  abbrev pub FindsLocked : Cpu D → Cpu D → Type 0
-  FindsLocked b a = (view a ≡ look_lock_view (view b)) × ((found : ℕ) × (found ≢ 0) × (steps a ≡ load_lock_log found ∷ steps b))
 
 -- try_lock: the lock is got with the station that lies in the table's slot, by a call or by control; or it was held.
 
@@ -102,8 +93,3 @@ unlock_view_in_control v = record v {
 
 abbrev pub unlock_view : View → View
 unlock_view v = if is_control v.place.position then unlock_view_in_control v else unlock_view_in_call v
-
-module _ {D : Type 0} where
-  -- the seat is the same, with its station and indices, and has none of the slots
-  abbrev pub GivesSlotBack : Cpu D → Cpu D → Type 0
-  GivesSlotBack b a = IsSameSeat b a × (a.station ≡ b.station) × (a.indices ≡ b.indices) × (slot a ≡ [])

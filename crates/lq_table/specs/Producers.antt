@@ -1,6 +1,6 @@
 -- The steps on the producer words, the size and the slots, of a seat that brings a packet.
-use Rattle.std.specs.Prelude.{ℕ, ◌%◌, length, ◌≡◌, ◌*◌, false, Bool, ◌+◌, ◌==◌, ◌<◌, ◌≢◌, Some, true, None, ◌-◌, ◌↔◌}
-use Rattle.lq_band_laws.specs.Ring.{Lock, locked_at, index_given, sized_if, is_emptying, having_stored}
+use Rattle.std.specs.Prelude.{ℕ, ◌%◌, length, ◌≡◌, ◌*◌, false, Bool, ◌+◌, ◌==◌, ◌<◌, Some, true, None, ◌↔◌}
+use Rattle.lq_band_laws.specs.Ring.{Lock, index_given, sized_if, is_emptying, having_stored}
 use Rattle.lq_band_laws.specs.Three.{put, at}
 use Rattle.lq_log.specs.Made.{Made, load, exchange, store}
 use Rattle.lq_model.specs.Account.{Full, Join}
@@ -44,11 +44,6 @@ take_producer_log band seen got = exchange (producer_place band) seen (seen + 1)
 abbrev pub TakesProducer : ℕ → View → ℕ → Bool → Type 0
 TakesProducer b v seen taken = IsSole v → taken ≡ (seen == 2 * producer_index b v)
 
-module _ {D : Type 0} where
-  -- the band's producer lock is got, with the index i
-  abbrev pub GetsProducer : Shared D → ℕ → ℕ → Cpu D → Cpu D → Type 0
-  GetsProducer t band i b a = (view a ≡ with_lock_at band (locked_at i) (view b)) × (a.indices ≡ put band i b.indices) × (i < t.max_len)
-
 -- give_producer: the lock is given back, with the next index.
 
 abbrev pub give_producer_log : ℕ → ℕ → Made
@@ -75,10 +70,6 @@ load_slot_log k band i found = load (slot_word k band i) found
 -- the packet was dropped as full, where it saw that other one
 abbrev pub producer_slot_view_full : ℕ → ℕ → View → View
 producer_slot_view_full n seen v = record (moved FullSlot (seen_by v) (λ h. h) (past_with (Full n seen)) v) { packets = record v.packets { fresh = None; owed = Some (n, fate.Full seen) }; trail = on_trail (Full n seen) v }
-
--- the packet that the seat brings was dropped, unless the slot was found empty
-abbrev pub DropsUnlessEmpty : ℕ → View → View → Type 0
-DropsUnlessEmpty found v w = (n : ℕ) → v.packets.fresh ≡ Some n → found ≢ 0 → w ≡ producer_slot_view_full n (found - 1) v
 
 -- Where no batch is being emptied the slot is occupied exactly where the account says that the band is full; and then by the packet
 -- that the account says.

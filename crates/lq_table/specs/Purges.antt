@@ -1,7 +1,7 @@
 -- The steps of a purge. In the account the purge is one event at its beginning; what control does from there on is to take the packets from
 -- the bands and to store their fates.
 use Rattle.std.specs.Option.{option_map}
-use Rattle.std.specs.Prelude.{false, ◌∷◌, Some, None, ℕ, ◌<◌, ◌≤◌, length, List, Contains, ◌≡◌, ◌+◌, Option, true, slice_set, [], slice_get, not, nat_lt, if◌then◌else◌}
+use Rattle.std.specs.Prelude.{false, ◌∷◌, Some, None, ℕ, ◌<◌, ◌≤◌, length, List, Contains, ◌≡◌, ◌+◌, Option, true, slice_set, not, nat_lt, if◌then◌else◌}
 use Rattle.lq_band_laws.specs.Ring.{taken_on}
 use Rattle.lq_band_laws.specs.Three.{Three, at, put}
 use Rattle.lq_model.specs.Account.{Purge as PurgeEvent}
@@ -46,10 +46,6 @@ HoldPackets infos bands = (b n : ℕ) → b < 3 → Contains (held_of (at b band
 abbrev pub AreKnown : View → Three Band → Type 0
 AreKnown v bands = IsSole v → (b : ℕ) → b < 3 → at b bands ≡ (account_of v).bands b
 
--- a purge of this cause began, with these bands before it
-abbrev pub BeginsPurge : Cause → View → View → Type 0
-BeginsPurge c v w = (bands : Three Band) × (w ≡ begin_purge_view c bands v) × HoldsAtMost v.holder.size bands × HoldPackets v.share.about.infos bands × AreKnown v bands
-
 -- begin_hung_purge: the same for a hung device.
 
 module _ {D : Type 0} where
@@ -58,10 +54,6 @@ module _ {D : Type 0} where
   MayPurgeHung c = (position c ≡ Control true) × ((view c).share.shares ≡ 1024) × ((view c).holder.station.device.hung ≡ true)
 
 -- purge_slot: the slot at the head of a band is loaded, and its packet is taken. In the log it is a load of a slot.
-
--- this holds of the purge that is half done, and of what it leaves
-abbrev pub OfPurge : View → (Purge → Left → Type 0) → Type 0
-OfPurge v holds = (u : Purge) (l : Left) → v.control.purge ≡ Some u → v.holder.left ≡ Some l → holds u l
 
 module _ {D : Type 0} where
   -- control that has come to this band in a purge
@@ -91,15 +83,6 @@ purge_slot_view_empty u v = record v {
   control = record v.control { purge = Some (next_band u) };
   whole = record v.whole { qdisc = record v.whole.qdisc { purge = Some (next_band u) } };
 }
-
-module _ {D : Type 0} where
-  -- the purge leaves nothing of the band, and goes on with the next
-  abbrev pub PassesEmptyBand : ℕ → Purge → Left → Cpu D → Cpu D → Type 0
-  PassesEmptyBand band u l b a = (held_of (at band l.bands) ≡ []) × (view a ≡ purge_slot_view_empty u (view b))
-
-  -- the packet n is the first that the purge leaves of the band, and it is taken
-  abbrev pub TakesFirstLeft : ℕ → ℕ → Left → Cpu D → Cpu D → Type 0
-  TakesFirstLeft band n l b a = (slice_get (held_of (at band l.bands)) 0 ≡ Some n) × (view a ≡ purge_slot_view band n l (view b))
 
 -- the purge has passed the last band, and no resize is half done
 abbrev pub HasPassedBands : View → Type 0

@@ -1,6 +1,6 @@
 -- The steps of a resize. In the account the resize is one event at its beginning; what control does from there on is to bring the slots to
 -- what each band keeps, and to store the fates of what it dropped.
-use Rattle.std.specs.Prelude.{ℕ, ◌+◌, ◌==◌, ◌||◌, Bool, false, List, [], ◌∷◌, ◌++◌, ◌-◌, if◌then◌else◌, slice_set, slice_index, drop, Option, ◌≡◌, Some, true, None, take, map, ◌<◌, length, Contains, ◌≤◌, ◌*◌}
+use Rattle.std.specs.Prelude.{ℕ, ◌+◌, ◌==◌, ◌||◌, Bool, false, List, [], ◌∷◌, ◌++◌, ◌-◌, if◌then◌else◌, slice_set, slice_index, drop, Option, ◌≡◌, Some, true, None, take, map, ◌<◌, length, Contains, ◌*◌}
 use Rattle.lq_band_laws.specs.HalfResized.{IsBeforeResize, IsRefilled}
 use Rattle.lq_band_laws.specs.Ring.{locked_at, at_start}
 use Rattle.lq_band_laws.specs.Three.{put, Three, at, all_three}
@@ -13,7 +13,7 @@ use Rattle.lq_model.specs.declared.machine.Phase.{Phase}
 use Rattle.lq_ring_core.specs.Slots.{round}
 use Rattle.lq_table.specs.Places.{slot_word, producer_place, size_place}
 use Rattle.lq_table.specs.Rule.{IsResting}
-use Rattle.lq_table.specs.Sees.{view, lock_at, IsSole, account_of}
+use Rattle.lq_table.specs.Sees.{lock_at, IsSole, account_of}
 use Rattle.lq_table.specs.Views.{Work, HalfResize, View, Setup}
 use Rattle.lq_table.specs.declared.shared.Cpu.{Cpu}
 
@@ -106,11 +106,6 @@ clear_slot_log k band i found = swap (slot_word k band i) 0 found
 abbrev pub clear_slot_view : ℕ → ℕ → HalfResize → View → View
 clear_slot_view b i t v = with_resizing (Some (with_work b (out_of i (at b t.works)) t)) v
 
-module _ {D : Type 0} where
-  -- the slot i of the band is emptied in the resize t, and this stood there
-  abbrev pub ClearsSlot : ℕ → ℕ → HalfResize → ℕ → Cpu D → Cpu D → Type 0
-  ClearsSlot band i t found b a = (found ≡ slice_index (at band t.works).slots i) × (view a ≡ clear_slot_view band i t (view b)) × (is_member found (at band t.works) ≡ true → found ≤ 1000000)
-
 -- fill_slot: a packet is put from the hand into an empty slot. In the log it is a store of a slot.
 
 -- control has the packet n of a band in hand as the latest, and the slot i is empty
@@ -120,11 +115,6 @@ MayFill b i n v = (t : HalfResize) × (hand : List ℕ) × (v.holder.resizing �
 -- the packet n was put into the slot i of a band, and these stay in the hand
 abbrev pub fill_slot_view : ℕ → ℕ → ℕ → List ℕ → HalfResize → View → View
 fill_slot_view b i n hand t v = with_resizing (Some (with_work b (into i n hand (at b t.works)) t)) v
-
-module _ {D : Type 0} where
-  -- of the resize half done the packet n, in hand as the latest, is put into the slot i of the band
-  abbrev pub FillsSlot : ℕ → ℕ → ℕ → Cpu D → Cpu D → Type 0
-  FillsSlot band i n b a = (t : HalfResize) (hand : List ℕ) → (view b).holder.resizing ≡ Some t → (at band t.works).hand ≡ n ∷ hand → view a ≡ fill_slot_view band i n hand t (view b)
 
 -- set_producer: a producer word is stored as locked, with the index behind what the band keeps.
 

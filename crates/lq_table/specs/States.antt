@@ -17,7 +17,7 @@ use Rattle.lq_model.specs.declared.machine.Position.{Position}
 use Rattle.lq_table.specs.Moves.{is_set, seen_by, stepped, moved, past_with, on_trail, pass_view}
 use Rattle.lq_table.specs.Places.{state_place}
 use Rattle.lq_table.specs.Rule.{shown}
-use Rattle.lq_table.specs.Sees.{view, carried, position, account_of, Solo, heard, solo}
+use Rattle.lq_table.specs.Sees.{view, carried, position, account_of, Solo, heard}
 use Rattle.lq_table.specs.Views.{View, machine_packet}
 use Rattle.lq_table.specs.declared.shared.Cpu.{Cpu}
 
@@ -109,10 +109,6 @@ abbrev pub miss_view : Bool → View → View
 miss_view was v = stepped Plain (record (seen_by v) { missed = was }) v
 
 -- look_missed: the state is looked at before MISSED is set. In the log it is a load of the state.
-
--- MISSED is found set, which does as its set does
-abbrev pub FindsMissed : View → View → Type 0
-FindsMissed v w = (w ≡ miss_view true v) × (solo w ≡ missed_to true (solo v))
 
 -- SCHED
 

@@ -1,11 +1,8 @@
 -- The steps on the turn words.
-use Rattle.std.specs.Prelude.{◌≡◌, ℕ, Bool, ◌+◌, ◌*◌, Some, slice_set, slice_index, ◌≢◌, None}
+use Rattle.std.specs.Prelude.{ℕ, Bool, ◌+◌, ◌*◌, Some, slice_set, None}
 use Rattle.lq_log.specs.Made.{Made, exchange, store, load}
 use Rattle.lq_table.specs.Places.{turn_place}
-use Rattle.lq_table.specs.Sees.{packet_owner, packet_rank, view}
 use Rattle.lq_table.specs.Views.{View}
-use Rattle.lq_table.specs.declared.shared.Cpu.{Cpu}
-use Rattle.lq_table.specs.declared.shared.Shared.{Shared}
 
 -- take_turn: the turn of a packet, which has this rank of its owner's packets, is taken where it is due.
 
@@ -15,15 +12,6 @@ take_turn_log owner rank got = exchange (turn_place owner) (2 * rank) (2 * rank 
 -- the turn of the packet n, which has this rank of its owner's packets, is taken: the seat brings n
 abbrev pub take_turn_view : ℕ → ℕ → ℕ → View → View
 take_turn_view n owner rank v = record v { packets = record v.packets { busy = Some n; fresh = Some n }; turns = slice_set v.turns owner (2 * rank + 1) }
-
-module _ {D : Type 0} where
-  -- the turn word has twice the rank of the packet n, whose turn is taken: the seat brings it
-  abbrev pub TakesTurn : Shared D → ℕ → Cpu D → Cpu D → Type 0
-  TakesTurn t n b a = (slice_index (view b).turns (packet_owner t n) ≡ 2 * packet_rank t n) × (view a ≡ take_turn_view n (packet_owner t n) (packet_rank t n) (view b))
-
-  -- the turn word has another value, which was found
-  abbrev pub FindsTurnWord : Shared D → ℕ → Cpu D → Cpu D → ℕ → Type 0
-  FindsTurnWord t n b a found = (found ≡ slice_index (view b).turns (packet_owner t n)) × (found ≢ 2 * packet_rank t n) × (view a ≡ view b)
 
 -- give_turn: it is over.
 

@@ -1,9 +1,9 @@
 //! The steps on the count of calls inside.
-ghost use Rattle.std.specs.Prelude.{◌≡◌, ◌<◌, true, is_some, ◌∷◌, []};
+ghost use Rattle.std.specs.Prelude.{◌≡◌, ◌<◌, true, ◌∷◌, []};
 ghost use Rattle.lq_model.specs.declared.machine.Position.TheVariants.{Leave as AtLeave};
-ghost use Rattle.lq_table.specs.Sees.{view, position, IsSeatOf, IsElseSame, steps, solo};
-ghost use Rattle.lq_table.specs.Moves.{at_rest, pass_view};
-ghost use Rattle.lq_table.specs.Inside.{bringing_packet, enter_view, MayEnter, enter_alone};
+ghost use Rattle.lq_table.specs.Sees.{view, position, IsSeatOf};
+ghost use Rattle.lq_table.specs.Moves.{at_rest};
+ghost use Rattle.lq_table.specs.Inside.{MayEnter};
 ghost use Rattle.lq_table.specs.Step.{Enter, Leave, MakesSteps};
 
 use crate::marked::Marked;
@@ -20,9 +20,6 @@ impl<'a, D: TxDevice> Shared<'a, D> {
         requires seat { IsSeatOf self.now cpu.old }
         requires at { at_rest (position cpu.old) ≡ true }
         requires call { MayEnter (view cpu.old) }
-        ensures same { IsElseSame cpu.old cpu.new }
-        ensures view { view cpu.new ≡ enter_view (view cpu.old) }
-        ensures step { solo (view cpu.new) ≡ enter_alone (is_some (bringing_packet (view cpu.old))) (solo (view cpu.old)) }
         ensures makes { MakesSteps (Enter ∷ []) cpu.old cpu.new }
     {
         let Marked { seat, marks } = &mut cpu.known;
@@ -34,9 +31,6 @@ impl<'a, D: TxDevice> Shared<'a, D> {
     pub fn leave(&self, cpu: &mut Cpu<D>)
         requires seat { IsSeatOf self.now cpu.old }
         requires at { position cpu.old ≡ AtLeave }
-        ensures same { IsElseSame cpu.old cpu.new }
-        ensures view { view cpu.new ≡ pass_view (view cpu.old) }
-        ensures step { solo (view cpu.new) ≡ solo (view cpu.old) }
         ensures makes { MakesSteps (Leave ∷ []) cpu.old cpu.new }
     {
         self.fetch_sub_word::<Brand, _>(&mut cpu.known.seat, INSIDE, 1, &());

@@ -2,13 +2,10 @@
 ghost use Rattle.std.specs.Prelude.{◌≡◌, ◌<◌, ℕ, Bool, true, false, Some, None, is_some, ◌∷◌, ◌+◌, []};
 ghost use Rattle.lq_model.specs.declared.machine.Phase.TheVariants.{Purged};
 ghost use Rattle.lq_model.specs.declared.machine.Position.TheVariants.{Idle as AtIdle, Control as AtControl};
-ghost use Rattle.lq_table.specs.Rule.{HasServed, latest_unit};
-ghost use Rattle.lq_table.specs.Sees.{view, position, carried, IsSeatOf, IsElseSame, steps};
-ghost use Rattle.lq_table.specs.Purges.{HasPassedBands, reset_missed_view, reset_draining_view};
-ghost use Rattle.lq_table.specs.AtRest.{IsSoleAtRest, KnowsRest};
+ghost use Rattle.lq_table.specs.Sees.{view, position, carried, IsSeatOf};
+ghost use Rattle.lq_table.specs.Purges.{HasPassedBands};
 ghost use Rattle.lq_table.specs.Moves.{at_rest};
-ghost use Rattle.lq_table.specs.Controls.{begin_control_view, end_control_view, set_deactivated_view, clear_deactivated_view, swap_view, open_xoff_view, IsSwapFor, MayDeactivate};
-ghost use Rattle.lq_table.specs.Inside.{load_inside_view};
+ghost use Rattle.lq_table.specs.Controls.{IsSwapFor, MayDeactivate};
 ghost use Rattle.lq_table.specs.Step.{BeginControl, ClearDeactivated, EndControl, LoadInside, LoadLock, MakesSteps, OpenXoff, ResetDraining, ResetMissed, SetDeactivated, SwapDevice};
 
 use crate::places::{BASE, INSIDE, LOCK, STATE, XOFF};
@@ -22,8 +19,6 @@ impl<'a, D: TxDevice> Shared<'a, D> {
     pub fn begin_control(&self, cpu: &mut Cpu<D>)
         requires seat { IsSeatOf self.now cpu.old }
         requires at { (position cpu.old ≡ AtIdle) × ((view cpu.old).control.first ≡ true) }
-        ensures same { IsElseSame cpu.old cpu.new }
-        ensures view { view cpu.new ≡ begin_control_view (view cpu.old) }
         ensures makes { (found : ℕ) × MakesSteps (BeginControl found ∷ []) cpu.old cpu.new }
     {
         self.load_word::<Brand, _>(&mut cpu.known.seat, BASE, &());
@@ -33,8 +28,6 @@ impl<'a, D: TxDevice> Shared<'a, D> {
     pub fn end_control(&self, cpu: &mut Cpu<D>)
         requires seat { IsSeatOf self.now cpu.old }
         requires at { position cpu.old ≡ AtControl false }
-        ensures same { IsElseSame cpu.old cpu.new }
-        ensures view { view cpu.new ≡ end_control_view (view cpu.old) }
         ensures makes { (found : ℕ) × MakesSteps (EndControl found ∷ []) cpu.old cpu.new }
     {
         self.load_word::<Brand, _>(&mut cpu.known.seat, BASE, &());
@@ -46,8 +39,6 @@ impl<'a, D: TxDevice> Shared<'a, D> {
         requires seat { IsSeatOf self.now cpu.old }
         requires at { at_rest (position cpu.old) ≡ true }
         requires active { MayDeactivate (view cpu.old) }
-        ensures same { IsElseSame cpu.old cpu.new }
-        ensures view { view cpu.new ≡ set_deactivated_view event (view cpu.old) }
         ensures makes { (was : Bool) × MakesSteps (SetDeactivated event was ∷ []) cpu.old cpu.new }
     {
         self.fetch_or_word::<Brand, _>(
@@ -63,8 +54,6 @@ impl<'a, D: TxDevice> Shared<'a, D> {
     pub fn load_inside(&self, cpu: &mut Cpu<D>) -> u64
         requires seat { IsSeatOf self.now cpu.old }
         requires at { (holds : Bool) × (position cpu.old ≡ AtControl holds) }
-        ensures same { IsElseSame cpu.old cpu.new }
-        ensures view { view cpu.new ≡ load_inside_view result (view cpu.old) }
         ensures makes { MakesSteps (LoadInside result ∷ []) cpu.old cpu.new }
     {
         self.load_word::<Brand, _>(&mut cpu.known.seat, INSIDE, &())
@@ -74,9 +63,6 @@ impl<'a, D: TxDevice> Shared<'a, D> {
     /// the station.
     pub fn load_lock(&self, cpu: &mut Cpu<D>) -> u64
         requires seat { IsSeatOf self.now cpu.old }
-        ensures same { IsElseSame cpu.old cpu.new }
-        ensures view { view cpu.new ≡ view cpu.old }
-        ensures alone { IsSoleAtRest (view cpu.old) → KnowsRest (view cpu.old) }
         ensures makes { MakesSteps (LoadLock result ∷ []) cpu.old cpu.new }
     {
         self.load_word::<Brand, _>(&mut cpu.known.seat, LOCK, &())
@@ -87,8 +73,6 @@ impl<'a, D: TxDevice> Shared<'a, D> {
         requires seat { IsSeatOf self.now cpu.old }
         requires at { position cpu.old ≡ AtControl false }
         requires purged { ((view cpu.old).control.phase ≡ Purged) × ((view cpu.old).control.purge ≡ None) }
-        ensures same { IsElseSame cpu.old cpu.new }
-        ensures view { view cpu.new ≡ clear_deactivated_view (view cpu.old) }
         ensures makes { MakesSteps (ClearDeactivated ∷ []) cpu.old cpu.new }
     {
         self.fetch_and_word::<Brand, _>(&mut cpu.known.seat, STATE, ACTIVE_BITS, &());
@@ -100,8 +84,6 @@ impl<'a, D: TxDevice> Shared<'a, D> {
         requires seat { IsSeatOf self.now cpu.old }
         requires at { position cpu.old ≡ AtControl true }
         requires purge { HasPassedBands (view cpu.old) }
-        ensures same { IsElseSame cpu.old cpu.new }
-        ensures view { view cpu.new ≡ reset_missed_view (view cpu.old) }
         ensures makes { MakesSteps (ResetMissed ∷ []) cpu.old cpu.new }
     {
         self.fetch_and_word::<Brand, _>(&mut cpu.known.seat, STATE, ALL_BUT_MISSED, &());
@@ -113,8 +95,6 @@ impl<'a, D: TxDevice> Shared<'a, D> {
         requires seat { IsSeatOf self.now cpu.old }
         requires at { position cpu.old ≡ AtControl true }
         requires purge { HasPassedBands (view cpu.old) }
-        ensures same { IsElseSame cpu.old cpu.new }
-        ensures view { view cpu.new ≡ reset_draining_view (view cpu.old) }
         ensures makes { MakesSteps (ResetDraining ∷ []) cpu.old cpu.new }
     {
         self.fetch_and_word::<Brand, _>(&mut cpu.known.seat, STATE, ALL_BUT_DRAINING, &());
@@ -129,10 +109,6 @@ impl<'a, D: TxDevice> Shared<'a, D> {
         requires at { (position cpu.old ≡ AtControl true) × ((view cpu.old).holder.shut ≡ None) }
         requires purged { ((view cpu.old).control.phase ≡ Purged) × ((view cpu.old).control.purge ≡ None) }
         requires station { (is_some cpu.old.station ≡ true) × IsSwapFor (view cpu.old) (carried cpu.old) }
-        ensures same { IsElseSame cpu.old cpu.new }
-        ensures view { view cpu.new ≡ swap_view (carried cpu.old) (view cpu.old) }
-        ensures served { HasServed self.now.infos.now self.now.station (view cpu.old).control.origin (view cpu.old).holder.station.device }
-        ensures unit { (view cpu.old).holder.station.unit ≡ latest_unit self.now.station (view cpu.old).holder.units }
         ensures makes { MakesSteps (SwapDevice ∷ []) cpu.old cpu.new }
     {
         self.store_word::<Brand, _>(&mut cpu.known.seat, XOFF, 0, &cpu.station);
@@ -145,8 +121,6 @@ impl<'a, D: TxDevice> Shared<'a, D> {
         requires seat { IsSeatOf self.now cpu.old }
         requires at { (position cpu.old ≡ AtControl true) × ((view cpu.old).holder.shut ≡ Some queue) }
         requires purged { ((view cpu.old).control.phase ≡ Purged) × ((view cpu.old).control.purge ≡ None) }
-        ensures same { IsElseSame cpu.old cpu.new }
-        ensures view { view cpu.new ≡ open_xoff_view queue (view cpu.old) }
         ensures makes { MakesSteps (OpenXoff queue ∷ []) cpu.old cpu.new }
     {
         let word = self.stop_word(queue);

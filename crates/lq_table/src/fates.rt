@@ -1,8 +1,8 @@
 //! The step on a fate word.
-ghost use Rattle.std.specs.Prelude.{◌≡◌, ◌<◌, length, ◌∷◌, []};
+ghost use Rattle.std.specs.Prelude.{◌<◌, length, ◌∷◌, []};
 ghost use Rattle.lq_model.specs.Words.{HasWord};
-ghost use Rattle.lq_table.specs.Sees.{view, carried, IsSeatOf, IsElseSame, packet_band, solo};
-ghost use Rattle.lq_table.specs.Fates.{MaySettle, settle_view, settle_alone};
+ghost use Rattle.lq_table.specs.Sees.{view, carried, IsSeatOf, packet_band};
+ghost use Rattle.lq_table.specs.Fates.{MaySettle};
 ghost use Rattle.lq_table.specs.Step.{MakesSteps, Settle};
 
 use crate::shared::{Cpu, Shared};
@@ -19,9 +19,6 @@ impl<'a, D: TxDevice> Shared<'a, D> {
         requires seat { IsSeatOf self.now cpu.old }
         requires packet { (n < length self.now.infos.now) × HasWord fate }
         requires may { MaySettle (packet_band self.now n) n fate (carried cpu.old) (view cpu.old) }
-        ensures same { IsElseSame cpu.old cpu.new }
-        ensures settled { view cpu.new ≡ settle_view (carried cpu.old) (packet_band self.now n) n fate (view cpu.old) }
-        ensures step { solo (view cpu.new) ≡ settle_alone (carried cpu.old) fate (solo (view cpu.old)) }
         ensures makes { MakesSteps (Settle n fate ∷ []) cpu.old cpu.new }
     {
         let word = self.fate_word_of(n);

@@ -1,14 +1,11 @@
 //! The steps of a purge by control: `qdisc_reset` of net/sched/sch_generic.c, with `pfifo_fast_reset`, on a station that
 //! is deactivated or whose device hangs. It takes the packets out of the requeue slot and the rings, whose fate is Purged.
-ghost use Rattle.std.specs.Prelude.{◌≡◌, ◌≢◌, ℕ, ◌-◌, ◌<◌, ◌≤◌, true, Some, None, ◌∷◌, []};
-ghost use Rattle.lq_account_laws.specs.Trail.{down_of};
+ghost use Rattle.std.specs.Prelude.{◌≡◌, ℕ, ◌-◌, ◌<◌, true, None, ◌∷◌, []};
 ghost use Rattle.lq_model.specs.Control.{is_quiet};
-ghost use Rattle.lq_model.specs.declared.fate.Cause.TheVariants as cause;
 ghost use Rattle.lq_model.specs.declared.machine.Position.TheVariants.{Control};
-ghost use Rattle.lq_table.specs.Views.{Left};
-ghost use Rattle.lq_table.specs.Sees.{view, position, ends_at, IsSeatOf, IsElseSame, steps};
+ghost use Rattle.lq_table.specs.Sees.{view, position, ends_at, IsSeatOf};
 ghost use Rattle.lq_table.specs.Consumers.{CarriesHead, IsBetweenTakes};
-ghost use Rattle.lq_table.specs.Purges.{IsPurgingBand, MayPurgeHung, PassesEmptyBand, TakesFirstLeft, BeginsPurge, OfPurge};
+ghost use Rattle.lq_table.specs.Purges.{IsPurgingBand, MayPurgeHung};
 ghost use Rattle.lq_band_laws.specs.Three.{Three as Of};
 ghost use Rattle.lq_model.specs.Band.{Band};
 ghost use Rattle.lq_table.specs.Step.{BeginHungPurge, BeginPurge, MakesSteps, PurgeSlot};
@@ -28,9 +25,6 @@ impl<'a, D: TxDevice> Shared<'a, D> {
         requires at { (position cpu.old ≡ Control true) × (is_quiet (view cpu.old).control.phase ≡ true) }
         requires calm { ((view cpu.old).control.purge ≡ None) × ((view cpu.old).holder.resizing ≡ None) }
         requires packets { ((view cpu.old).packets.owed ≡ None) × ((view cpu.old).packets.fresh ≡ None) }
-        ensures same { IsElseSame cpu.old cpu.new }
-        ensures begun { BeginsPurge (cause.Event result) (view cpu.old) (view cpu.new) }
-        ensures event { down_of (view cpu.old).trail ≡ Some result }
         ensures makes { (bands : Of Band) × (found : ℕ) × MakesSteps (BeginPurge result bands found ∷ []) cpu.old cpu.new }
     {
         let word = self.load_word::<Brand, _>(&mut cpu.known.seat, STATE, &());
@@ -44,8 +38,6 @@ impl<'a, D: TxDevice> Shared<'a, D> {
         requires at { MayPurgeHung cpu.old }
         requires calm { ((view cpu.old).control.purge ≡ None) × ((view cpu.old).holder.resizing ≡ None) }
         requires packets { ((view cpu.old).packets.owed ≡ None) × ((view cpu.old).packets.fresh ≡ None) }
-        ensures same { IsElseSame cpu.old cpu.new }
-        ensures begun { BeginsPurge (cause.Hung (view cpu.old).holder.station.unit) (view cpu.old) (view cpu.new) }
         ensures makes { (bands : Of Band) × (found : ℕ) × MakesSteps (BeginHungPurge bands found ∷ []) cpu.old cpu.new }
     {
         self.load_word::<Brand, _>(&mut cpu.known.seat, STATE, &());
@@ -62,10 +54,6 @@ impl<'a, D: TxDevice> Shared<'a, D> {
         requires rests { IsBetweenTakes band cpu.old }
         requires station { CarriesHead band cpu.old }
         requires head { (ends_at band cpu.old).head < self.now.max_len }
-        ensures same { IsElseSame cpu.old cpu.new × (result ≤ 1000000) }
-        ensures none { OfPurge (view cpu.old) (λ u l. result ≡ 0 → PassesEmptyBand band u l cpu.old cpu.new) }
-        ensures taken { (l : Left) → (view cpu.old).holder.left ≡ Some l → result ≢ 0
-            → TakesFirstLeft band (result - 1) l cpu.old cpu.new }
         ensures makes { MakesSteps (PurgeSlot band result ∷ []) cpu.old cpu.new }
     {
         let head = cpu.station().head(band);

@@ -5,11 +5,9 @@ ghost use Rattle.std.specs.Prelude.{◌≡◌, ℕ, ◌+◌, ◌*◌, ◌<◌, �
 ghost use Rattle.lq_model.specs.Positions.{holds_lock};
 ghost use Rattle.lq_model.specs.declared.machine.Position.TheVariants.{Control};
 ghost use Rattle.lq_band_laws.specs.Three.{at};
-ghost use Rattle.lq_band_laws.specs.Ring.{locked_at};
 ghost use Rattle.lq_table.specs.Views.{HalfResize};
-ghost use Rattle.lq_table.specs.Sees.{view, position, lock_at, IsSeatOf, IsElseSame, steps};
-ghost use Rattle.lq_table.specs.Resizes.{AreRefilled, ClearsSlot, FillsSlot, may_resize, store_size_view, BeginsResize, HasNothingHalfDone, HasHalfResize, MayFill};
-ghost use Rattle.lq_table.specs.Producers.{with_lock_at};
+ghost use Rattle.lq_table.specs.Sees.{view, position, lock_at, IsSeatOf};
+ghost use Rattle.lq_table.specs.Resizes.{AreRefilled, may_resize, HasNothingHalfDone, HasHalfResize, MayFill};
 ghost use Rattle.lq_band_laws.specs.Three.{Three as Of};
 ghost use Rattle.lq_table.specs.Step.{BeginResize, ClearSlot, FillSlot, MakesSteps, SetProducer, StoreSize};
 
@@ -30,9 +28,8 @@ impl<'a, D: TxDevice> Shared<'a, D> {
         requires at { (position cpu.old ≡ Control true) × (may_resize (view cpu.old).control.phase ≡ true) }
         requires rests { HasNothingHalfDone (view cpu.old) }
         requires locks { (b : ℕ) → b < 3 → ((lock_at b cpu.old).holds ≡ true) × ((lock_at b cpu.old).stored ≡ false) }
-        ensures same { IsElseSame cpu.old cpu.new }
-        ensures begun { BeginsResize self.now.infos.now self.now.max_len len event (view cpu.old) (view cpu.new) }
-        ensures makes { (held : ℕ → List ℕ) × (slots : Of (List ℕ)) × (found : ℕ) × MakesSteps (BeginResize len event held slots found ∷ []) cpu.old cpu.new }
+        ensures makes { (held : ℕ → List ℕ) × (slots : Of (List ℕ)) × (found : ℕ)
+            × MakesSteps (BeginResize len event held slots found ∷ []) cpu.old cpu.new }
     {
         self.load_word::<Brand, _>(&mut cpu.known.seat, SIZE, &(len, event));
     }
@@ -43,8 +40,6 @@ impl<'a, D: TxDevice> Shared<'a, D> {
         requires seat { IsSeatOf self.now cpu.old }
         requires place { (band < 3) × (i < self.now.max_len) }
         requires holder { (holds_lock (position cpu.old) ≡ true) × HasHalfResize (view cpu.old) }
-        ensures same { IsElseSame cpu.old cpu.new }
-        ensures cleared { (t : HalfResize) → (view cpu.old).holder.resizing ≡ Some t → ClearsSlot band i t result cpu.old cpu.new }
         ensures makes { MakesSteps (ClearSlot band i result ∷ []) cpu.old cpu.new }
     {
         let word = self.slot_word(band, i);
@@ -58,8 +53,6 @@ impl<'a, D: TxDevice> Shared<'a, D> {
         requires place { (band < 3) × (i < self.now.max_len) }
         requires holder { holds_lock (position cpu.old) ≡ true }
         requires hand { MayFill band i n (view cpu.old) }
-        ensures same { IsElseSame cpu.old cpu.new }
-        ensures filled { FillsSlot band i n cpu.old cpu.new }
         ensures makes { MakesSteps (FillSlot band i n ∷ []) cpu.old cpu.new }
     {
         let word = self.slot_word(band, i);
@@ -72,8 +65,6 @@ impl<'a, D: TxDevice> Shared<'a, D> {
         requires seat { IsSeatOf self.now cpu.old }
         requires band { band < 3 }
         requires holder { (holds_lock (position cpu.old) ≡ true) × HasHalfResize (view cpu.old) × ((lock_at band cpu.old).holds ≡ true) }
-        ensures same { IsElseSame cpu.old cpu.new }
-        ensures set { view cpu.new ≡ with_lock_at band (locked_at index) (view cpu.old) }
         ensures makes { MakesSteps (SetProducer band index ∷ []) cpu.old cpu.new }
     {
         let word = producer_word(band);
@@ -92,8 +83,6 @@ impl<'a, D: TxDevice> Shared<'a, D> {
         requires seat { IsSeatOf self.now cpu.old }
         requires holder { holds_lock (position cpu.old) ≡ true }
         requires ready { (t : HalfResize) × ((view cpu.old).holder.resizing ≡ Some t) × (len ≡ t.len) × AreRefilled t cpu.old }
-        ensures same { IsElseSame cpu.old cpu.new }
-        ensures restarted { (t : HalfResize) → (view cpu.old).holder.resizing ≡ Some t → view cpu.new ≡ store_size_view t (view cpu.old) }
         ensures makes { MakesSteps (StoreSize len ∷ []) cpu.old cpu.new }
     {
         self.store_word::<Brand, _>(&mut cpu.known.seat, SIZE, len as u64, &());

@@ -1,11 +1,10 @@
 //! The steps on the turn words, by which the packets of one owner are sent in order.
-ghost use Rattle.std.specs.Prelude.{◌≡◌, ◌+◌, ◌*◌, ◌<◌, true, Some, None, length, slice_index, MatchResult, ◌∷◌, ◌==◌, [], ℕ};
+ghost use Rattle.std.specs.Prelude.{◌≡◌, ◌≢◌, ◌+◌, ◌*◌, ◌<◌, true, Some, None, length, MatchResult, ◌∷◌, ◌==◌, [], ℕ};
 ghost use Rattle.lq_model.specs.Plan.{station_in};
 ghost use Rattle.lq_band_laws.specs.Ring.{unlocked};
 ghost use Rattle.lq_band_laws.specs.Three.{all_three};
 ghost use Rattle.lq_table.specs.Rule.{times};
-ghost use Rattle.lq_table.specs.Sees.{view, position, IsSeatOf, IsElseSame, steps, packet_owner, packet_rank};
-ghost use Rattle.lq_table.specs.Turns.{FindsTurnWord, TakesTurn, give_turn_view};
+ghost use Rattle.lq_table.specs.Sees.{view, position, IsSeatOf, packet_owner};
 ghost use Rattle.lq_table.specs.Moves.{at_rest};
 ghost use Rattle.lq_table.specs.Step.{GiveTurn, LoadTurn, MakesSteps, TakeTurn, due_word};
 
@@ -24,9 +23,9 @@ impl<'a, D: TxDevice> Shared<'a, D> {
         requires packet { (n < length self.now.infos.now) × (station_in self.now.infos.now n ≡ self.now.station) }
         requires owner { (0 < times (packet_owner self.now n) (view cpu.old).share.owners) × (packet_owner self.now n < self.now.senders) }
         requires idle { (view cpu.old).packets.busy ≡ None }
-        ensures same { IsElseSame cpu.old cpu.new }
-        ensures turn { MatchResult result (λ _. TakesTurn self.now n cpu.old cpu.new) (FindsTurnWord self.now n cpu.old cpu.new) }
-        ensures makes { (found : ℕ) × MatchResult result (λ _. found ≡ due_word (view cpu.old) n) (λ word. word ≡ found) × MakesSteps (TakeTurn n found ∷ []) cpu.old cpu.new }
+        ensures makes { (found : ℕ)
+            × MatchResult result (λ _. found ≡ due_word (view cpu.old) n) (λ word. (word ≡ found) × (found ≢ due_word (view cpu.old) n))
+            × MakesSteps (TakeTurn n found ∷ []) cpu.old cpu.new }
     {
         let owner = self.infos[n as usize].owner as u32;
         let rank = self.infos[n as usize].rank;
@@ -46,8 +45,6 @@ impl<'a, D: TxDevice> Shared<'a, D> {
         requires packet { (n < length self.now.infos.now) × (packet_owner self.now n < self.now.senders) }
         requires busy { ((view cpu.old).packets.busy ≡ Some n) × ((view cpu.old).packets.fresh ≡ None) }
         requires left { (at_rest (position cpu.old) ≡ true) × ((view cpu.old).locks ≡ all_three unlocked) }
-        ensures same { IsElseSame cpu.old cpu.new }
-        ensures given { view cpu.new ≡ give_turn_view (packet_owner self.now n) (packet_rank self.now n) (view cpu.old) }
         ensures makes { MakesSteps (GiveTurn n ∷ []) cpu.old cpu.new }
     {
         let owner = self.infos[n as usize].owner as u32;
@@ -62,8 +59,6 @@ impl<'a, D: TxDevice> Shared<'a, D> {
     pub fn load_turn(&self, cpu: &mut Cpu<D>, owner: u32) -> u64
         requires seat { IsSeatOf self.now cpu.old }
         requires owner { owner < self.now.senders }
-        ensures same { IsElseSame cpu.old cpu.new × (view cpu.new ≡ view cpu.old) }
-        ensures word { 0 < times owner (view cpu.old).share.owners → result ≡ slice_index (view cpu.old).turns owner }
         ensures makes { MakesSteps (LoadTurn owner result ∷ []) cpu.old cpu.new }
     {
         let word = turn_word(owner);

@@ -19,7 +19,7 @@ returns g c = record {
       (finds EndControl c.end_control.ensures.makes);
   alone = λ plan h.
       let infos = c.args.shared.now.infos.now in let start = first_account (setup c.args.shared.now) in let v = solo (view c.args.cpu.now) in let event = c.args.event in
-      let is = ap solo c.end_control.ensures.view
+      let is = ap solo c.end_control.ensures.makes.1.knows
       ∙ downed_at (setup c.args.shared.now) event (view c.args.cpu.now) (view c.deactivate-purged.new.cpu) (view c.wait_until_clear.new.cpu) c.deactivate-purged.ensures.same.1.share c.requires.seat.2 h.sender.sole (c.deactivate-purged.ensures.alone h.sender.sole) c.wait_until_clear.ensures.alone in
       stepped_at infos start (changed plan event kind.Down) v (downed event v) (solo (view c.end_control.new.cpu)) is (down_alone infos start event plan v h);
 }

@@ -17,6 +17,6 @@ returns g c = record {
   makes = and_then (Finding BeginControl) Reactivate (finds BeginControl c.begin_control.ensures.makes) (reactivated c.clear_deactivated.ensures.makes c.end_control.ensures.makes);
   alone = λ event plan h.
       let infos = c.args.shared.now.infos.now in let start = first_account (setup c.args.shared.now) in let v = solo (view c.args.cpu.now) in
-      let is = ap solo c.end_control.ensures.view ∙ (ap solo c.clear_deactivated.ensures.view ∙ ap (λ (v : View). heard Up (solo v)) c.begin_control.ensures.view) in
+      let is = ap solo c.end_control.ensures.makes.1.knows ∙ (ap solo c.clear_deactivated.ensures.makes.knows ∙ ap (λ (v : View). heard Up (solo v)) c.begin_control.ensures.makes.1.knows) in
       stepped_at infos start (changed plan event kind.Up) v (heard Up v) (solo (view c.end_control.new.cpu)) is (up_alone infos start event plan v h);
 }

@@ -19,21 +19,21 @@ use Rattle.lq_control.proofs.drains.serve_or_look.Goals as goal
 
 pub returns-then-raised : goal.returns-then-raised
 returns-then-raised g c = record {
-  same = seat_then c.args.cpu.now c.softirq.new.cpu c.begin_control.new.cpu c.softirq.ensures.kept.seat c.begin_control.ensures.same.0;
+  same = seat_then c.args.cpu.now c.softirq.new.cpu c.begin_control.new.cpu c.softirq.ensures.kept.seat c.begin_control.ensures.makes.1.seat;
   served = let v1 = view c.softirq.new.cpu in let v2 = view c.begin_control.new.cpu in let k = c.softirq.ensures.kept in let s = c.softirq.ensures.still in
       served_then (view c.args.cpu.now) v1 v2 (record {
         kept = record { share = k.share; turns = s.turns; first = ap (λ (x : FirstPart). x.first) k.control; told = k.told };
         control = k.control;
         trail = s.trail;
         fates = c.softirq.ensures.fates;
-      }) (served_begun v1 v2 c.begin_control.ensures.view);
+      }) (served_begun v1 v2 c.begin_control.ensures.makes.1.knows);
   at = let b = c.begin_control.ensures in (
-    ap (λ (x : View). x.place.position) b.view,
-    ready_kept c.softirq.new.cpu c.begin_control.new.cpu b.same (ap (λ (x : View). x.packets) b.view) (ap (λ (x : View). x.locks) b.view) (ap (λ (x : View). x.holder.resizing) b.view) c.softirq.ensures.ready,
+    ap (λ (x : View). x.place.position) b.makes.1.knows,
+    ready_kept c.softirq.new.cpu c.begin_control.new.cpu (b.makes.1.seat, b.makes.1.carries, b.makes.1.places, b.makes.1.has) (ap (λ (x : View). x.packets) b.makes.1.knows) (ap (λ (x : View). x.locks) b.makes.1.knows) (ap (λ (x : View). x.holder.resizing) b.makes.1.knows) c.softirq.ensures.ready,
   );
   clear = search rules;
   off = λ sole down. let i = interrupts_view (setup c.args.shared.now) (known c.args.cpu.now) (known c.softirq.new.cpu) (leads (NetTxAction (setup c.args.shared.now)) c.args.cpu.now c.softirq.new.cpu c.softirq.ensures.makes) in
-      ap (λ v. unmarked (solo v)) c.begin_control.ensures.view ∙ off_served c.args.shared.now.infos.now (view c.args.cpu.now) i.0 (view c.softirq.new.cpu) sole down c.requires.at.2.1 i.1 i.3;
+      ap (λ v. unmarked (solo v)) c.begin_control.ensures.makes.1.knows ∙ off_served c.args.shared.now.infos.now (view c.args.cpu.now) i.0 (view c.softirq.new.cpu) sole down c.requires.at.2.1 i.1 i.3;
   makes = let k = c.softirq.ensures.kept in let s = c.softirq.ensures.still in let f = c.begin_control.ensures.makes in
       let one = coming IsServed (NetTxAction (setup c.args.shared.now)) c.softirq.ensures.makes (record {
         kept = record { share = k.share; turns = s.turns; first = ap (λ (x : FirstPart). x.first) k.control; told = k.told };

@@ -122,30 +122,30 @@ pub returns : goal.returns
 returns g c = record {
   kept =
       let s = c.send_all_left.ensures.kept in let t = c.serve_to_end.ensures in let e = c.end_control.ensures in record {
-        seat = (e.same.0.0 ∙ (t.same.0 ∙ s.seat.0), e.same.0.1 ∙ (t.same.1 ∙ s.seat.1));
-        share = ap (λ (x : View). x.share) e.view ∙ share g c.before.before.before;
-        control = ap (λ (x : View). x.control) e.view ∙ ((served g c.before.before.before).control ∙ s.control);
-        told = ap (λ (x : View). x.whole.told) e.view ∙ ((served g c.before.before.before).kept.told ∙ s.told);
+        seat = (e.makes.1.seat.0 ∙ (t.same.0 ∙ s.seat.0), e.makes.1.seat.1 ∙ (t.same.1 ∙ s.seat.1));
+        share = ap (λ (x : View). x.share) e.makes.1.knows ∙ share g c.before.before.before;
+        control = ap (λ (x : View). x.control) e.makes.1.knows ∙ ((served g c.before.before.before).control ∙ s.control);
+        told = ap (λ (x : View). x.whole.told) e.makes.1.knows ∙ ((served g c.before.before.before).kept.told ∙ s.told);
       };
   at =
       let at = c.serve_to_end.ensures.at in let e = c.end_control.ensures in let b = c.serve_to_end.new.cpu in
-      let packets = ap (λ (x : View). x.packets) e.view in let locks = ap (λ (x : View). x.locks) e.view in
-      let resizing = ap (λ (x : View). x.holder.resizing) e.view in (
-        ap (λ (x : View). x.place.position) e.view,
-        ap (λ (x : View). x.place.raised) e.view ∙ at.2,
-        ready_kept b c.end_control.new.cpu e.same packets locks resizing at.1,
+      let packets = ap (λ (x : View). x.packets) e.makes.1.knows in let locks = ap (λ (x : View). x.locks) e.makes.1.knows in
+      let resizing = ap (λ (x : View). x.holder.resizing) e.makes.1.knows in (
+        ap (λ (x : View). x.place.position) e.makes.1.knows,
+        ap (λ (x : View). x.place.raised) e.makes.1.knows ∙ at.2,
+        ready_kept b c.end_control.new.cpu (e.makes.1.seat, e.makes.1.carries, e.makes.1.places, e.makes.1.has) packets locks resizing at.1,
       );
   finished =
       let b = c.before.before.before in
       let f = finished (k g b) (v2 g b) (made g b) (turns g b) c.serve_to_end.ensures.kept (over g c).nothing_held in
-      subst (λ (x : View). IsFinished (k g b) x) (sym c.end_control.ensures.view)
+      subst (λ (x : View). IsFinished (k g b) x) (sym c.end_control.ensures.makes.1.knows)
       (record { nothing_held = f.nothing_held; hand_empty = f.hand_empty; decided = f.decided });
   alone = λ done h.
       let b = c.before.before.before in let e = is g b in
       let none = ap held e ∙ (over g c).nothing_held in
       let down = ap (λ (a : Account). is_some a.down) e in
       let ends = ⊎_elim (λ is_down. inl (down ∙ is_down)) (λ opens. inr (values_are g b 0 opens)) (over g c).over in
-      subst (λ (x : Solo). IsFinishedAlone (infos g b) (start g b) (solo (v0 g b)) x) (sym (ap solo c.end_control.ensures.view))
+      subst (λ (x : Solo). IsFinishedAlone (infos g b) (start g b) (solo (v0 g b)) x) (sym (ap solo c.end_control.ensures.makes.1.knows))
       (over_finishes (infos g b) (start g b) (solo (v0 g b)) (solo (v2 g b)) (alike g b done h) none ends);
   makes =
       let s = setup c.args.shared.now in let first = c.serve_to_end.ensures.makes in

@@ -32,7 +32,7 @@ module _ (g : given.Over) (c : After-load_state-state g) where
   words =
       let a = c.load_lock-lock.ensures in let b = c.load_state-state.ensures in let r = c.requires in
       looks_at k c.load_lock-lock.result state c.args.cpu.now c.load_lock-lock.new.cpu c.load_state-state.new.cpu r.seat.2 r.at r.sole
-      a.same a.view a.alone a.makes b.same b.view b.sole b.makes
+      (a.makes.seat, a.makes.carries, a.makes.places, a.makes.has) a.makes.knows a.makes.told.0 a.makes (b.makes.seat, b.makes.carries, b.makes.places, b.makes.has) b.makes.knows b.makes.told.0.1 b.makes
 
 pub returns-then-state-ne0 : goal.returns-then-state-ne0
 returns-then-state-ne0 g c =
@@ -116,7 +116,7 @@ module _ (g : given.Over) (c : After-load_inside g) where
       let i = c.load_inside.ensures in let two = c.are_stops-open.new.cpu in let b = words g (at_words g at_stops) in
       let settled = subst IsActiveOrPurged (sym (c.are_stops-open.ensures.same.1 ∙ c.are_stops.ensures.same.1)) b.told.settled in
       looked_then c.load_state-state.new.cpu two c.load_inside.new.cpu (moved g at_stops)
-      (looked_inside c.load_inside.result two c.load_inside.new.cpu settled i.same i.view)
+      (looked_inside c.load_inside.result two c.load_inside.new.cpu settled (i.makes.seat, i.makes.carries, i.makes.places, i.makes.has) i.makes.knows)
 
   quiet : is_quiet g at_stops ≡ true
   quiet = subst (λ (q : Bool). q ≡ true) c.are_quiet.ensures.quiet c.if-not-are_quiet.false

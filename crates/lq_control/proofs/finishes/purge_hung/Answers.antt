@@ -59,10 +59,9 @@ module _ (g : given.Over) (c : goal.After-purge_held-arg-1 g) where
       let same = same_Some _ _ (sym c.station.ensures ∙ c.take_lock.ensures.station.1) in
       sym (c.unit-unit.ensures ∙ ap (λ (s : StationState). s.unit) same)
 
-  begun : view c.begin_hung_purge.new.cpu ≡ begin_purge_view by c.begin_hung_purge.ensures.begun.0 v2
+  begun : view c.begin_hung_purge.new.cpu ≡ begin_purge_view by c.begin_hung_purge.ensures.makes.0 v2
   begun =
-      let b = c.begin_hung_purge.ensures.begun in
-      b.1 ∙ ap (λ (m : ℕ). begin_purge_view (cause.Hung m) b.0 v2) of_unit
+      let b = c.begin_hung_purge.ensures.makes in b.2.knows ∙ ap (λ (m : ℕ). begin_purge_view (cause.Hung m) b.0 v2) of_unit
 
 pub purge_held-purged-requires-clause-slot : goal.purge_held-purged-requires-clause-slot
 purge_held-purged-requires-clause-slot g c _ _ =
@@ -73,7 +72,7 @@ purge_held-purged-requires-clause-slot g c _ _ =
     let within = subst (λ (k : Setup). IfSome d.slot (λ n. n < length k.infos)) about known_ in
     let infos = c.args.shared.now.infos.now in (
       s,
-      c.begin_hung_purge.ensures.same.1 ∙ at_,
+      c.begin_hung_purge.ensures.makes.2.carries ∙ at_,
       ap (λ (x : View). x.packets.owed) e,
       ap (λ (x : View). x.holder.slot) e,
       subst (λ (x : View). IfSome x.holder.slot (λ n. n < length infos)) (sym (got g c)) within,
@@ -81,12 +80,12 @@ purge_held-purged-requires-clause-slot g c _ _ =
 
 pub purge_held-purged-requires-clause-bands : goal.purge_held-purged-requires-clause-bands
 purge_held-purged-requires-clause-bands g c _ _ =
-    let b = c.begin_hung_purge.ensures.begun in let e = begun g c in (
+    let b = c.begin_hung_purge.ensures.makes in let e = begun g c in (
       record { cause = by g c; bands = b.0 },
       ap (λ (x : View). x.holder.left) e,
       refl,
-      subst (λ (n : ℕ). HoldsAtMost n b.0) (sym (ap (λ (x : View). x.holder.size) e)) b.2,
-      subst (λ (k : Setup). HoldPackets k.infos b.0) (ap (λ (x : View). x.share.about) (got g c) ∙ c.requires.seat.2) b.3,
+      subst (λ (n : ℕ). HoldsAtMost n b.0) (sym (ap (λ (x : View). x.holder.size) e)) b.2.told.0.0,
+      subst (λ (k : Setup). HoldPackets k.infos b.0) (ap (λ (x : View). x.share.about) (got g c) ∙ c.requires.seat.2) b.2.told.0.1,
     )
 
 -- What is known after the purge: all that was held was taken, and but for that and the run lock the station is as before the call.
@@ -98,18 +97,18 @@ module _ (g : given.Over) (c : goal.After-end_resize-arg-1 g) where
   v4 = view c.purge_held-purged.new.cpu
 
   abbrev lost : List ℕ
-  lost = all_purged (v2 g begin).holder.slot c.begin_hung_purge.ensures.begun.0
+  lost = all_purged (v2 g begin).holder.slot c.begin_hung_purge.ensures.makes.0
 
   emptied : IsPurgeDone (by g begin) lost (view c.begin_hung_purge.new.cpu) v4 × (c.purge_held-purged.result ≡ length lost)
   emptied =
-      let e = begun g begin in let l : Left = record { cause = by g begin; bands = c.begin_hung_purge.ensures.begun.0 } in
+      let e = begun g begin in let l : Left = record { cause = by g begin; bands = c.begin_hung_purge.ensures.makes.0 } in
       let owed = ap (λ (x : View). x.packets.owed) e in
       c.purge_held-purged.ensures.purged (v2 g begin).holder.slot l owed (ap (λ (x : View). x.holder.left) e)
 
   purged : IsPurged (by g begin) lost (v2 g begin) v4
   purged =
       let none_owed = ap (λ (x : View). x.packets.owed) (got g begin) ∙ ap (λ (p : PacketPart). p.owed) c.requires.at.2.1 in
-      purged_of (by g begin) c.begin_hung_purge.ensures.begun.0 lost (v2 g begin) (view c.begin_hung_purge.new.cpu) v4 none_owed
+      purged_of (by g begin) c.begin_hung_purge.ensures.makes.0 lost (v2 g begin) (view c.begin_hung_purge.new.cpu) v4 none_owed
       (begun g begin) emptied.0
 
   -- in the terms of what was known before the call
@@ -118,7 +117,7 @@ module _ (g : given.Over) (c : goal.After-end_resize-arg-1 g) where
 
   seat : IsSameSeat c.args.cpu.now c.purge_held-purged.new.cpu
   seat =
-      let a = c.wait_until_left.ensures.same.0.0 in let b = c.take_lock.ensures.same.0 in let d = c.begin_hung_purge.ensures.same.0 in
+      let a = c.wait_until_left.ensures.same.0.0 in let b = c.take_lock.ensures.same.0 in let d = c.begin_hung_purge.ensures.makes.2.seat in
       let e = c.purge_held-purged.ensures.same.0 in (e.0 ∙ (d.0 ∙ (b.0 ∙ a.0)), e.1 ∙ (d.1 ∙ (b.1 ∙ a.1)))
 
   control : v4.control ≡ (v0 g begin).control
@@ -177,7 +176,7 @@ comes_to : (g : given.Over) (c : goal.After-end_resize g)
     → PurgesHung c.purge_held-purged.result (view c.args.cpu.now) (view c.end_resize.new.cpu)
 comes_to g c =
     let w = of_station g c in let is = (left g c.before).is in let kept = (kept_ended c.end_resize.ensures.makes).0 in
-    let v = view c.args.cpu.now in let p = whole g c in let b = c.begin_hung_purge.ensures.begun in let all = p.lost b.0 b.4 in record {
+    let v = view c.args.cpu.now in let p = whole g c in let b = c.begin_hung_purge.ensures.makes in let all = p.lost b.0 b.2.told.0.2 in record {
       hung = c.requires.hung.hung;
       unit = c.requires.hung.unit;
       trail = kept.9 ∙ (ap (λ (x : View). x.trail) is ∙ (λ j. Purge (cause.Hung (w j)) ∷ v.trail));

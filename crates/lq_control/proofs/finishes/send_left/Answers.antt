@@ -86,7 +86,7 @@ transmit-sending-requires-clause-packet g c _ _ =
 pub transmit-sending-requires-clause-owner : goal.transmit-sending-requires-clause-owner
 transmit-sending-requires-clause-owner g c _ _ =
     let owner = owner_in (setup c.args.shared.now).infos c.args.n in let sender = c.requires.may.made.infos.owners c.args.n c.requires.packet in
-    (subst (λ (x : View). 0 < times owner x.share.owners) (sym c.load_turn.ensures.same.1) (c.requires.may.made.owners owner sender), sender)
+    (subst (λ (x : View). 0 < times owner x.share.owners) (sym c.load_turn.ensures.makes.knows) (c.requires.may.made.owners owner sender), sender)
 
 -- What is known where it was left: its turn is due, so it was transmitted in turn.
 module _ (g : given.Over) (c : goal.After-drain g) where
@@ -106,21 +106,21 @@ module _ (g : given.Over) (c : goal.After-drain g) where
   own = c.if-info-number.false ∙ c.number.ensures
 
   left : slice_index before.turns info.owner ≤ 2 * info.rank
-  left = let word = c.load_turn.ensures.word is.owned in let test = c.if-load_turn-info.true in omega arith
+  left = let word = c.load_turn.ensures.makes.told.0 is.owned in let test = c.if-load_turn-info.true in omega arith
 
   due : slice_index before.turns info.owner ≡ 2 * info.rank
   due = in_turn k c.args.n info is.here own is.ranked is.sender before.turns c.requires.may.turns left
 
   turn_is : IsTurnOf c.args.shared.now c.args.n c.load_turn.new.cpu
   turn_is =
-      let same = c.load_turn.ensures.same.1 in let twice = ap (λ (r : ℕ). 2 * r) is.rank in
+      let same = c.load_turn.ensures.makes.knows in let twice = ap (λ (r : ℕ). 2 * r) is.rank in
       (λ j. slice_index (same j).turns (is.owner j)) ∙ (due ∙ sym twice)
 
   sent : TransmitsBy k c.args.n c.transmit-sending.result (known c.load_turn.new.cpu) (known c.transmit-sending.new.cpu)
   sent = c.transmit-sending.ensures.in_turn turn_is
 
   sent_word : (view c.transmit-sending.new.cpu).turns ≡ slice_set before.turns info.owner (2 * info.rank + 2)
-  sent_word = sent.turns ∙ (λ j. slice_set (c.load_turn.ensures.same.1 j).turns (is.owner j) (2 * is.rank j + 2))
+  sent_word = sent.turns ∙ (λ j. slice_set (c.load_turn.ensures.makes.knows j).turns (is.owner j) (2 * is.rank j + 2))
 
 pub returns-then-load_turn-info : goal.returns-then-load_turn-info
 returns-then-load_turn-info g c = record {
@@ -133,7 +133,7 @@ returns-then-load_turn-info g c = record {
       (due g c) (c.drain.ensures.served.kept.turns ∙ sent_word g c);
   sent =
       let s = k g c in let v0 = before g c in let v1 = view c.load_turn.new.cpu in let v2 = view c.transmit-sending.new.cpu in
-      let v3 = view c.drain.new.cpu in let same = c.load_turn.ensures.same.1 in let served = c.drain.ensures.served in
+      let v3 = view c.drain.new.cpu in let same = c.load_turn.ensures.makes.knows in let served = c.drain.ensures.served in
       let about = ap (λ (x : View). x.share.about) same ∙ c.requires.seat.2 in
       let by = sent_by s c.args.n c.transmit-sending.result v1 v2 about (sent g c).trail c.transmit-sending.ensures.fates in
       sent_then s v0 v1 v3 (sent_same s v0 v1 same) (sent_then s v1 v2 v3 by (sent_none s v2 v3 served.trail served.fates));
@@ -156,12 +156,12 @@ returns-else-load_turn-info g c = record {
   raised = search rules;
   turns =
       let s = setup c.args.shared.now in let v = view c.args.cpu.now in let n = c.args.n in
-      let e = entry c.infos.ensures c.requires.packet c.requires.may.made in let word = c.load_turn.ensures.word e.owned in
-      subst (λ (x : View). AreTurnsFrom s (n + 1) x.turns) (sym c.load_turn.ensures.same.1)
+      let e = entry c.infos.ensures c.requires.packet c.requires.may.made in let word = c.load_turn.ensures.makes.told.0 e.owned in
+      subst (λ (x : View). AreTurnsFrom s (n + 1) x.turns) (sym c.load_turn.ensures.makes.knows)
       (turns_past s n _ e.here (c.if-info-number.false ∙ c.number.ensures) e.ranked e.sender v.turns c.requires.may.turns
       (let test = c.if-load_turn-info.false in omega arith));
   sent =
-      sent_same (setup c.args.shared.now) (view c.args.cpu.now) (view c.load_turn.new.cpu) c.load_turn.ensures.same.1;
+      sent_same (setup c.args.shared.now) (view c.args.cpu.now) (view c.load_turn.new.cpu) c.load_turn.ensures.makes.knows;
   done = search rules;
   makes =
       let e = entry c.infos.ensures c.requires.packet c.requires.may.made in

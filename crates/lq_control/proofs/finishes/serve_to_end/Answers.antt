@@ -71,14 +71,14 @@ loop-init g c = let v = view c.args.cpu.now in record {
 pub irq-requires-clause-seat : goal.irq-requires-clause-seat
 irq-requires-clause-seat g c _ _ =
     let i = c.loop.invariant in let b = c.begin_control.ensures in let p = c.look.ensures.same in let e = c.end_control.ensures in
-    let share = ap (λ (x : View). x.share) e.view ∙ (ap (λ (x : View). x.share) p.1.1 ∙ ap (λ (x : View). x.share) b.view) in
-    seat_on c.args.shared.now c.loop.cpu c.end_control.new.cpu i.seat (e.same.0.0 ∙ (p.0.0.0 ∙ b.same.0.0), e.same.0.1 ∙ (p.0.0.1 ∙ b.same.0.1)) share
+    let share = ap (λ (x : View). x.share) e.makes.1.knows ∙ (ap (λ (x : View). x.share) p.1.1 ∙ ap (λ (x : View). x.share) b.makes.1.knows) in
+    seat_on c.args.shared.now c.loop.cpu c.end_control.new.cpu i.seat (e.makes.1.seat.0 ∙ (p.0.0.0 ∙ b.makes.1.seat.0), e.makes.1.seat.1 ∙ (p.0.0.1 ∙ b.makes.1.seat.1)) share
 
 pub irq-requires-clause-ready : goal.irq-requires-clause-ready
 irq-requires-clause-ready g c _ _ =
     let i = c.loop.invariant in let b = c.begin_control.ensures in let p = c.look.ensures.same in let e = c.end_control.ensures in
-    let ready3 = (looked_at c.loop.cpu c.begin_control.new.cpu c.look.new.cpu b.same b.view p i.ready i.low).1 in
-    ready_kept c.look.new.cpu c.end_control.new.cpu e.same (ap (λ (x : View). x.packets) e.view) (ap (λ (x : View). x.locks) e.view) (ap (λ (x : View). x.holder.resizing) e.view) ready3
+    let ready3 = (looked_at c.loop.cpu c.begin_control.new.cpu c.look.new.cpu (b.makes.1.seat, b.makes.1.carries, b.makes.1.places, b.makes.1.has) b.makes.1.knows p i.ready i.low).1 in
+    ready_kept c.look.new.cpu c.end_control.new.cpu (e.makes.1.seat, e.makes.1.carries, e.makes.1.places, e.makes.1.has) (ap (λ (x : View). x.packets) e.makes.1.knows) (ap (λ (x : View). x.locks) e.makes.1.knows) (ap (λ (x : View). x.holder.resizing) e.makes.1.knows) ready3
 
 pub loop-preserved : goal.loop-preserved
 loop-preserved g c =
@@ -90,15 +90,15 @@ loop-preserved g c =
       trail = n.still.trail;
       fates = ([], n.fates);
     } in
-    let returned : IsServed v1 v4 = served_then v1 v2 v4 (served_begun v1 v2 b.view) (served_then v2 v3 v4 (served_looked v2 v3 l.same.1) (served_returned v3 v4 e.view)) in
+    let returned : IsServed v1 v4 = served_then v1 v2 v4 (served_begun v1 v2 b.makes.1.knows) (served_then v2 v3 v4 (served_looked v2 v3 l.same.1) (served_returned v3 v4 e.makes.1.knows)) in
     let more : IsServed v1 v6 = served_then v1 v4 v6 returned (served_then v4 v5 v6 woken d.served) in
     let p = l.same.0 in
-    let ids = d.same.0 ∙ (n.kept.seat.0 ∙ (e.same.0.0 ∙ (p.0.0 ∙ b.same.0.0))) in let ids1 = d.same.1 ∙ (n.kept.seat.1 ∙ (e.same.0.1 ∙ (p.0.1 ∙ b.same.0.1))) in
+    let ids = d.same.0 ∙ (n.kept.seat.0 ∙ (e.makes.1.seat.0 ∙ (p.0.0 ∙ b.makes.1.seat.0))) in let ids1 = d.same.1 ∙ (n.kept.seat.1 ∙ (e.makes.1.seat.1 ∙ (p.0.1 ∙ b.makes.1.seat.1))) in
     let k = setup c.args.shared.now in let infos = c.args.shared.now.infos.now in let start : Account = first_account k in
     let about4 : v4.share.about ≡ k = ap (λ (x : SharePart). x.about) returned.kept.share ∙ i.seat.2 in
-    let same4 : solo v4 ≡ solo v1 = ap solo e.view ∙ solo_looked v1 v2 v3 b.view l.same.1 in
+    let same4 : solo v4 ≡ solo v1 = ap solo e.makes.1.knows ∙ solo_looked v1 v2 v3 b.makes.1.knows l.same.1 in
     let shows : (account_of v3).down ≡ None = subst (λ (x : Seen). Shows x v3) c.in-Going.is l.shows in
-    let active : (account_in start (solo v4)).down ≡ None = ap (λ (a : Account). a.down) (account_at k v4 about4) ∙ (ap (λ (x : View). (account_of x).down) e.view ∙ shows) in record {
+    let active : (account_in start (solo v4)).down ≡ None = ap (λ (a : Account). a.down) (account_at k v4 about4) ∙ (ap (λ (x : View). (account_of x).down) e.makes.1.knows ∙ shows) in record {
       can = (search rules);
       ends = (search rules);
       seat = seat_on c.args.shared.now c.loop.cpu c.drain.new.cpu i.seat (ids, ids1) more.kept.share;
@@ -114,21 +114,21 @@ loop-preserved g c =
 pub returns-in-Ended : goal.returns-in-Ended
 returns-in-Ended g c =
     let i = c.loop.invariant in let b = c.begin_control.ensures in let l = c.look.ensures in let c0 = c.args.cpu.now in let c1 = c.loop.cpu in let c2 = c.begin_control.new.cpu in let c3 = c.look.new.cpu in record {
-      same = seat_then c0 c1 c3 i.same (seat_then c1 c2 c3 b.same.0 l.same.0.0);
-      at = looked_at c1 c2 c3 b.same b.view l.same i.ready i.low;
+      same = seat_then c0 c1 c3 i.same (seat_then c1 c2 c3 b.makes.1.seat l.same.0.0);
+      at = looked_at c1 c2 c3 (b.makes.1.seat, b.makes.1.carries, b.makes.1.places, b.makes.1.has) b.makes.1.knows l.same i.ready i.low;
       kept = l.kept;
       shows = subst (λ (x : Seen). Shows x (view c3)) c.in-Ended.is l.shows;
-      alone = λ h. subst (λ (s : Solo). IsEndedAlike c.args.shared.now.infos.now (first_account (setup c.args.shared.now)) (solo (view c0)) s) (sym (solo_looked (view c1) (view c2) (view c3) b.view l.same.1)) (i.alike h);
-      makes = ends_at c.in-Ended.is i.on b.makes l.makes (served_to_look (view c0) (view c1) (view c2) (view c3) i.served b.view l.same.1);
+      alone = λ h. subst (λ (s : Solo). IsEndedAlike c.args.shared.now.infos.now (first_account (setup c.args.shared.now)) (solo (view c0)) s) (sym (solo_looked (view c1) (view c2) (view c3) b.makes.1.knows l.same.1)) (i.alike h);
+      makes = ends_at c.in-Ended.is i.on b.makes l.makes (served_to_look (view c0) (view c1) (view c2) (view c3) i.served b.makes.1.knows l.same.1);
     }
 
 pub returns-in-Hung : goal.returns-in-Hung
 returns-in-Hung g c =
     let i = c.loop.invariant in let b = c.begin_control.ensures in let l = c.look.ensures in let c0 = c.args.cpu.now in let c1 = c.loop.cpu in let c2 = c.begin_control.new.cpu in let c3 = c.look.new.cpu in record {
-      same = seat_then c0 c1 c3 i.same (seat_then c1 c2 c3 b.same.0 l.same.0.0);
-      at = looked_at c1 c2 c3 b.same b.view l.same i.ready i.low;
+      same = seat_then c0 c1 c3 i.same (seat_then c1 c2 c3 b.makes.1.seat l.same.0.0);
+      at = looked_at c1 c2 c3 (b.makes.1.seat, b.makes.1.carries, b.makes.1.places, b.makes.1.has) b.makes.1.knows l.same i.ready i.low;
       kept = l.kept;
       shows = subst (λ (x : Seen). Shows x (view c3)) c.in-Hung.is l.shows;
-      alone = λ h. subst (λ (s : Solo). IsEndedAlike c.args.shared.now.infos.now (first_account (setup c.args.shared.now)) (solo (view c0)) s) (sym (solo_looked (view c1) (view c2) (view c3) b.view l.same.1)) (i.alike h);
-      makes = ends_at c.in-Hung.is i.on b.makes l.makes (served_to_look (view c0) (view c1) (view c2) (view c3) i.served b.view l.same.1);
+      alone = λ h. subst (λ (s : Solo). IsEndedAlike c.args.shared.now.infos.now (first_account (setup c.args.shared.now)) (solo (view c0)) s) (sym (solo_looked (view c1) (view c2) (view c3) b.makes.1.knows l.same.1)) (i.alike h);
+      makes = ends_at c.in-Hung.is i.on b.makes l.makes (served_to_look (view c0) (view c1) (view c2) (view c3) i.served b.makes.1.knows l.same.1);
     }

@@ -13,9 +13,9 @@ use Rattle.lq_control.proofs.purges.purge_all.Goals as goal
 
 pub purge_held-requires-clause-slot : goal.purge_held-requires-clause-slot
 purge_held-requires-clause-slot g c _ _ =
-    let v = view c.args.cpu.now in let s = v.holder.slot in let e = c.begin_purge-event.ensures.begun.1 in (
+    let v = view c.args.cpu.now in let s = v.holder.slot in let e = c.begin_purge-event.ensures.makes.2.knows in (
       s,
-      c.begin_purge-event.ensures.same.1 ∙ (c.requires.station ∙ ap (λ (x : View). Some (shown (record x.holder { slot = s }))) (sym e)),
+      c.begin_purge-event.ensures.makes.2.carries ∙ (c.requires.station ∙ ap (λ (x : View). Some (shown (record x.holder { slot = s }))) (sym e)),
       ap (λ (x : View). x.packets.owed) e,
       ap (λ (x : View). x.holder.slot) e,
       subst (λ (k : Setup). IfSome s (λ n. n < length k.infos)) c.requires.seat.2 (slot_within v.share.about s c.requires.rests.1),
@@ -23,31 +23,31 @@ purge_held-requires-clause-slot g c _ _ =
 
 pub purge_held-requires-clause-bands : goal.purge_held-requires-clause-bands
 purge_held-requires-clause-bands g c _ _ =
-    let v = view c.args.cpu.now in let b = c.begin_purge-event.ensures.begun in let e = b.1 in (
-      record { cause = cause.Event c.begin_purge-event.result; bands = b.0 },
+    let v = view c.args.cpu.now in let m = c.begin_purge-event.ensures.makes in let e = m.2.knows in (
+      record { cause = cause.Event c.begin_purge-event.result; bands = m.0 },
       ap (λ (x : View). x.holder.left) e,
       refl,
-      subst (λ (n : ℕ). HoldsAtMost n b.0) (sym (ap (λ (x : View). x.holder.size) e)) b.2,
-      subst (λ (k : Setup). HoldPackets k.infos b.0) c.requires.seat.2 b.3,
+      subst (λ (n : ℕ). HoldsAtMost n m.0) (sym (ap (λ (x : View). x.holder.size) e)) m.2.told.0.1,
+      subst (λ (k : Setup). HoldPackets k.infos m.0) c.requires.seat.2 m.2.told.0.2,
     )
 
 pub returns : goal.returns
 returns g c = record {
   same = search rules;
   purged =
-      let v = view c.args.cpu.now in let b = c.begin_purge-event.ensures.begun in let e = b.1 in
-      let done = c.purge_held.ensures.purged v.holder.slot (record { cause = cause.Event c.begin_purge-event.result; bands = b.0 }) (ap (λ (x : View). x.packets.owed) e) (ap (λ (x : View). x.holder.left) e) in (
+      let v = view c.args.cpu.now in let m = c.begin_purge-event.ensures.makes in let e = m.2.knows in
+      let done = c.purge_held.ensures.purged v.holder.slot (record { cause = cause.Event c.begin_purge-event.result; bands = m.0 }) (ap (λ (x : View). x.packets.owed) e) (ap (λ (x : View). x.holder.left) e) in (
         c.begin_purge-event.result,
-        b.0,
-        c.begin_purge-event.ensures.event,
-        purged_of (cause.Event c.begin_purge-event.result) b.0 _ v (view c.begin_purge-event.new.cpu) (view c.purge_held.new.cpu) (ap (λ (p : PacketPart). p.owed) c.requires.bare.0) e done.0,
+        m.0,
+        m.2.told.0.0,
+        purged_of (cause.Event c.begin_purge-event.result) m.0 _ v (view c.begin_purge-event.new.cpu) (view c.purge_held.new.cpu) (ap (λ (p : PacketPart). p.owed) c.requires.bare.0) e done.0,
         done.1,
-        b.4,
+        m.2.told.0.3,
       );
   station = search rules;
   makes =
-      let b = c.begin_purge-event.ensures.begun in let m = c.begin_purge-event.ensures.makes in let event = c.begin_purge-event.result in let slot = (view c.args.cpu.now).holder.slot in
+      let m = c.begin_purge-event.ensures.makes in let event = c.begin_purge-event.result in let slot = (view c.args.cpu.now).holder.slot in
       let by = cause.Event event in let count = c.purge_held.result in
-      let t = and_then (Only (BeginPurge event m.0 m.1 ∷ [])) (QdiscReset by slot count) (only m.2) (c.purge_held.ensures.makes slot (ap (λ (x : View). x.packets.owed) b.1)) in
-      (event, c.begin_purge-event.ensures.event, (t.0, (m.0, m.1, t.1), t.2));
+      let t = and_then (Only (BeginPurge event m.0 m.1 ∷ [])) (QdiscReset by slot count) (only m.2) (c.purge_held.ensures.makes slot (ap (λ (x : View). x.packets.owed) m.2.knows)) in
+      (event, m.2.told.0.0, (t.0, (m.0, m.1, t.1), t.2));
 }

@@ -151,11 +151,11 @@ missed : (g : given.Over) (c : goal.After-reset_draining-arg-1 g)
     → view c.reset_missed.new.cpu ≡ purge_going no_missed purge4 (view c.purge_band-high.new.cpu)
 missed g c =
     let v = view c.purge_band-high.new.cpu in
-    c.reset_missed.ensures.view ∙ ap (λ (o : Option Purge). reset_missed_view_in o v) (after_high g c.before.before).purge
+    c.reset_missed.ensures.makes.knows ∙ ap (λ (o : Option Purge). reset_missed_view_in o v) (after_high g c.before.before).purge
 
 pub reset_draining-requires-clause-seat : goal.reset_draining-requires-clause-seat
 reset_draining-requires-clause-seat g c _ _ =
-    let h = after_high g c.before.before in let m = c.reset_missed.ensures.same.0 in
+    let h = after_high g c.before.before in let m = c.reset_missed.ensures.makes.seat in
     seat_on c.args.shared.now c.args.cpu.now c.reset_missed.new.cpu c.requires.seat (m.0 ∙ h.seat.0, m.1 ∙ h.seat.1)
     (ap (λ (x : View). x.share) (missed g c) ∙ h.still.share)
 
@@ -200,7 +200,7 @@ returns g c = record {
       let last = ap (λ (x : View). x.control.purge) mid.0.is in
       let high = c.purge_band-high.ensures.knows purge2 (left2 l) last (ap (λ (x : View). x.holder.left) mid.0.is) in
       let cause_is = ap (λ (z : Left). z.cause) (same_Some _ _ (sym left ∙ c.requires.bands.1)) ∙ c.requires.bands.2 in
-      let bits = c.reset_missed.ensures.view in let ends = c.reset_draining.ensures.view in
+      let bits = c.reset_missed.ensures.makes.knows in let ends = c.reset_draining.ensures.makes.knows in
       let n = count_all s l in let n0 = first.0 in let n1 = low.1 in let n2 = mid.1 in let n3 = high.1 in
       (emptied c.args.cause s l v v1 v2 v3 v4 v5 v6 cause_is e low.0 mid.0 high.0 bits ends, omega arith);
   station = search rules;

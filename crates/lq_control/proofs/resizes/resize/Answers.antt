@@ -30,24 +30,24 @@ pub returns : goal.returns
 returns g c =
     let alone_ : IsSole (view c.args.cpu.now) → solo (view c.end_resize.new.cpu) ≡ ended (heard (Resize c.args.len c.args.event) (locked_to true (solo (view c.args.cpu.now)))) = λ sole.
     let v = view c.args.cpu.now in let got = c.take_lock.ensures.got in let v2 = view c.take_lock.new.cpu in
-    let e2 : v2 ≡ try_lock_view_in_control got.0 (begin_control_view v) = got.1 ∙ ap (try_lock_view_in_control got.0) c.begin_control.ensures.view in
-    let r = turned g c in let s1 : solo (view c.begin_control.new.cpu) ≡ solo v = ap solo c.begin_control.ensures.view in
-    let s2 = (c.take_lock.ensures.sole (subst IsSole (sym c.begin_control.ensures.view) sole)).0 ∙ ap (locked_to true) s1 in
+    let e2 : v2 ≡ try_lock_view_in_control got.0 (begin_control_view v) = got.1 ∙ ap (try_lock_view_in_control got.0) c.begin_control.ensures.makes.1.knows in
+    let r = turned g c in let s1 : solo (view c.begin_control.new.cpu) ≡ solo v = ap solo c.begin_control.ensures.makes.1.knows in
+    let s2 = (c.take_lock.ensures.sole (subst IsSole (sym c.begin_control.ensures.makes.1.knows) sole)).0 ∙ ap (locked_to true) s1 in
     sole_ended c.end_resize.ensures.makes (subst IsSole (sym (r.is ∙ ap (having_resized c.args.len c.args.event (all_lost c.args.len r.held)) e2)) sole) ∙ ap ended (ap solo r.is ∙ ap (heard (Resize c.args.len c.args.event)) s2) in record {
       same =
           let v1 = view c.begin_control.new.cpu in let v2 = view c.take_lock.new.cpu in let v3 = view c.resize_all-shrunk.new.cpu in let got = c.take_lock.ensures.got in
           let r = turned g c in let len = c.args.len in let event = c.args.event in let lost = all_lost len r.held in
           let b = c.begin_control.ensures in let t = c.take_lock.ensures.same.0 in let s = c.resize_all-shrunk.ensures.same.0 in let e = (kept_ended c.end_resize.ensures.makes).0 in
           let v = view c.args.cpu.now in let last = view c.end_resize.new.cpu in
-          let k = keeps_then v v1 v3 (keeps_begun v v1 b.view) (keeps_resized len event lost got.0 v1 v2 v3 got.1 r.is) in
+          let k = keeps_then v v1 v3 (keeps_begun v v1 b.makes.1.knows) (keeps_resized len event lost got.0 v1 v2 v3 got.1 r.is) in
           let all = keeps_then v v3 last k (keeps_ended c.resize_all-shrunk.new.cpu c.end_resize.new.cpu e) in
           let c1 = c.begin_control.new.cpu in let c2 = c.take_lock.new.cpu in let c3 = c.resize_all-shrunk.new.cpu in
-          (seat_then c.args.cpu.now c1 c.end_resize.new.cpu b.same.0 (seat_then c1 c2 c.end_resize.new.cpu t (seat_then c2 c3 c.end_resize.new.cpu s e.0)), all.0, all.1);
+          (seat_then c.args.cpu.now c1 c.end_resize.new.cpu b.makes.1.seat (seat_then c1 c2 c.end_resize.new.cpu t (seat_then c2 c3 c.end_resize.new.cpu s e.0)), all.0, all.1);
       at =
           let v1 = view c.begin_control.new.cpu in let v2 = view c.take_lock.new.cpu in let v3 = view c.resize_all-shrunk.new.cpu in let got = c.take_lock.ensures.got in
           let r = turned g c in let len = c.args.len in let event = c.args.event in let lost = all_lost len r.held in
           let e = c.end_resize.ensures in let k = (kept_ended e.makes).0 in let at = e.at in
-          let ready = c.requires.may.at.2 in let first = c.begin_control.ensures.view in let turned = resized_from len event lost got.0 v1 v2 v3 got.1 r.is in
+          let ready = c.requires.may.at.2 in let first = c.begin_control.ensures.makes.1.knows in let turned = resized_from len event lost got.0 v1 v2 v3 got.1 r.is in
           let control : (view c.end_resize.new.cpu).control ≡ (view c.args.cpu.now).control = k.4 ∙ (ap (λ (x : View). x.control) turned ∙ ap (λ (x : View). x.control) first) in (
             at.0,
             (
@@ -61,7 +61,7 @@ returns g c =
       trail =
           let got = c.take_lock.ensures.got in let r = turned g c in let len = c.args.len in let event = c.args.event in
           let is = resized_from len event (all_lost len r.held) got.0 (view c.begin_control.new.cpu) (view c.take_lock.new.cpu) (view c.resize_all-shrunk.new.cpu) got.1 r.is in
-          (kept_ended c.end_resize.ensures.makes).0.9 ∙ (ap (λ (x : View). x.trail) is ∙ ap (λ (x : View). Resize len event ∷ x.trail) c.begin_control.ensures.view);
+          (kept_ended c.end_resize.ensures.makes).0.9 ∙ (ap (λ (x : View). x.trail) is ∙ ap (λ (x : View). Resize len event ∷ x.trail) c.begin_control.ensures.makes.1.knows);
       makes =
           let turn : Standing → List Step → Type 0 = ResizeRings c.args.len c.args.event c.resize_all-shrunk.result in let ends : Standing → List Step → Type 0 = λ s. End in
           and_then (Finding BeginControl) (Then (λ s. TakeLock) (Then turn ends)) (finds BeginControl c.begin_control.ensures.makes)

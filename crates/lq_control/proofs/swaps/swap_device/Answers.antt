@@ -45,17 +45,17 @@ returns g c = record {
   same =
       let v = view c.args.cpu.now in let got = c.take_lock.ensures.got in let locked = c.change_device-old.new.cpu in let opened = c.open_queues.ensures.opened in let whole = opened.0 in
       let e = swapped_is got.0 (unwrap_or locked.station no_station) whole v (view c.take_lock.new.cpu) (view locked) (view c.swap.new.cpu) (view c.open_queues.new.cpu) (view c.release.new.cpu)
-      got.1 (ap (λ (x : Known). x.view) (station_set (c.change_device-old.ensures.makes (view c.take_lock.new.cpu).holder c.take_lock.ensures.station.1))) c.swap.ensures.view opened.1 c.release.ensures.released in
+      got.1 (ap (λ (x : Known). x.view) (station_set (c.change_device-old.ensures.makes (view c.take_lock.new.cpu).holder c.take_lock.ensures.station.1))) c.swap.ensures.makes.knows opened.1 c.release.ensures.released in
       let c1 = c.take_lock.new.cpu in let c3 = c.swap.new.cpu in let c4 = c.open_queues.new.cpu in let c5 = c.release.new.cpu in
-      let to_end = seat_then c3 c4 c5 c.open_queues.ensures.same.0 c.release.ensures.same.0 in let swaps = c.swap.ensures.view in
+      let to_end = seat_then c3 c4 c5 c.open_queues.ensures.same.0 c.release.ensures.same.0 in let swaps = c.swap.ensures.makes.knows in
       let told = opened.2 ∙ (ap (λ (x : View). x.whole.told) swaps ∙ (ap (λ (x : Known). x.view.whole.told) (station_set (c.change_device-old.ensures.makes (view c.take_lock.new.cpu).holder c.take_lock.ensures.station.1)) ∙ ap (λ (x : View). x.whole.told) got.1)) in (
-        seat_then c.args.cpu.now c1 c5 c.take_lock.ensures.same.0 (seat_then c1 locked c5 (c.change_device-old.ensures.makes (view c.take_lock.new.cpu).holder c.take_lock.ensures.station.1).seat (seat_then locked c3 c5 c.swap.ensures.same.0 to_end)),
+        seat_then c.args.cpu.now c1 c5 c.take_lock.ensures.same.0 (seat_then c1 locked c5 (c.change_device-old.ensures.makes (view c.take_lock.new.cpu).holder c.take_lock.ensures.station.1).seat (seat_then locked c3 c5 c.swap.ensures.makes.seat to_end)),
         record { share = ap (λ (x : View). x.share) e; turns = ap (λ (x : View). x.turns) e; first = ap (λ (x : View). x.control.first) e; told = ap (λ (x : View). x.whole.told) e ∙ told },
       );
   at =
       let v = view c.args.cpu.now in let got = c.take_lock.ensures.got in let locked = c.change_device-old.new.cpu in let opened = c.open_queues.ensures.opened in let whole = opened.0 in
       let e = swapped_is got.0 (unwrap_or locked.station no_station) whole v (view c.take_lock.new.cpu) (view locked) (view c.swap.new.cpu) (view c.open_queues.new.cpu) (view c.release.new.cpu)
-      got.1 (ap (λ (x : Known). x.view) (station_set (c.change_device-old.ensures.makes (view c.take_lock.new.cpu).holder c.take_lock.ensures.station.1))) c.swap.ensures.view opened.1 c.release.ensures.released in
+      got.1 (ap (λ (x : Known). x.view) (station_set (c.change_device-old.ensures.makes (view c.take_lock.new.cpu).holder c.take_lock.ensures.station.1))) c.swap.ensures.makes.knows opened.1 c.release.ensures.released in
       let ready = c.requires.may.at.2 in (
         ap (λ (x : View). x.place.position) e,
         (c.release.ensures.empty, ap (λ (x : View). x.packets) e ∙ ready.1, ap (λ (x : View). x.locks) e ∙ ready.2, ap (λ (x : View). x.holder.resizing) e ∙ got.5),
@@ -64,7 +64,7 @@ returns g c = record {
   trail =
       let v = view c.args.cpu.now in let got = c.take_lock.ensures.got in let locked = c.change_device-old.new.cpu in let opened = c.open_queues.ensures.opened in let whole = opened.0 in
       let e = swapped_is got.0 (unwrap_or locked.station no_station) whole v (view c.take_lock.new.cpu) (view locked) (view c.swap.new.cpu) (view c.open_queues.new.cpu) (view c.release.new.cpu)
-      got.1 (ap (λ (x : Known). x.view) (station_set (c.change_device-old.ensures.makes (view c.take_lock.new.cpu).holder c.take_lock.ensures.station.1))) c.swap.ensures.view opened.1 c.release.ensures.released in
+      got.1 (ap (λ (x : Known). x.view) (station_set (c.change_device-old.ensures.makes (view c.take_lock.new.cpu).holder c.take_lock.ensures.station.1))) c.swap.ensures.makes.knows opened.1 c.release.ensures.released in
       ap (λ (x : View). x.trail) e
       ∙ ap (λ (o : Option StationState). Swap (unwrap_or o no_station).unit ∷ v.trail) (c.change_device-old.ensures.makes (view c.take_lock.new.cpu).holder c.take_lock.ensures.station.1).carries;
   makes =
@@ -78,7 +78,7 @@ returns g c = record {
   alone = λ sole.
       let h = (view c.take_lock.new.cpu).holder in let changed = (c.change_device-old.ensures.makes h c.take_lock.ensures.station.1).carries in let before = view c.change_device-old.new.cpu in
       let device = (g.D.TxDevice.state c.args.device) in
-      let swapped = ap solo c.swap.ensures.view ∙ ap (λ (o : Option StationState). device_to (unwrap_or o no_station).device (heard (Swap (unwrap_or o no_station).unit) (solo before))) changed in
+      let swapped = ap solo c.swap.ensures.makes.knows ∙ ap (λ (o : Option StationState). device_to (unwrap_or o no_station).device (heard (Swap (unwrap_or o no_station).unit) (solo before))) changed in
       ap solo c.release.ensures.released ∙ (ap (locked_to false) (c.open_queues.ensures.step ∙ swapped)
       ∙ ap (λ (s : Solo). locked_to false (device_to device (heard (Swap c.args.unit) s))) (ap (λ (x : Known). solo x.view) (station_set (c.change_device-old.ensures.makes (view c.take_lock.new.cpu).holder c.take_lock.ensures.station.1)) ∙ (c.take_lock.ensures.sole sole).0));
 }

@@ -28,10 +28,10 @@ returns-then-load_xoff-ne0 g c = record {
       let q = c.queue_of-queue.result in
       subst (λ (queue : ℕ). LaysAside c.args.n queue (view c.args.cpu.now) (view c.requeue_stopped.new.cpu)) c.queue_of-queue.ensures
       (lays_aside c.args.n q c.load_xoff.result (packet_at c.args.shared.now c.args.n) c.requires.may.0 c.args.cpu.now c.load_xoff.new.cpu c.requeue_stopped.new.cpu
-      c.if-load_xoff-ne0.true c.requires.may.1.at c.requires.may.1.serving.3 c.load_xoff.ensures.view c.load_xoff.ensures.sole c.requeue_stopped.ensures.fates c.requeue_stopped.ensures.holder c.requeue_stopped.ensures.sole);
+      c.if-load_xoff-ne0.true c.requires.may.1.at c.requires.may.1.serving.3 c.load_xoff.ensures.makes.knows c.load_xoff.ensures.makes.told.0.3 c.requeue_stopped.ensures.fates c.requeue_stopped.ensures.holder c.requeue_stopped.ensures.sole);
   makes =
       let n = c.args.n in let q = c.queue_of-queue.result in let b = c.args.cpu.now in let w = c.requeue_stopped.new.cpu in let m = c.requeue_stopped.ensures.makes in let laid = λ (st : StationState). m.0 ++ SetStation (with_slot st (Some n)) ∷ SetMissed m.1 ∷ [] in
-      let all = subst (λ (o : Option StationState). MakesSteps (laid (unwrap_or o no_station)) c.load_xoff.new.cpu w) c.load_xoff.ensures.same.1 m.3 in
+      let all = subst (λ (o : Option StationState). MakesSteps (laid (unwrap_or o no_station)) c.load_xoff.new.cpu w) c.load_xoff.ensures.makes.carries m.3 in
       subst (λ (queue : ℕ). MakesStepsFrom (λ s. DirectXmit c.args.shared.now.queues n queue s (Back Stopped)) b w) c.queue_of-queue.ensures
       (LoadXoff q c.load_xoff.result ∷ laid (carried b), IsLaidAside (FindsStop c.if-load_xoff-ne0.true m.2) m.1, makes_then c.load_xoff.ensures.makes all);
 }
@@ -47,8 +47,8 @@ returns g c = record {
   came =
       let q = c.queue_of-queue.result in let p = packet_at c.args.shared.now c.args.n in
       subst (λ (queue : ℕ). Directs c.start_xmit.result c.args.n queue (view c.args.cpu.now) (view c.start_xmit.new.cpu)) c.queue_of-queue.ensures
-      (offers_directs c.start_xmit.result c.args.n q c.load_xoff.result p c.requires.may.0 c.args.cpu.now c.load_xoff.new.cpu c.start_xmit.new.cpu c.if-load_xoff-ne0.false c.requires.may.1.at c.load_xoff.ensures.view
-      (sees_open q c.load_xoff.result p c.requires.may.0 c.args.cpu.now c.load_xoff.new.cpu c.if-load_xoff-ne0.false c.requires.may.1.at c.requires.may.1.serving.3 c.load_xoff.ensures.view c.load_xoff.ensures.sole)
+      (offers_directs c.start_xmit.result c.args.n q c.load_xoff.result p c.requires.may.0 c.args.cpu.now c.load_xoff.new.cpu c.start_xmit.new.cpu c.if-load_xoff-ne0.false c.requires.may.1.at c.load_xoff.ensures.makes.knows
+      (sees_open q c.load_xoff.result p c.requires.may.0 c.args.cpu.now c.load_xoff.new.cpu c.if-load_xoff-ne0.false c.requires.may.1.at c.requires.may.1.serving.3 c.load_xoff.ensures.makes.knows c.load_xoff.ensures.makes.told.0.3)
       c.start_xmit.ensures.makes.1 c.start_xmit.ensures.came);
   makes =
       let n = c.args.n in let q = c.queue_of-queue.result in let queues = c.args.shared.now.queues in let b = c.args.cpu.now in let m = c.start_xmit.ensures.makes in
@@ -59,7 +59,7 @@ returns g c = record {
 
 pub start_xmit-requires-clause-is_open : goal.start_xmit-requires-clause-is_open
 start_xmit-requires-clause-is_open g c κs within =
-    sees_open c.queue_of-queue.result c.load_xoff.result (packet_at c.args.shared.now c.args.n) c.requires.may.0 c.args.cpu.now c.load_xoff.new.cpu c.if-load_xoff-ne0.false c.requires.may.1.at c.requires.may.1.serving.3 c.load_xoff.ensures.view c.load_xoff.ensures.sole
+    sees_open c.queue_of-queue.result c.load_xoff.result (packet_at c.args.shared.now c.args.n) c.requires.may.0 c.args.cpu.now c.load_xoff.new.cpu c.if-load_xoff-ne0.false c.requires.may.1.at c.requires.may.1.serving.3 c.load_xoff.ensures.makes.knows c.load_xoff.ensures.makes.told.0.3
 
 pub load_xoff-requires-clause-slot : goal.load_xoff-requires-clause-slot
 load_xoff-requires-clause-slot g c _ _ = carries_slot c.args.cpu.now c.requires.may.1.serving

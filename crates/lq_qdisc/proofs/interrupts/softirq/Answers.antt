@@ -34,29 +34,29 @@ returns g c =
     ] in record {
       kept =
           let l = c.leave.ensures in let e = c.enter.ensures in let d = c.begin_softirq.ensures in let old = view c.enter.new.cpu in let new = view c.begin_softirq.new.cpu in let due = c.begin_softirq.result in
-          let share = d.still.0.share ∙ ap (λ (v : View). v.share) e.view in
-          let control = due_keeps (λ (v : View). v.control) due old new (λ _ _. refl) (λ _ _ _. refl) due_is ∙ ap (λ (v : View). v.control) e.view in
-          let told = due_keeps (λ (v : View). v.whole.told) due old new (λ _ _. refl) (λ _ _ _. refl) due_is ∙ ap (λ (v : View). v.whole.told) e.view in
+          let share = d.still.0.share ∙ ap (λ (v : View). v.share) e.makes.knows in
+          let control = due_keeps (λ (v : View). v.control) due old new (λ _ _. refl) (λ _ _ _. refl) due_is ∙ ap (λ (v : View). v.control) e.makes.knows in
+          let told = due_keeps (λ (v : View). v.whole.told) due old new (λ _ _. refl) (λ _ _ _. refl) due_is ∙ ap (λ (v : View). v.whole.told) e.makes.knows in
           elim c.if-begin_softirq.branch [
-            | then-begin_softirq w ↦ called_from c.args.cpu.now c.begin_softirq.new.cpu c.leave.new.cpu (d.same.0.0 ∙ e.same.0.0, d.same.0.1 ∙ e.same.0.1) share control told (record {
-              seat = (l.same.0.0 ∙ (ap (λ x. x.known.seat.table_id) w.cpu-is ∙ w.qdisc_run.ensures.kept.seat.0), l.same.0.1 ∙ (ap (λ x. x.known.seat.id) w.cpu-is ∙ w.qdisc_run.ensures.kept.seat.1));
-              share = ap (λ (v : View). v.share) l.view ∙ (ap (λ x. (view x).share) w.cpu-is ∙ w.qdisc_run.ensures.kept.share);
-              control = ap (λ (v : View). v.control) l.view ∙ (ap (λ x. (view x).control) w.cpu-is ∙ w.qdisc_run.ensures.kept.control);
-              told = ap (λ (v : View). v.whole.told) l.view ∙ (ap (λ x. (view x).whole.told) w.cpu-is ∙ w.qdisc_run.ensures.kept.told);
+            | then-begin_softirq w ↦ called_from c.args.cpu.now c.begin_softirq.new.cpu c.leave.new.cpu (d.same.0.0 ∙ e.makes.seat.0, d.same.0.1 ∙ e.makes.seat.1) share control told (record {
+              seat = (l.makes.seat.0 ∙ (ap (λ x. x.known.seat.table_id) w.cpu-is ∙ w.qdisc_run.ensures.kept.seat.0), l.makes.seat.1 ∙ (ap (λ x. x.known.seat.id) w.cpu-is ∙ w.qdisc_run.ensures.kept.seat.1));
+              share = ap (λ (v : View). v.share) l.makes.knows ∙ (ap (λ x. (view x).share) w.cpu-is ∙ w.qdisc_run.ensures.kept.share);
+              control = ap (λ (v : View). v.control) l.makes.knows ∙ (ap (λ x. (view x).control) w.cpu-is ∙ w.qdisc_run.ensures.kept.control);
+              told = ap (λ (v : View). v.whole.told) l.makes.knows ∙ (ap (λ x. (view x).whole.told) w.cpu-is ∙ w.qdisc_run.ensures.kept.told);
             })
-            | else-begin_softirq w ↦ called_from c.args.cpu.now c.begin_softirq.new.cpu c.leave.new.cpu (d.same.0.0 ∙ e.same.0.0, d.same.0.1 ∙ e.same.0.1) share control told (record {
-              seat = (l.same.0.0 ∙ ap (λ x. x.known.seat.table_id) w.cpu-is, l.same.0.1 ∙ ap (λ x. x.known.seat.id) w.cpu-is);
-              share = ap (λ (v : View). v.share) l.view ∙ ap (λ x. (view x).share) w.cpu-is;
-              control = ap (λ (v : View). v.control) l.view ∙ ap (λ x. (view x).control) w.cpu-is;
-              told = ap (λ (v : View). v.whole.told) l.view ∙ ap (λ x. (view x).whole.told) w.cpu-is;
+            | else-begin_softirq w ↦ called_from c.args.cpu.now c.begin_softirq.new.cpu c.leave.new.cpu (d.same.0.0 ∙ e.makes.seat.0, d.same.0.1 ∙ e.makes.seat.1) share control told (record {
+              seat = (l.makes.seat.0 ∙ ap (λ x. x.known.seat.table_id) w.cpu-is, l.makes.seat.1 ∙ ap (λ x. x.known.seat.id) w.cpu-is);
+              share = ap (λ (v : View). v.share) l.makes.knows ∙ ap (λ x. (view x).share) w.cpu-is;
+              control = ap (λ (v : View). v.control) l.makes.knows ∙ ap (λ x. (view x).control) w.cpu-is;
+              told = ap (λ (v : View). v.whole.told) l.makes.knows ∙ ap (λ x. (view x).whole.told) w.cpu-is;
             })
           ];
       fates =
           let l = c.leave.ensures in let v = view c.args.cpu.now in let m = view c.begin_softirq.new.cpu in let w = view c.leave.new.cpu in
-          let before = fates_same v m (due_keeps (λ (x : View). x.settled) c.begin_softirq.result (view c.enter.new.cpu) (view c.begin_softirq.new.cpu) (λ _ _. refl) (λ _ _ _. refl) due_is ∙ ap (λ (x : View). x.settled) c.enter.ensures.view) in
+          let before = fates_same v m (due_keeps (λ (x : View). x.settled) c.begin_softirq.result (view c.enter.new.cpu) (view c.begin_softirq.new.cpu) (λ _ _. refl) (λ _ _ _. refl) due_is ∙ ap (λ (x : View). x.settled) c.enter.ensures.makes.knows) in
           elim c.if-begin_softirq.branch [
-            | then-begin_softirq x ↦ fates_then v m w before (x.qdisc_run.ensures.fates.0, ap (λ (y : View). y.settled) l.view ∙ (ap (λ y. (view y).settled) x.cpu-is ∙ x.qdisc_run.ensures.fates.1))
-            | else-begin_softirq x ↦ fates_then v m w before (fates_same m w (ap (λ (y : View). y.settled) l.view ∙ ap (λ y. (view y).settled) x.cpu-is))
+            | then-begin_softirq x ↦ fates_then v m w before (x.qdisc_run.ensures.fates.0, ap (λ (y : View). y.settled) l.makes.knows ∙ (ap (λ y. (view y).settled) x.cpu-is ∙ x.qdisc_run.ensures.fates.1))
+            | else-begin_softirq x ↦ fates_then v m w before (fates_same m w (ap (λ (y : View). y.settled) l.makes.knows ∙ ap (λ y. (view y).settled) x.cpu-is))
           ];
       at = search rules;
       ready = search rules;

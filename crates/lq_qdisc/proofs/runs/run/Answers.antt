@@ -78,17 +78,17 @@ returns g c =
     let makes_ : MakesStepsFrom (λ s. QdiscRunLocked k s ran) b c.set_missed.new.cpu = (
       old.makes.0 ++ SetMissed set.makes.0 ∷ [],
       ReachesQuota set.makes.0 (subst (λ (n : ℕ). SendEach k (standing b) n old.makes.0) all old.makes.1)
-          (sym steps_.knows ∙ (set.view ∙ (set_at_quota (view m) old.at (old.run ∙ all) ∙ ap (λ (v : View). pass_view v) before)))
-          (ap solo (sym steps_.knows) ∙ (set.step ∙ (laid_at_quota (view m) _ old.at (old.run ∙ all) ∙ ap (λ (v : View). missed_to true (solo v)) before))),
+          (sym steps_.knows ∙ (set.makes.1.knows ∙ (set_at_quota (view m) old.at (old.run ∙ all) ∙ ap (λ (v : View). pass_view v) before)))
+          (ap solo (sym steps_.knows) ∙ (ap solo set.makes.1.knows ∙ set.makes.1.told.0 ∙ (laid_at_quota (view m) _ old.at (old.run ∙ all) ∙ ap (λ (v : View). missed_to true (solo v)) before))),
       steps_,
     ) in record {
       kept =
-          let e = over_at_quota (view c.loop-sent.cpu) (view c.set_missed.new.cpu) set.view old.at (old.run ∙ all) in
-          kept_then old.kept (kept_moved c.loop-sent.cpu c.set_missed.new.cpu _ _ _ _ set.same.0 set.same.2 e refl);
+          let e = over_at_quota (view c.loop-sent.cpu) (view c.set_missed.new.cpu) set.makes.1.knows old.at (old.run ∙ all) in
+          kept_then old.kept (kept_moved c.loop-sent.cpu c.set_missed.new.cpu _ _ _ _ set.makes.1.seat set.makes.1.places e refl);
       serving =
-          let e = over_at_quota (view c.loop-sent.cpu) (view c.set_missed.new.cpu) set.view old.at (old.run ∙ all) in
-          serving_same c.loop-sent.cpu c.set_missed.new.cpu set.same.3 set.same.1 (ap (λ (v : View). v.holder) e) (ap (λ (v : View). v.locks) e) old.serving;
-      at = ap (λ (v : View). v.place.position) (over_at_quota (view c.loop-sent.cpu) (view c.set_missed.new.cpu) c.set_missed.ensures.view old.at (old.run ∙ all));
+          let e = over_at_quota (view c.loop-sent.cpu) (view c.set_missed.new.cpu) set.makes.1.knows old.at (old.run ∙ all) in
+          serving_same c.loop-sent.cpu c.set_missed.new.cpu set.makes.1.has set.makes.1.carries (ap (λ (v : View). v.holder) e) (ap (λ (v : View). v.locks) e) old.serving;
+      at = ap (λ (v : View). v.place.position) (over_at_quota (view c.loop-sent.cpu) (view c.set_missed.new.cpu) c.set_missed.ensures.makes.1.knows old.at (old.run ∙ all));
       trail = search rules;
       fates = search rules;
       makes = makes_;

@@ -7,6 +7,7 @@ use Rattle.lq_qdisc.specs.StepLists.{BypassLocked, EnqueueAndRunLocked, Passes, 
 use Rattle.lq_qdisc.proofs.ListLemmas.{from_there}
 use Rattle.lq_qdisc.proofs.SendLemmas.{IsLooked, KeepsCall, brings_looked_by, keeps_call, looked_from}
 use Rattle.lq_qdisc.proofs.TakeLemmas.{serving_same}
+use Rattle.lq_table.proofs.OneStep.{rechecks_direct, rechecks_waiting}
 use Rattle.lq_qdisc.proofs.sends.bypass_locked.Goals as goal
 use Rattle.lq_qdisc.proofs.sends.bypass_locked.Goals.{Else-is_non_empty, Then-is_non_empty}
 
@@ -14,14 +15,14 @@ use Rattle.lq_qdisc.proofs.sends.bypass_locked.Goals.{Else-is_non_empty, Then-is
 held : (g : _) (c : Then-is_non_empty g)
     → IsLooked c.args.shared.now c.args.n c.recheck-state.result c.args.cpu.now c.recheck-state.new.cpu
 held g c =
-    let l = c.recheck-state.ensures in let e = l.waits (sym c.is_non_empty.ensures ∙ c.if-is_non_empty.true) in
-    looked_from c.args.shared.now c.args.n _ c.args.cpu.now c.recheck-state.new.cpu l.same e c.requires.seat c.requires.may.brings
+    let l = c.recheck-state.ensures in let e = rechecks_waiting l.makes (sym c.is_non_empty.ensures ∙ c.if-is_non_empty.true) in
+    looked_from c.args.shared.now c.args.n _ c.args.cpu.now c.recheck-state.new.cpu (l.makes.seat, l.makes.carries, l.makes.places, l.makes.has) e c.requires.seat c.requires.may.brings
 
 -- and where nothing is, so that the packet goes past the bands
 past : (g : _) (c : Else-is_non_empty g) → KeepsCall c.args.shared.now c.args.cpu.now c.recheck-state.new.cpu
 past g c =
-    let l = c.recheck-state.ensures in let e = l.direct (sym c.is_non_empty.ensures ∙ c.if-is_non_empty.false) in
-    keeps_call c.args.shared.now c.args.cpu.now c.recheck-state.new.cpu l.same.0 (ap (λ (x : View). x.share) e)
+    let l = c.recheck-state.ensures in let e = rechecks_direct l.makes (sym c.is_non_empty.ensures ∙ c.if-is_non_empty.false) in
+    keeps_call c.args.shared.now c.args.cpu.now c.recheck-state.new.cpu l.makes.seat (ap (λ (x : View). x.share) e)
     (ap (λ (x : View). x.control) e) (ap (λ (x : View). x.whole.told) e) (ap (λ (x : View). x.settled) e) c.requires.seat
 
 pub enqueue_and_run_locked-requires-clause-seat : goal.enqueue_and_run_locked-requires-clause-seat
@@ -34,7 +35,7 @@ enqueue_and_run_locked-requires-clause-may g c _ _ =
       brings = held_.packet;
       packet = c.requires.may.packet;
       holds = record {
-        serving = serving_same c.args.cpu.now c.recheck-state.new.cpu l.same.3 l.same.1 (ap (λ (x : View). x.holder) e) (ap (λ (x : View). x.locks) e) c.requires.may.holds.serving;
+        serving = serving_same c.args.cpu.now c.recheck-state.new.cpu l.makes.has l.makes.carries (ap (λ (x : View). x.holder) e) (ap (λ (x : View). x.locks) e) c.requires.may.holds.serving;
         hand = search rules;
         slot = search rules;
       };

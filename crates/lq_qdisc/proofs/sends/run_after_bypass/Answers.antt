@@ -18,11 +18,11 @@ use Rattle.lq_qdisc.proofs.sends.run_after_bypass.Goals.{else-eq-via-then-eq+els
 
 pub returns-then-is_non_empty : goal.returns-then-is_non_empty
 returns-then-is_non_empty g c =
-    let k = setup c.args.shared.now in let state = c.load_state.result in let l = c.load_state.ensures in let v = l.view in
+    let k = setup c.args.shared.now in let state = c.load_state.result in let l = c.load_state.ensures in let v = l.makes.knows in
     let is : c.args.through ≡ Yes = (search rules) in
     let some_ : some_bit state ≡ true = sym c.is_non_empty.ensures ∙ c.if-is_non_empty.true in
     let calm : LeavesTheRest c.args.cpu.now c.load_state.new.cpu = record {
-      seat = l.same.0;
+      seat = l.makes.seat;
       share = ap (λ (x : View). x.share) v;
       packets = ap (λ (x : View). x.packets) v;
       control = ap (λ (x : View). x.control) v;
@@ -36,11 +36,11 @@ returns-then-is_non_empty g c =
     (let m = c.run_to_end.ensures.makes in (LoadState state ∷ m.0, ServesAfter some_ (from_there (RunToEnd k) l.makes m.1), makes_then l.makes m.2)))
 
 pub run_to_end-requires-clause-seat : goal.run_to_end-requires-clause-seat
-run_to_end-requires-clause-seat g c _ _ = let l = c.load_state.ensures in seat_same c.args.shared.now c.args.cpu.now c.load_state.new.cpu l.same.0 (ap (λ (v : View). v.share) l.view) c.requires.seat
+run_to_end-requires-clause-seat g c _ _ = let l = c.load_state.ensures in seat_same c.args.shared.now c.args.cpu.now c.load_state.new.cpu l.makes.seat (ap (λ (v : View). v.share) l.makes.knows) c.requires.seat
 
 pub run_to_end-requires-clause-serves : goal.run_to_end-requires-clause-serves
 run_to_end-requires-clause-serves g c _ _ = let l = c.load_state.ensures in record {
-  serving = serving_same c.args.cpu.now c.load_state.new.cpu l.same.3 l.same.1 (ap (λ (v : View). v.holder) l.view) (ap (λ (v : View). v.locks) l.view) c.requires.serving;
+  serving = serving_same c.args.cpu.now c.load_state.new.cpu l.makes.has l.makes.carries (ap (λ (v : View). v.holder) l.makes.knows) (ap (λ (v : View). v.locks) l.makes.knows) c.requires.serving;
   hand = search rules;
   slot = search rules;
 }

@@ -13,6 +13,7 @@ use Rattle.lq_qdisc.specs.declared.answers.Sending.TheVariants as sending
 use Rattle.lq_qdisc.proofs.ListLemmas.{from_there}
 use Rattle.lq_table.specs.Moves.{is_set}
 use Rattle.lq_qdisc.proofs.SendLemmas.{IsLooked, brings_looked_by, checked_leads, looked_from}
+use Rattle.lq_table.proofs.OneStep.{checks_active, checks_refused}
 use Rattle.lq_qdisc.proofs.sends.xmit_skb.Goals as goal
 use Rattle.lq_qdisc.proofs.sends.xmit_skb.Goals.{Else-is_deactivated}
 use Rattle.lq_qdisc.proofs.sends.xmit_skb.Goals.{else-bypass-via-else-bypass, else-bypass-via-then-bypass+else-not-is_non_empty}
@@ -20,8 +21,8 @@ use Rattle.lq_qdisc.proofs.sends.xmit_skb.Goals.{else-bypass-via-else-bypass, el
 -- what is known once the state was loaded, and the station isn't deactivated
 active : (g : _) (c : Else-is_deactivated g) → IsLooked c.args.shared.now c.args.n c.check-state.result c.args.cpu.now c.check-state.new.cpu
 active g c =
-    let l = c.check-state.ensures in let e = l.active (sym c.is_deactivated.ensures ∙ c.if-is_deactivated.false) in
-    looked_from c.args.shared.now c.args.n _ c.args.cpu.now c.check-state.new.cpu l.same e c.requires.seat c.requires.may.brings
+    let l = c.check-state.ensures in let e = checks_active l.makes (sym c.is_deactivated.ensures ∙ c.if-is_deactivated.false) in
+    looked_from c.args.shared.now c.args.n _ c.args.cpu.now c.check-state.new.cpu (l.makes.seat, l.makes.carries, l.makes.places, l.makes.has) e c.requires.seat c.requires.may.brings
 
 pub try_bypass-requires-clause-seat : goal.try_bypass-requires-clause-seat
 try_bypass-requires-clause-seat g c _ _ = (active g (goal.at.try_bypass-requires-clause-seat g c).Else-is_deactivated).call.seat
@@ -49,10 +50,10 @@ pub returns-then-is_deactivated : goal.returns-then-is_deactivated
 returns-then-is_deactivated g c =
     let k = setup c.args.shared.now in let state = c.check-state.result in let n = c.args.n in let v = view c.args.cpu.now in
     let l = c.check-state.ensures in let r = c.refuse.ensures.event in
-    let on : is_set 2 state ≡ true = sym c.is_deactivated.ensures ∙ c.if-is_deactivated.true in let s = l.refused on in
-    let settled = ap (λ (v : View). v.settled) c.refuse.ensures.settled ∙ ap (λ (v : View). (settle_view_owed v).settled) s.5 in record {
+    let on : is_set 2 state ≡ true = sym c.is_deactivated.ensures ∙ c.if-is_deactivated.true in let s = checks_refused l.makes on in
+    let settled = ap (λ (v : View). v.settled) c.refuse.ensures.settled ∙ ap (λ (v : View). (settle_view_owed v).settled) s in record {
       kept = search rules;
-      fates = ((n, Refused s.0) ∷ [], settled);
+      fates = ((n, Refused (state / 256 - 1)) ∷ [], settled);
       at = search rules;
       free = search rules;
       came = search rules;

@@ -13,13 +13,13 @@ use Rattle.lq_qdisc.proofs.takes.maybe_clear_missed.Goals.{After-set_draining, A
 opened : (g : _) (c : After-set_missed g) → LeavesBlocked c.load_xoff.result c.args.cpu.now c.set_missed.new.cpu
 opened g c =
     let a = c.clear_missed.ensures in let l = c.load_xoff.ensures in let s = c.set_missed.ensures in
-    leaves_blocked _ _ c.args.cpu.now c.clear_missed.new.cpu c.load_xoff.new.cpu _ c.requires.at.1 a.same l.same s.same a.view l.view s.view
+    leaves_blocked _ _ c.args.cpu.now c.clear_missed.new.cpu c.load_xoff.new.cpu _ c.requires.at.1 (a.makes.seat, a.makes.carries, a.makes.places, a.makes.has) (l.makes.seat, l.makes.carries, l.makes.places, l.makes.has) (s.makes.1.seat, s.makes.1.carries, s.makes.1.places, s.makes.1.has) a.makes.knows l.makes.knows s.makes.1.knows
 
 -- and where it was found stopped, and DRAINING set
 stopped : (g : _) (c : After-set_draining g) → LeavesBlocked c.load_xoff.result c.args.cpu.now c.set_draining.new.cpu
 stopped g c =
     let a = c.clear_missed.ensures in let l = c.load_xoff.ensures in let s = c.set_draining.ensures in
-    leaves_blocked _ _ c.args.cpu.now c.clear_missed.new.cpu c.load_xoff.new.cpu _ c.requires.at.1 a.same l.same s.same a.view l.view s.view
+    leaves_blocked _ _ c.args.cpu.now c.clear_missed.new.cpu c.load_xoff.new.cpu _ c.requires.at.1 (a.makes.seat, a.makes.carries, a.makes.places, a.makes.has) (l.makes.seat, l.makes.carries, l.makes.places, l.makes.has) (s.makes.1.seat, s.makes.1.carries, s.makes.1.places, s.makes.1.has) a.makes.knows l.makes.knows s.makes.1.knows
 
 pub returns-then-load_xoff-eq0 : goal.returns-then-load_xoff-eq0
 returns-then-load_xoff-eq0 g c = record {
@@ -31,7 +31,7 @@ returns-then-load_xoff-eq0 g c = record {
   fates = (opened g c).fates;
   sole = λ alone closed.
       let at_ = c.requires.at in let a = c.clear_missed.ensures in let l = c.load_xoff.ensures in
-      let stop = stop_loaded_again c.args.queue _ at_.0 (view c.args.cpu.now) _ a.view at_.1 l.sole alone c.requires.shut in
+      let stop = stop_loaded_again c.args.queue _ at_.0 (view c.args.cpu.now) _ a.makes.knows at_.1 l.makes.told.0.3 alone c.requires.shut in
       absurd (closed (sym stop ∙ c.if-load_xoff-eq0.true));
   makes =
       let s = c.set_missed.ensures.makes in
@@ -56,10 +56,10 @@ returns-else-load_xoff-eq0 g c = record {
 -- the requeue slot is as it was
 pub load_xoff-requires-clause-slot : goal.load_xoff-requires-clause-slot
 load_xoff-requires-clause-slot g c _ _ =
-    let a = c.clear_missed.ensures in carries_still c.args.cpu.now c.clear_missed.new.cpu a.same.1 (ap (λ (v : View). v.holder.slot) a.view) c.requires.slot
+    let a = c.clear_missed.ensures in carries_still c.args.cpu.now c.clear_missed.new.cpu a.makes.carries (ap (λ (v : View). v.holder.slot) a.makes.knows) c.requires.slot
 
 pub set_missed-requires-clause-slot : goal.set_missed-requires-clause-slot
 set_missed-requires-clause-slot g c _ _ =
     let a = c.clear_missed.ensures in let l = c.load_xoff.ensures in let at_ = c.requires.at in
-    carries_still c.args.cpu.now c.load_xoff.new.cpu (l.same.1 ∙ a.same.1)
-    (ap (λ (v : View). v.holder.slot) (l.view ∙ ap (load_xoff_view c.load_xoff.result) a.view) ∙ blocked_slot at_.0 c.load_xoff.result (view c.args.cpu.now) at_.1) c.requires.slot
+    carries_still c.args.cpu.now c.load_xoff.new.cpu (l.makes.carries ∙ a.makes.carries)
+    (ap (λ (v : View). v.holder.slot) (l.makes.knows ∙ ap (load_xoff_view c.load_xoff.result) a.makes.knows) ∙ blocked_slot at_.0 c.load_xoff.result (view c.args.cpu.now) at_.1) c.requires.slot

@@ -2,7 +2,9 @@ use Rattle.std.proofs.Common.{rules, ◌≡◌, ℕ, [], ◌∷◌, ◌++◌, sy
 use Rattle.lq_ring.proofs.StepsThen.{makes_then}
 use Rattle.lq_model.specs.declared.machine.Position.TheVariants.{Check}
 use Rattle.lq_table.specs.Views.{View, Setup, machine_packet}
+use Rattle.lq_model.specs.Plan.{owner_in, rank_in}
 use Rattle.lq_table.specs.Inside.{enter_view}
+use Rattle.lq_table.specs.Turns.{give_turn_view}
 use Rattle.lq_table.specs.Step.{Enter, GiveTurn, Leave, MakesSteps, TakeTurn, due_word}
 use Rattle.lq_table.specs.Sees.{view, setup, solo}
 use Rattle.lq_table.specs.declared.shared.Cpu.{Cpu}
@@ -19,6 +21,7 @@ use Rattle.lq_qdisc.proofs.PutLemmas.{BringsUnlocked}
 use Rattle.lq_ring.specs.Put.{no_locks}
 use Rattle.lq_qdisc.proofs.ViewLemmas.{goes_view}
 use Rattle.lq_qdisc.specs.Seats.{IsTurnOf}
+use Rattle.lq_table.proofs.OneStep.{takes_turn}
 use Rattle.lq_qdisc.proofs.transmits.transmit.Given as given
 use Rattle.lq_qdisc.proofs.transmits.transmit.Goals as goal
 
@@ -49,23 +52,25 @@ returns g c = record {
   ready = search rules;
   in_turn = λ turn.
       let k = setup c.args.shared.now in let n = c.args.n in let answer = c.xmit_skb-sending.result in let b = c.args.cpu.now in let v = view b in let x = c.xmit_skb-sending.ensures in let left = c.leave.ensures in
-      let v_is = c.enter.ensures.view ∙ ap (λ (z : View). enter_view z) c.in_default.ensures.turn.1 in
+      let took = c.in_default.ensures.makes in let v_is = c.enter.ensures.makes.knows ∙ ap (λ (z : View). enter_view z) (takes_turn took.2 took.1 k c.requires.seat.2) in
+      let about : (view c.leave.new.cpu).share.about ≡ k = ap (λ (z : View). z.share.about) left.makes.knows ∙ (ap (λ s. s.about) x.kept.share ∙ (ap (λ (z : View). z.share.about) v_is ∙ c.requires.seat.2)) in
+      let gives = c.give_turn.ensures.makes.knows ∙ ap (λ (z : Setup). give_turn_view (owner_in z.infos n) (rank_in z.infos n) (view c.leave.new.cpu)) about in
       let t = transmits_as k.infos n answer v (view c.xmit_skb-sending.new.cpu) (view c.leave.new.cpu) (view c.give_turn.new.cpu)
-      (subst (λ (z : View). HasCome k.infos n answer z (view c.xmit_skb-sending.new.cpu)) v_is x.came) left.view c.give_turn.ensures.given in record {
+      (subst (λ (z : View). HasCome k.infos n answer z (view c.xmit_skb-sending.new.cpu)) v_is x.came) left.makes.knows gives in record {
         came = x.came.came;
         turns = t.0;
         trail = t.1;
         by = leads (QueueXmit k n answer) b c.give_turn.new.cpu (made g c turn);
       };
   first = λ turn first event.
-      let k = setup c.args.shared.now in
+      let k = setup c.args.shared.now in let took = c.in_default.ensures.makes in
       refused_first k.infos k.bypass c.args.n c.xmit_skb-sending.result (view c.args.cpu.now) (view c.xmit_skb-sending.new.cpu)
-      (goes k c.args.n c.xmit_skb-sending.result (view c.args.cpu.now) c.enter.new.cpu c.xmit_skb-sending.new.cpu c.requires.seat.2 c.requires.ready.2 (c.enter.ensures.view ∙ ap (λ (v : View). enter_view v) c.in_default.ensures.turn.1) c.xmit_skb-sending.ensures.makes) first event;
+      (goes k c.args.n c.xmit_skb-sending.result (view c.args.cpu.now) c.enter.new.cpu c.xmit_skb-sending.new.cpu c.requires.seat.2 c.requires.ready.2 (c.enter.ensures.makes.knows ∙ ap (λ (v : View). enter_view v) (takes_turn took.2 took.1 k c.requires.seat.2)) c.xmit_skb-sending.ensures.makes) first event;
   alone = λ turn low.
-      let k = setup c.args.shared.now in
+      let k = setup c.args.shared.now in let took = c.in_default.ensures.makes in
       transmit_alone k k.infos c.args.n k.bypass c.xmit_skb-sending.result (view c.args.cpu.now) (view c.give_turn.new.cpu) c.requires.seat.2 (ap (λ (x : Setup). x.bypass) c.requires.seat.2) (view c.xmit_skb-sending.new.cpu)
-      (goes k c.args.n c.xmit_skb-sending.result (view c.args.cpu.now) c.enter.new.cpu c.xmit_skb-sending.new.cpu c.requires.seat.2 c.requires.ready.2 (c.enter.ensures.view ∙ ap (λ (v : View). enter_view v) c.in_default.ensures.turn.1) c.xmit_skb-sending.ensures.makes)
-      (ap (λ (v : View). solo v) c.give_turn.ensures.given ∙ c.leave.ensures.step) low;
+      (goes k c.args.n c.xmit_skb-sending.result (view c.args.cpu.now) c.enter.new.cpu c.xmit_skb-sending.new.cpu c.requires.seat.2 c.requires.ready.2 (c.enter.ensures.makes.knows ∙ ap (λ (v : View). enter_view v) (takes_turn took.2 took.1 k c.requires.seat.2)) c.xmit_skb-sending.ensures.makes)
+      (ap solo (c.give_turn.ensures.makes.knows) ∙ (ap solo c.leave.ensures.makes.knows ∙ c.leave.ensures.makes.told.0)) low;
   out_of_turn = search rules;
 }
 

@@ -6,6 +6,7 @@ use Rattle.lq_table.specs.Sees.{view}
 use Rattle.lq_ring.specs.Work.{work_at, working}
 use Rattle.lq_ring.proofs.Works.{back_zero, work_back, work_of, told_work, into_is}
 use Rattle.lq_ring.proofs.StepsThen.{turns_back, turns_none}
+use Rattle.lq_table.proofs.OneStep.{fills_slot}
 use Rattle.lq_ring.proofs.moves.put_back.Goals as goal
 
 pub fill_slot-requires-clause-hand : goal.fill_slot-requires-clause-hand
@@ -19,7 +20,7 @@ returns-then-x-ne0 g c = record {
   stands = (
     search rules,
     let b = c.args.band in let v = view c.args.cpu.now in let i = c.args.i in let x = c.args.x in let t = c.requires.turner.1 in let some_ = c.if-x-ne0.true in let h = c.requires.hand some_ in
-        c.fill_slot.ensures.filled t.0 h.0 t.1 (ap (λ (w : Work). w.hand) (sym (work_of b v t.0 t.1)) ∙ h.1)
+        fills_slot c.fill_slot.ensures.makes t.0 h.0 t.1 (ap (λ (w : Work). w.hand) (sym (work_of b v t.0 t.1)) ∙ h.1)
         ∙ (told_work b (into i (x - 1) h.0) v t.0 t.1 ∙ ap (λ (w : Work). working b w v) (into_is i x h.0 (work_at b v) some_ h.1)),
   );
 }

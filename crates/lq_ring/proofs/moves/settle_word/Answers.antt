@@ -1,7 +1,8 @@
 use Rattle.std.proofs.Common.{rules, ℕ, ◌<◌, ◌-◌, ◌∷◌, sym, ap, ◌∙◌, subst, eq-eqb, Bool}
 use Rattle.std.specs.Prelude.{if◌then◌else◌}
 use Rattle.lq_model.specs.declared.fate.Fate.TheVariants as fate
-use Rattle.lq_table.specs.Views.{Work}
+use Rattle.lq_model.specs.Plan.{band_in}
+use Rattle.lq_table.specs.Views.{Setup, Work}
 use Rattle.lq_table.specs.Fates.{MayShrink}
 use Rattle.lq_table.specs.Sees.{view}
 use Rattle.lq_ring.specs.Work.{work_at, working}
@@ -32,7 +33,7 @@ returns g c = record {
   stands = (
     search rules,
     let w = c.requires.word c.if-x-eq0.false in let t = c.requires.turner.1 in
-        c.settle.ensures.settled ∙ shrunk_is c.args.band _ c.args.x c.args.event (view c.args.cpu.now) t.0 t.1 w.2 c.if-x-eq0.false,
+        c.settle.ensures.makes.knows ∙ shrunk_is c.args.band _ c.args.x c.args.event (view c.args.cpu.now) t.0 t.1 (ap (λ (k : Setup). band_in k.infos (c.args.x - 1)) c.requires.seat.2 ∙ w.2) c.if-x-eq0.false,
   );
   count = search rules;
 }

@@ -1,9 +1,9 @@
-use Rattle.std.proofs.Common.{rules, ◌≡◌, Bool, true, ℕ, List, [], ◌∷◌, ◌++◌, sym, ap, ◌∙◌, subst, arith, Some}
+use Rattle.std.proofs.Common.{rules, ◌≡◌, Bool, true, ℕ, ◌≤◌, List, [], ◌∷◌, ◌++◌, sym, ap, ◌∙◌, subst, arith, Some}
 use Rattle.lq_model.specs.Positions.{holds_lock}
 use Rattle.lq_model.specs.Machine.{Purge}
 use Rattle.lq_band_laws.specs.Three.{at}
 use Rattle.lq_band_laws.specs.Ring.{Ends, IsAtRest}
-use Rattle.lq_table.specs.Views.{View, Left}
+use Rattle.lq_table.specs.Views.{Left, Setup, View}
 use Rattle.lq_table.specs.Rule.{shown, IsResting}
 use Rattle.lq_table.specs.Sees.{view}
 use Rattle.lq_ring.specs.Purged.{purged_by}
@@ -19,12 +19,12 @@ use Rattle.lq_ring.proofs.purges.purge_band.Goals as goal
 
 pub loop-n-init : goal.loop-n-init
 loop-n-init g c =
-    let v = view c.args.cpu.now in let loaded = c.load_size-size.ensures.size.0 ∙ sized_none c.load_size-size.result v c.requires.idle in let s = c.load_size-size.ensures.same in record {
-      seat = seat_on c.args.shared.now c.args.cpu.now c.load_size-size.new.cpu c.requires.seat s.0 (ap (λ (x : View). x.share) loaded);
-      still = s.0;
-      slot = s.3;
-      station = s.1 ∙ (c.requires.station ∙ ap (λ (x : View). Some (shown x.holder)) (sym loaded));
-      each = ([], NoneYet, c.load_size-size.ensures.makes);
+    let v = view c.args.cpu.now in let loaded = c.load_size-size.ensures.makes.knows ∙ sized_none c.load_size-size.result v c.requires.idle in let s = c.load_size-size.ensures.makes in record {
+      seat = seat_on c.args.shared.now c.args.cpu.now c.load_size-size.new.cpu c.requires.seat s.seat (ap (λ (x : View). x.share) loaded);
+      still = s.seat;
+      slot = s.has;
+      station = s.carries ∙ (c.requires.station ∙ ap (λ (x : View). Some (shown x.holder)) (sym loaded));
+      each = ([], NoneYet, s);
       purged = λ f left. subst (λ (x : View). IsPurgedTo c.args.band 0 f v x) (sym loaded) (none_purged c.args.band f v c.requires.below left (rest_at _ c.args.band _ c.requires.rests.0));
     }
 
@@ -40,17 +40,17 @@ purge_one-requires-clause-packets g c _ _ =
 pub purge_one-requires-clause-rests : goal.purge_one-requires-clause-rests
 purge_one-requires-clause-rests g c _ _ =
     let at = c.requires.at in let v = view c.args.cpu.now in let p = c.loop-n.invariant.purged at.1 at.5 in
-    let size : v.holder.size ≡ c.load_size-size.result = sym (c.load_size-size.ensures.holder (ap holds_lock at.2)) in (
+    let size : v.holder.size ≡ c.load_size-size.result = sym (c.load_size-size.ensures.makes.told.0.2 (ap holds_lock at.2)) in (
       subst (λ (x : View). IsResting x.holder.size x.holder.ends) (sym p.is) (rest_put v.holder.size c.args.band p.ends v.holder.ends c.requires.rests.0 p.rests),
       ap (λ (x : View). x.holder.resizing) p.is ∙ c.requires.rests.1,
       ap (λ (x : View). x.holder.size) p.is ∙ size,
-      c.load_size-size.ensures.size.2,
+      subst (λ (k : Setup). c.load_size-size.result ≤ k.max_len) c.requires.seat.2 c.load_size-size.ensures.makes.told.0.1,
     )
 
 pub loop-n-preserved : goal.loop-n-preserved
 loop-n-preserved g c =
     let b = c.args.band in let k = c.loop-n.n in let v = view c.args.cpu.now in let w = view c.loop-n.cpu in let i = c.loop-n.invariant in let m = c.purge_one.ensures.makes in let s = m.2.seat in
-    let z = c.load_size-size.result in let length : z ≡ v.holder.size = c.load_size-size.ensures.holder (ap holds_lock c.requires.at.2) in
+    let z = c.load_size-size.result in let length : z ≡ v.holder.size = c.load_size-size.ensures.makes.told.0.2 (ap holds_lock c.requires.at.2) in
     let one = subst (λ (r : Bool). PurgeOne b z c.args.cause (standing c.loop-n.cpu) r m.0) c.if-not-purge_one.false m.1 in
     let taken = λ (l : Left) (left : v.holder.left ≡ Some l). (let p = i.purged l left in
     let ends : at b w.holder.ends ≡ p.ends = ap (λ (x : View). at b x.holder.ends) p.is ∙ at_put_same b p.ends v.holder.ends in
@@ -68,7 +68,7 @@ loop-n-preserved g c =
 pub unreachable-requires : goal.unreachable-requires
 unreachable-requires g c =
     let at = c.requires.at in let few = (c.loop-n.invariant.purged at.1 at.5).few in let most = at.8 in let past = c.loop-n-test.false in
-    let size : c.load_size-size.result ≡ (view c.args.cpu.now).holder.size = c.load_size-size.ensures.holder (ap holds_lock at.2) in absurd (omega arith)
+    let size : c.load_size-size.result ≡ (view c.args.cpu.now).holder.size = c.load_size-size.ensures.makes.told.0.2 (ap holds_lock at.2) in absurd (omega arith)
 
 pub returns-then-not-purge_one : goal.returns-then-not-purge_one
 returns-then-not-purge_one g c =

@@ -22,6 +22,7 @@ use Rattle.lq_ring.proofs.PurgeSteps.{PurgesOne, purged_station}
 use Rattle.lq_ring.proofs.StepsThen.{makes_then, stands_after}
 use Rattle.lq_ring.proofs.ZeroSteps.{discard_leaves, discarded}
 use Rattle.lq_ring.proofs.purges.purge_one.Given as given
+use Rattle.lq_table.proofs.OneStep.{passes_empty_band, takes_first_left}
 use Rattle.lq_ring.proofs.purges.purge_one.Goals as goal
 
 abbrev at_ : ℕ → View → Ends
@@ -41,26 +42,26 @@ purge_slot-found-requires-clause-head g c _ _ =
 
 pub settle-requires-clause-packet : goal.settle-requires-clause-packet
 settle-requires-clause-packet g c _ _ =
-    let at = c.requires.at in let first = (c.purge_slot-found.ensures.taken at.1 at.5 c.if-found-eq0.false).0 in (at.7 (c.purge_slot-found.result - 1) (first-in _ _ first), c.requires.word)
+    let at = c.requires.at in let first = (takes_first_left c.purge_slot-found.ensures.makes at.1 at.5 c.if-found-eq0.false).0 in (at.7 (c.purge_slot-found.result - 1) (first-in _ _ first), c.requires.word)
 
 pub settle-requires-clause-may : goal.settle-requires-clause-may
 settle-requires-clause-may g c _ _ =
     let at = c.requires.at in let n = c.purge_slot-found.result - 1 in
-    ap (λ (x : View). x.packets.owed) (c.purge_slot-found.ensures.taken at.1 at.5 c.if-found-eq0.false).1 ∙ ap (λ (z : Cause). Some (n, fate.Purged z)) at.6
+    ap (λ (x : View). x.packets.owed) (takes_first_left c.purge_slot-found.ensures.makes at.1 at.5 c.if-found-eq0.false).1 ∙ ap (λ (z : Cause). Some (n, fate.Purged z)) at.6
 
 pub discard_one-requires-clause-holder : goal.discard_one-requires-clause-holder
 discard_one-requires-clause-holder g c _ _ =
     let at = c.requires.at in let r = c.requires.rests in
-    let took = c.settle.ensures.settled ∙ ap settle_view_owed (c.purge_slot-found.ensures.taken at.1 at.5 c.if-found-eq0.false).1 in
+    let took = c.settle.ensures.makes.knows ∙ ap settle_view_owed (takes_first_left c.purge_slot-found.ensures.makes at.1 at.5 c.if-found-eq0.false).1 in
     (ap (λ (x : View). holds_lock x.place.position) took ∙ ap holds_lock at.2, ap (λ (x : View). x.holder.resizing) took ∙ r.1, ap (λ (x : View). x.holder.size) took ∙ r.2, r.3)
 
 pub discard_one-requires-clause-station : goal.discard_one-requires-clause-station
 discard_one-requires-clause-station g c _ _ =
     let at = c.requires.at in let b = c.args.band in let v = view c.args.cpu.now in let own : Ends = at_ b v in
-    let took = c.settle.ensures.settled ∙ ap settle_view_owed (c.purge_slot-found.ensures.taken at.1 at.5 c.if-found-eq0.false).1 in
+    let took = c.settle.ensures.makes.knows ∙ ap settle_view_owed (takes_first_left c.purge_slot-found.ensures.makes at.1 at.5 c.if-found-eq0.false).1 in
     let ends : at_ b (view c.settle.new.cpu) ≡ taken_on own = ap (λ (x : View). at_ b x) took ∙ at_put_same b (taken_on own) v.holder.ends in (
       shown v.holder,
-      c.settle.ensures.same.1 ∙ (c.purge_slot-found.ensures.same.0.1 ∙ c.requires.station),
+      c.settle.ensures.makes.carries ∙ (c.purge_slot-found.ensures.makes.carries ∙ c.requires.station),
       ap (λ (x : ℕ). x + 1) (heads_at b v.holder c.requires.below) ∙ sym (ap (λ (e : Ends). e.head) ends),
       tails_at b v.holder c.requires.below ∙ sym (ap (λ (e : Ends). e.tail) ends),
     )
@@ -68,18 +69,18 @@ discard_one-requires-clause-station g c _ _ =
 pub discard_one-requires-clause-ends : goal.discard_one-requires-clause-ends
 discard_one-requires-clause-ends g c _ _ =
     let at = c.requires.at in let r = c.requires.rests in let b = c.args.band in let v = view c.args.cpu.now in let own : Ends = at_ b v in
-    let took = c.settle.ensures.settled ∙ ap settle_view_owed (c.purge_slot-found.ensures.taken at.1 at.5 c.if-found-eq0.false).1 in
+    let took = c.settle.ensures.makes.knows ∙ ap settle_view_owed (takes_first_left c.purge_slot-found.ensures.makes at.1 at.5 c.if-found-eq0.false).1 in
     let ends : at_ b (view c.settle.new.cpu) ≡ taken_on own = ap (λ (x : View). at_ b x) took ∙ at_put_same b (taken_on own) v.holder.ends in
     taken_batch v.holder.size c.args.size own _ ends (rest_at v.holder.size b v.holder.ends r.0) (sym r.2)
 
 pub settle-requires-clause-seat : goal.settle-requires-clause-seat
 settle-requires-clause-seat g c _ _ =
-    let at = c.requires.at in seat_on c.args.shared.now c.args.cpu.now c.purge_slot-found.new.cpu c.requires.seat c.purge_slot-found.ensures.same.0.0 (ap (λ (x : View). x.share) (c.purge_slot-found.ensures.taken at.1 at.5 c.if-found-eq0.false).1)
+    let at = c.requires.at in seat_on c.args.shared.now c.args.cpu.now c.purge_slot-found.new.cpu c.requires.seat c.purge_slot-found.ensures.makes.seat (ap (λ (x : View). x.share) (takes_first_left c.purge_slot-found.ensures.makes at.1 at.5 c.if-found-eq0.false).1)
 
 pub discard_one-requires-clause-seat : goal.discard_one-requires-clause-seat
 discard_one-requires-clause-seat g c _ _ =
-    let at = c.requires.at in let took = c.settle.ensures.settled ∙ ap settle_view_owed (c.purge_slot-found.ensures.taken at.1 at.5 c.if-found-eq0.false).1 in
-    let a = c.purge_slot-found.ensures.same.0.0 in let b = c.settle.ensures.same.0 in
+    let at = c.requires.at in let took = c.settle.ensures.makes.knows ∙ ap settle_view_owed (takes_first_left c.purge_slot-found.ensures.makes at.1 at.5 c.if-found-eq0.false).1 in
+    let a = c.purge_slot-found.ensures.makes.seat in let b = c.settle.ensures.makes.seat in
     seat_on c.args.shared.now c.args.cpu.now c.settle.new.cpu c.requires.seat (b.0 ∙ a.0, b.1 ∙ a.1) (ap (λ (x : View). x.share) took)
 
 pub returns-then-found-eq0 : goal.returns-then-found-eq0
@@ -88,8 +89,8 @@ returns-then-found-eq0 g c = record {
       let b = c.args.band in let empty = subst (λ (n : ℕ). MakesSteps (PurgeSlot b n ∷ []) c.args.cpu.now c.purge_slot-found.new.cpu) c.if-found-eq0.true c.purge_slot-found.ensures.makes in
       (PurgeSlot b 0 ∷ [], FindsNone, empty);
   stands =
-      let at = c.requires.at in let e = (c.purge_slot-found.ensures.none at.0 at.1 at.3 at.5 c.if-found-eq0.true).1 in
-      (c.purge_slot-found.ensures.makes.has, c.purge_slot-found.ensures.same.0.1 ∙ (c.requires.station ∙ ap (λ (x : View). Some (shown x.holder)) (sym e)));
+      let at = c.requires.at in let e = (passes_empty_band c.purge_slot-found.ensures.makes at.0 at.1 at.3 at.5 c.if-found-eq0.true).1 in
+      (c.purge_slot-found.ensures.makes.has, c.purge_slot-found.ensures.makes.carries ∙ (c.requires.station ∙ ap (λ (x : View). Some (shown x.holder)) (sym e)));
 }
 
 -- the slots that were taken are emptied where that is due
@@ -97,7 +98,7 @@ left-is : (g : given.Over) (c : goal.After-discard_one g) → let m = standing c
     (at_ c.args.band m.view ≡ taken_on own) × (standing c.discard_one.new.cpu ≡ discarded c.args.band c.args.size (taken_on own) (at c.args.band m.view.whole.state.ends) (ends_left c.args.size (taken_on own)) m)
 left-is g c =
     let at = c.requires.at in let r = c.requires.rests in let b = c.args.band in let v = view c.args.cpu.now in let own : Ends = at_ b v in let z = c.args.size in let m = standing c.settle.new.cpu in
-    let took = c.settle.ensures.settled ∙ ap settle_view_owed (c.purge_slot-found.ensures.taken at.1 at.5 c.if-found-eq0.false).1 in
+    let took = c.settle.ensures.makes.knows ∙ ap settle_view_owed (takes_first_left c.purge_slot-found.ensures.makes at.1 at.5 c.if-found-eq0.false).1 in
     let ends : at_ b m.view ≡ taken_on own = ap (λ (x : View). at_ b x) took ∙ at_put_same b (taken_on own) v.holder.ends in
     let some_ = taken_batch v.holder.size z own (taken_on own) refl (rest_at v.holder.size b v.holder.ends r.0) (sym r.2) in
     (ends, stands_after c.discard_one.ensures ∙ (ap (λ (e : Ends). steps_leave (discard_steps b z e) m) ends ∙ discard_leaves b z (taken_on own) m ends (ap (λ (x : View). x.holder.size) took ∙ r.2) some_.0 some_.1))
@@ -105,11 +106,11 @@ left-is g c =
 pub returns : goal.returns
 returns g c =
     let first = λ (l : Left) (left : (view c.args.cpu.now).holder.left ≡ Some l). (let b = c.args.band in let v = view c.args.cpu.now in let n = c.purge_slot-found.result - 1 in
-    let answer : PurgesOne b l v (view c.discard_one.new.cpu) = (let took_ = c.purge_slot-found.ensures.taken l left c.if-found-eq0.false in (
+    let answer : PurgesOne b l v (view c.discard_one.new.cpu) = (let took_ = takes_first_left c.purge_slot-found.ensures.makes l left c.if-found-eq0.false in (
       n,
       took_.0,
       takes_end b c.args.size v.holder.size (at_ b v) (at b v.whole.state.ends) (settle_view_owed (purge_slot_view b n l v)) (view c.settle.new.cpu) (view c.discard_one.new.cpu) (sym c.requires.rests.2)
-          (c.settle.ensures.settled ∙ ap settle_view_owed took_.1) (at_put_same b _ v.holder.ends) (at_put_same b _ v.whole.state.ends) (ap (λ (x : Standing). x.view) (left-is g c).1),
+          (c.settle.ensures.makes.knows ∙ ap settle_view_owed took_.1) (at_put_same b _ v.holder.ends) (at_put_same b _ v.whole.state.ends) (ap (λ (x : Standing). x.view) (left-is g c).1),
     )) in answer) in record {
       makes =
           let b = c.args.band in let own : Ends = at_ b (view c.args.cpu.now) in let z = c.args.size in let found = c.purge_slot-found.result in let n = found - 1 in
@@ -122,6 +123,6 @@ returns g c =
             ap (λ (x : Standing). x.slot) left ∙ (c.settle.ensures.makes.has ∙ c.purge_slot-found.ensures.makes.has),
             purged_station b n at.1 v (view c.discard_one.new.cpu) c.discard_one.new.cpu.station c.requires.below (first at.1 at.5).2
                 (ap (λ (x : Standing). x.station) left
-                ∙ (λ j. option_map (λ (st : StationState). with_ends st b (ends_left (sym r.2 j) (taken_on own)).head (ends_left (sym r.2 j) (taken_on own)).tail) ((c.settle.ensures.same.1 ∙ (c.purge_slot-found.ensures.same.0.1 ∙ c.requires.station)) j))),
+                ∙ (λ j. option_map (λ (st : StationState). with_ends st b (ends_left (sym r.2 j) (taken_on own)).head (ends_left (sym r.2 j) (taken_on own)).tail) ((c.settle.ensures.makes.carries ∙ (c.purge_slot-found.ensures.makes.carries ∙ c.requires.station)) j))),
           );
     }

@@ -16,7 +16,7 @@ pub returns : goal.returns
 returns g c =
     let old = c.args.cpu.now in let v = view old in let len = c.args.len in let event = c.args.event in let z = c.load_size-size.result in let t = c.turn_all-turned.result in
     let l = c.lock_all.ensures in let size = c.load_size-size.ensures in let m = c.turn_all-turned.ensures.makes in let held = m.0 in let lost = all_lost len held in let u = c.unlock_all.ensures in let r = c.restart_ends.ensures in
-    let loaded : view c.load_size-size.new.cpu ≡ load_size_view z (record v { locks = locked_three l.stands.0 l.stands.1 l.stands.2 }) = size.size.0 ∙ ap (load_size_view z) l.stands.6 in
+    let loaded : view c.load_size-size.new.cpu ≡ load_size_view z (record v { locks = locked_three l.stands.0 l.stands.1 l.stands.2 }) = size.makes.knows ∙ ap (load_size_view z) l.stands.6 in
     let all = makes_then (makes_then (makes_then l.makes.2 (makes_then size.makes m.1.2)) u.1) r in
     let is : view c.restart_ends.new.cpu ≡ having_resized len event lost v = r.knows
     ∙ (u.1.knows

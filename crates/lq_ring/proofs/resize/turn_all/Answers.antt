@@ -18,6 +18,7 @@ use Rattle.lq_ring.proofs.StepsThen.{makes_then}
 use Rattle.lq_ring.specs.Resized.{all_lost}
 use Rattle.lq_ring.proofs.InTurn.{IsReadyToResize, all_ready, begun_from, ready_step, refilled_of, resize_is, turns4, waits0, waits1, waits2}
 use Rattle.lq_ring.proofs.resize.turn_all.Given as given
+use Rattle.lq_table.proofs.OneStep.{restarts}
 use Rattle.lq_ring.proofs.resize.turn_all.Goals as goal
 
 abbrev begun-is : {D : Type 0} {len event : ℕ} (t : Shared D) (b a : Cpu D) → IsSeatOf t b → (held : ℕ → List ℕ) × (slots : Three (List ℕ)) × (found : ℕ) × MakesSteps (BeginResize len event held slots found ∷ []) b a
@@ -38,7 +39,7 @@ turn_at-low-requires-clause-lock g c _ _ = (low_ready g c).lock
 
 pub turn_at-low-requires-clause-ready : goal.turn_at-low-requires-clause-ready
 turn_at-low-requires-clause-ready g c _ _ =
-    let r = low_ready g c in (shown (view c.args.cpu.now).holder, r.held, c.begin_resize.ensures.same.1 ∙ c.requires.station, r.whole, r.packets)
+    let r = low_ready g c in (shown (view c.args.cpu.now).holder, r.held, c.begin_resize.ensures.makes.3.carries ∙ c.requires.station, r.whole, r.packets)
 
 mid_ready : (g : given.Over) (c : goal.After-turn_at-arg-2-1 g) → IsReadyToResize c.args.shared.now.max_len c.args.shared.now.infos.now (shown (view c.args.cpu.now).holder) c.args.resize.size c.args.resize.len c.args.resize.event 1 (view c.turn_at-low.new.cpu)
 mid_ready g c =
@@ -55,7 +56,7 @@ turn_at-mid-requires-clause-lock g c _ _ = (mid_ready g c).lock
 
 pub turn_at-mid-requires-clause-ready : goal.turn_at-mid-requires-clause-ready
 turn_at-mid-requires-clause-ready g c _ _ =
-    let r = mid_ready g c in (shown (view c.args.cpu.now).holder, r.held, c.turn_at-low.ensures.stands.1.0.1 ∙ (c.begin_resize.ensures.same.1 ∙ c.requires.station), r.whole, r.packets)
+    let r = mid_ready g c in (shown (view c.args.cpu.now).holder, r.held, c.turn_at-low.ensures.stands.1.0.1 ∙ (c.begin_resize.ensures.makes.3.carries ∙ c.requires.station), r.whole, r.packets)
 
 high_ready : (g : given.Over) (c : goal.After-turn_at-arg-3-1 g) → IsReadyToResize c.args.shared.now.max_len c.args.shared.now.infos.now (shown (view c.args.cpu.now).holder) c.args.resize.size c.args.resize.len c.args.resize.event 2 (view c.turn_at-mid.new.cpu)
 high_ready g c =
@@ -73,7 +74,7 @@ turn_at-high-requires-clause-lock g c _ _ = (high_ready g c).lock
 
 pub turn_at-high-requires-clause-ready : goal.turn_at-high-requires-clause-ready
 turn_at-high-requires-clause-ready g c _ _ =
-    let r = high_ready g c in (shown (view c.args.cpu.now).holder, r.held, c.turn_at-mid.ensures.stands.1.0.1 ∙ (c.turn_at-low.ensures.stands.1.0.1 ∙ (c.begin_resize.ensures.same.1 ∙ c.requires.station)), r.whole, r.packets)
+    let r = high_ready g c in (shown (view c.args.cpu.now).holder, r.held, c.turn_at-mid.ensures.stands.1.0.1 ∙ (c.turn_at-low.ensures.stands.1.0.1 ∙ (c.begin_resize.ensures.makes.3.carries ∙ c.requires.station)), r.whole, r.packets)
 
 pub store_size-requires-clause-ready : goal.store_size-requires-clause-ready
 store_size-requires-clause-ready g c _ _ =
@@ -107,7 +108,7 @@ returns g c = record {
           TurnsThree one.1 two.1 three.1,
           makes_then (makes_then (makes_then (makes_then m.3 one.2) two.2) three.2) c.store_size.ensures.makes,
         )),
-        (search rules, resize_is len event held b.1 v v1 v2 v3 v4 low.0 mid.0 high.0 _ _ _ b.2 low.1.1 mid.1.1 high.1.1 t (view c.store_size.new.cpu) refl (c.store_size.ensures.restarted t under_way)),
+        (search rules, resize_is len event held b.1 v v1 v2 v3 v4 low.0 mid.0 high.0 _ _ _ b.2 low.1.1 mid.1.1 high.1.1 t (view c.store_size.new.cpu) refl (restarts c.store_size.ensures.makes t under_way)),
         omega arith,
       );
   few = search rules;

@@ -39,7 +39,7 @@ returns g c = record {
   stands =
       let b = c.args.band in let done = c.turn_band-done.ensures.stands in let i = c.index_after-index.result in (
         done.0,
-        (search rules, c.set_producer.ensures.set ∙ ap (with_lock_at b (locked_at i)) done.1.1),
+        (search rules, c.set_producer.ensures.makes.knows ∙ ap (with_lock_at b (locked_at i)) done.1.1),
         done.2,
         c.index_after-index.ensures ∙ ap (round c.args.resize.len) (c.turn_band-done.ensures.kept.0 ∙ ap length (sym done.2.kept_is)),
       );

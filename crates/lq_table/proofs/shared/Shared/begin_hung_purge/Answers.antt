@@ -14,6 +14,8 @@ load_word-requires g c = (
       (c.requires.seat.0, (let wide = t.sized.0 in omega arith), purges_hung (keyed_setup t.table.kit.shared.key) t.table.kit.shared.table_id.slots seat.id (seen seat.me) at.0 at.1 at.2 c.requires.calm.0 c.requires.calm.1 c.requires.packets.0 c.requires.packets.1)),
 )
 
-pub returns-clause-makes : goal.returns-clause-makes
-returns-clause-makes g c =
-    let e = c.load_word.ensures in (e.2.told.0, c.load_word.result, makes_one _ _ _ (e.0, e.1) refl refl e.2.told.4 e.2.noted (e.2.told.1, e.2.told.2, e.2.told.3))
+pub returns : goal.returns
+returns g c = record {
+  makes =
+      let e = c.load_word.ensures in (e.2.told.0, c.load_word.result, makes_one _ _ _ (e.0, e.1) refl refl e.2.told.4 e.2.noted (e.2.told.1, e.2.told.2, e.2.told.3));
+}

@@ -16,7 +16,9 @@ load_word-word-requires g c = (
       (c.requires.seat.0, (let wide = t.sized.0 in omega arith), purges (keyed_setup t.table.kit.shared.key) t.table.kit.shared.table_id.slots seat.id (seen seat.me) at.0 at.1 c.requires.calm.0 c.requires.calm.1 c.requires.packets.0 c.requires.packets.1 c.requires.seat.1)),
 )
 
-pub returns-clause-makes : goal.returns-clause-makes
-returns-clause-makes g c =
-    let e = c.load_word-word.ensures in let t = e.2.told in let bits = t.4 in let word = t.5 in let is : t.0 ≡ c.load_word-word.result / 256 - 1 = omega arith in
-    (t.2, c.load_word-word.result, makes_one _ _ _ (e.0, e.1) refl refl (t.10 ∙ ap (λ (n : ℕ). (begin_purge_view (cause.Event n) t.2 c.args.cpu.now.known.seat.me.0.view, c.args.cpu.now.known.seat.me.1)) is) e.2.noted (t.9 ∙ ap (λ (n : ℕ). Some n) is, t.6, t.7, t.8))
+pub returns : goal.returns
+returns g c = record {
+  makes =
+      let e = c.load_word-word.ensures in let t = e.2.told in let bits = t.4 in let word = t.5 in let is : t.0 ≡ c.load_word-word.result / 256 - 1 = omega arith in
+      (t.2, c.load_word-word.result, makes_one _ _ _ (e.0, e.1) refl refl (t.10 ∙ ap (λ (n : ℕ). (begin_purge_view (cause.Event n) t.2 c.args.cpu.now.known.seat.me.0.view, c.args.cpu.now.known.seat.me.1)) is) e.2.noted (t.9 ∙ ap (λ (n : ℕ). Some n) is, t.6, t.7, t.8));
+}

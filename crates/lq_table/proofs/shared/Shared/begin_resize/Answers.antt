@@ -1,11 +1,9 @@
 mod Kept
-use Rattle.std.proofs.Common.{ℕ, ◌<◌, ◌≤◌, arith, ap, subst, List, ◌≡◌, refl, sym, ◌∙◌, [], Contains}
+use Rattle.std.proofs.Common.{ℕ, ◌<◌, ◌≤◌, arith, ap, subst, List, ◌≡◌, refl, sym, ◌∙◌, Contains}
 use Rattle.lq_model.specs.declared.fate.Info.{Info}
 use Rattle.lq_table.specs.Places.{size_place}
 use Rattle.lq_table.specs.Keyed.{keyed_setup}
-use Rattle.lq_table.specs.Resizes.{BeginsResize}
 use Rattle.lq_table.specs.Sees.{view}
-use Rattle.lq_table.specs.Moves.{Sat}
 use Rattle.lq_table.proofs.shared.Shared.begin_resize.Answers.Kept.{begins_resize}
 use Rattle.lq_log.specs.Made.{seen}
 use Rattle.std.specs.Prelude.{length}
@@ -29,16 +27,12 @@ load_word-requires g c = (
       )),
 )
 
-pub returns-clause-begun : goal.returns-clause-begun
-returns-clause-begun g c =
-    let t = c.args.self.now in
-    subst (λ (z : List Info × ℕ). BeginsResize z.0 z.1 c.args.len c.args.event (view c.args.cpu.now) c.load_word.new.seat.me.0.view) (λ j. (t.same.0 j, t.same.2 j))
-    (let b = c.load_word.ensures.2.told in (b.0, b.1, ap (λ (m : Sat). m.0) b.2, b.3, b.4, b.5, b.6))
-
-pub returns-clause-makes : goal.returns-clause-makes
-returns-clause-makes g c =
-    let e = c.load_word.ensures in let b = e.2.told in let t = c.args.self.now in let v = view c.args.cpu.now in
-    let infos = t.same.0 ∙ sym (ap (λ (k : Setup). k.infos) c.requires.seat.2) in let limit = t.same.2 ∙ sym (ap (λ (k : Setup). k.max_len) c.requires.seat.2) in
-    let slots = subst (λ (l : ℕ). (n : ℕ) → n < 3 → IsBeforeResize v.holder.size l (at n b.1) (b.0 n) (at n v.holder.ends)) limit b.3 in
-    let packets = subst (λ (xs : List Info). (n m : ℕ) → n < 3 → Contains (b.0 n) m → (band_in xs m ≡ n) × (m < length xs)) infos b.4 in
-    (b.0, b.1, c.load_word.result, makes_one _ _ _ (e.0, e.1) refl refl b.2 e.2.noted (slots, packets, b.5, b.6))
+pub returns : goal.returns
+returns g c = record {
+  makes =
+      let e = c.load_word.ensures in let b = e.2.told in let t = c.args.self.now in let v = view c.args.cpu.now in
+      let infos = t.same.0 ∙ sym (ap (λ (k : Setup). k.infos) c.requires.seat.2) in let limit = t.same.2 ∙ sym (ap (λ (k : Setup). k.max_len) c.requires.seat.2) in
+      let slots = subst (λ (l : ℕ). (n : ℕ) → n < 3 → IsBeforeResize v.holder.size l (at n b.1) (b.0 n) (at n v.holder.ends)) limit b.3 in
+      let packets = subst (λ (xs : List Info). (n m : ℕ) → n < 3 → Contains (b.0 n) m → (band_in xs m ≡ n) × (m < length xs)) infos b.4 in
+      (b.0, b.1, c.load_word.result, makes_one _ _ _ (e.0, e.1) refl refl b.2 e.2.noted (slots, packets, b.5, b.6));
+}

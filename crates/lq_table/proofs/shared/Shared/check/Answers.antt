@@ -24,12 +24,14 @@ load_word-requires g c = (
       )),
 )
 
-pub returns-clause-makes : goal.returns-clause-makes
-returns-clause-makes g c =
-    let e = c.load_word.ensures in let x = c.load_word in let old = c.args.cpu.now in let v = view old in
-    let n = c.args.n in let t = e.2.told.0 in
-    let last = λ (is : is_set 2 x.result ≡ true). (let h = t.1 is in let bits = h.2 in let word = h.4 in let y : h.0 ≡ x.result / 256 - 1 = omega arith in y) in
-    let event : is_set 2 x.result ≡ true → HasEvent x.result (λ (y : ℕ). y ≡ x.result / 256 - 1) = λ is. (let h = t.1 is in (h.0, h.1, h.2, h.3, h.4, last is)) in
-    let to = decided (is_set 2 x.result) (seen x.new.seat.me) (check_view_refused n (x.result / 256 - 1) x.result v) (load_state_view x.result v) old.known.seat.me.1 (λ is. (t.1 is).5 ∙ ap (λ (y : ℕ). (check_view_refused n y x.result v, old.known.seat.me.1)) (last is)) (t.0) in
-    let alone : solo x.new.seat.me.0.view ≡ check_alone n x.result (solo v) = search rules in
-    makes_one _ _ _ (e.0, e.1) refl refl to e.2.noted (event, sym (ap (λ (m : Sat). solo m.0) to) ∙ alone, e.2.told.1.0, e.2.told.1.1)
+pub returns : goal.returns
+returns g c = record {
+  makes =
+      let e = c.load_word.ensures in let x = c.load_word in let old = c.args.cpu.now in let v = view old in
+      let n = c.args.n in let t = e.2.told.0 in
+      let last = λ (is : is_set 2 x.result ≡ true). (let h = t.1 is in let bits = h.2 in let word = h.4 in let y : h.0 ≡ x.result / 256 - 1 = omega arith in y) in
+      let event : is_set 2 x.result ≡ true → HasEvent x.result (λ (y : ℕ). y ≡ x.result / 256 - 1) = λ is. (let h = t.1 is in (h.0, h.1, h.2, h.3, h.4, last is)) in
+      let to = decided (is_set 2 x.result) (seen x.new.seat.me) (check_view_refused n (x.result / 256 - 1) x.result v) (load_state_view x.result v) old.known.seat.me.1 (λ is. (t.1 is).5 ∙ ap (λ (y : ℕ). (check_view_refused n y x.result v, old.known.seat.me.1)) (last is)) (t.0) in
+      let alone : solo x.new.seat.me.0.view ≡ check_alone n x.result (solo v) = search rules in
+      makes_one _ _ _ (e.0, e.1) refl refl to e.2.noted (event, sym (ap (λ (m : Sat). solo m.0) to) ∙ alone, e.2.told.1.0, e.2.told.1.1);
+}

@@ -32,6 +32,8 @@ swap_word-requires g c = (
       )),
 )
 
-pub returns-clause-makes : goal.returns-clause-makes
-returns-clause-makes g c =
-    let e = c.swap_word.ensures in makes_one _ _ _ (e.0, e.1) refl refl e.2.told.1 (e.2.noted ∙ (λ j. swap (slot_of_seat c.args.self.now c.args.cpu.now c.requires.seat c.args.band c.args.i c.args.i _ c.slot_word-word.ensures refl j) 0 c.swap_word.result ∷ steps c.args.cpu.now)) (e.2.told.0, e.2.told.2)
+pub returns : goal.returns
+returns g c = record {
+  makes =
+      let e = c.swap_word.ensures in makes_one _ _ _ (e.0, e.1) refl refl e.2.told.1 (e.2.noted ∙ (λ j. swap (slot_of_seat c.args.self.now c.args.cpu.now c.requires.seat c.args.band c.args.i c.args.i _ c.slot_word-word.ensures refl j) 0 c.swap_word.result ∷ steps c.args.cpu.now)) (e.2.told.0, e.2.told.2);
+}

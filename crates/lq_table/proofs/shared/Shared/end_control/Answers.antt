@@ -7,6 +7,8 @@ use Rattle.lq_table.proofs.shared.Shared.end_control.Goals as goal
 pub load_word-requires : goal.load_word-requires
 load_word-requires g c = (c.type_bounds.send-D, ((c.requires.seat.0, (let wide = c.args.self.now.sized.0 in omega arith), returns_control _ _ _ _ c.requires.at c.requires.seat.1)))
 
-pub returns-clause-makes : goal.returns-clause-makes
-returns-clause-makes g c =
-    let e = c.load_word.ensures in (c.load_word.result, makes_one _ _ _ (e.0, e.1) refl refl e.2.told e.2.noted tt)
+pub returns : goal.returns
+returns g c = record {
+  makes =
+      let e = c.load_word.ensures in (c.load_word.result, makes_one _ _ _ (e.0, e.1) refl refl e.2.told e.2.noted tt);
+}

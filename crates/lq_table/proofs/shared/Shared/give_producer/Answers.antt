@@ -27,6 +27,8 @@ store_word-requires g c = (
       )),
 )
 
-pub returns-clause-makes : goal.returns-clause-makes
-returns-clause-makes g c =
-    let e = c.store_word.ensures in makes_one _ _ _ (e.0, e.1) refl refl e.2.told (e.2.noted ∙ (λ j. store (c.producer_word-word.ensures j) (2 * c.args.index) ∷ steps c.args.cpu.now)) tt
+pub returns : goal.returns
+returns g c = record {
+  makes =
+      let e = c.store_word.ensures in makes_one _ _ _ (e.0, e.1) refl refl e.2.told (e.2.noted ∙ (λ j. store (c.producer_word-word.ensures j) (2 * c.args.index) ∷ steps c.args.cpu.now)) tt;
+}

@@ -8,7 +8,6 @@ use Rattle.lq_table.specs.Places.{turn_place}
 use Rattle.lq_table.specs.Rule.{Rule}
 use Rattle.lq_table.specs.Keyed.{keyed_setup}
 use Rattle.lq_table.specs.Turns.{give_turn_view}
-use Rattle.lq_table.specs.Moves.{Sat}
 use Rattle.lq_table.specs.Sees.{view, steps}
 use Rattle.lq_table.proofs.CodeReads.{no_info, owner_read, rank_read}
 use Rattle.lq_table.proofs.shared.Shared.give_turn.Answers.Kept.{gives_turn}
@@ -35,8 +34,6 @@ pub returns : goal.returns
 returns g c =
     let infos = c.args.self.now.infos.now in let n = c.args.n in let e = c.store_word.ensures in
     let owner = owner_read infos n no_info c.requires.packet.0 in let rank = rank_read infos n no_info c.requires.packet.0 in let word = c.turn_word-word.ensures ∙ ap turn_place owner in record {
-      same = ((e.0, e.1), refl, refl, ap (λ (m : Sat). m.1) e.2.told);
-      given = ap (λ (m : Sat). m.0) e.2.told ∙ (λ j. give_turn_view (owner j) (rank j) (view c.args.cpu.now));
       makes =
           let old = c.args.cpu.now in let k = sym (ap (λ (x : Setup). x.infos) c.requires.seat.2) in let o = owner ∙ ap (λ (xs : List Info). owner_in xs n) k in let r = rank ∙ ap (λ (xs : List Info). rank_in xs n) k in
           makes_one _ _ _ (e.0, e.1) refl refl (e.2.told ∙ (λ j. (give_turn_view (o j) (r j) (view old), old.known.seat.me.1)))

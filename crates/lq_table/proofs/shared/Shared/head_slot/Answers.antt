@@ -39,9 +39,11 @@ invariant_of-cpu g c =
     let at = c.requires.at in
     record { told = c.args.cpu.now.known.told ∙ sym (head_marks _ c.load_word.result at.0 (step c.args.self.now.table.kit.shared.table_id.slots c.slot_word-word.result 0 0 none) (seen c.args.cpu.now.known.seat.me) (seen c.load_word.new.seat.me) at.1 c.load_word.ensures.2.told.0) }
 
-pub returns-clause-makes : goal.returns-clause-makes
-returns-clause-makes g c =
-    let e = c.load_word.ensures in let x = c.load_word in let old = c.args.cpu.now in let b = c.args.band in let v = view old in
-    let to = decided (eqb x.result 0) (seen x.new.seat.me) (head_slot_view_empty b v) (head_slot_view b (x.result - 1) v) old.known.seat.me.1 (λ y. e.2.told.0.0 (eqb-true x.result 0 y)) (λ n. e.2.told.0.1 (λ y. true≢false (sym (eq-eqb x.result 0 y) ∙ n))) in
-    let head = head_read old.station c.station.result.now b c.head-head.result (ends_at b old).head c.station.ensures c.head-head.ensures c.requires.station.1 in
-    makes_one _ _ _ (e.0, e.1) refl refl to (e.2.noted ∙ (λ j. load (slot_of_seat c.args.self.now c.args.cpu.now c.requires.seat c.args.band c.head-head.result (ends_at b old).head _ c.slot_word-word.ensures head j) x.result ∷ steps c.args.cpu.now)) (e.2.told.0.2, e.2.told.1.0, e.2.told.1.1)
+pub returns : goal.returns
+returns g c = record {
+  makes =
+      let e = c.load_word.ensures in let x = c.load_word in let old = c.args.cpu.now in let b = c.args.band in let v = view old in
+      let to = decided (eqb x.result 0) (seen x.new.seat.me) (head_slot_view_empty b v) (head_slot_view b (x.result - 1) v) old.known.seat.me.1 (λ y. e.2.told.0.0 (eqb-true x.result 0 y)) (λ n. e.2.told.0.1 (λ y. true≢false (sym (eq-eqb x.result 0 y) ∙ n))) in
+      let head = head_read old.station c.station.result.now b c.head-head.result (ends_at b old).head c.station.ensures c.head-head.ensures c.requires.station.1 in
+      makes_one _ _ _ (e.0, e.1) refl refl to (e.2.noted ∙ (λ j. load (slot_of_seat c.args.self.now c.args.cpu.now c.requires.seat c.args.band c.head-head.result (ends_at b old).head _ c.slot_word-word.ensures head j) x.result ∷ steps c.args.cpu.now)) (e.2.told.0.2, e.2.told.1.0, e.2.told.1.1);
+}

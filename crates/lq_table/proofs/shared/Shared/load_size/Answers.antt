@@ -17,6 +17,8 @@ load_word-requires g c = (
       (c.requires.seat.0, word, loads_size k slots seat.id (seen seat.me) c.requires.seat.1)),
 )
 
-pub returns-clause-makes : goal.returns-clause-makes
-returns-clause-makes g c =
-    let e = c.load_word.ensures in makes_one _ _ _ (e.0, e.1) refl refl e.2.told.0 e.2.noted (e.2.told.1, subst (λ (l : ℕ). c.load_word.result ≤ l) (c.args.self.now.same.2 ∙ sym (ap (λ (k : Setup). k.max_len) c.requires.seat.2)) e.2.told.2, e.2.told.3)
+pub returns : goal.returns
+returns g c = record {
+  makes =
+      let e = c.load_word.ensures in makes_one _ _ _ (e.0, e.1) refl refl e.2.told.0 e.2.noted (e.2.told.1, subst (λ (l : ℕ). c.load_word.result ≤ l) (c.args.self.now.same.2 ∙ sym (ap (λ (k : Setup). k.max_len) c.requires.seat.2)) e.2.told.2, e.2.told.3);
+}

@@ -8,7 +8,7 @@ use Rattle.atomic_table.specs.Table.{step, Allows}
 use Rattle.lq_table.specs.Rule.{Rule}
 use Rattle.lq_table.specs.Keyed.{keyed_setup}
 use Rattle.lq_table.specs.Stops.{load_xoff_queue}
-use Rattle.lq_table.specs.Sees.{solo, steps}
+use Rattle.lq_table.specs.Sees.{steps}
 use Rattle.lq_table.proofs.shared.Shared.load_xoff.Invariants.{load_xoff_told_all}
 use Rattle.lq_table.proofs.ByName.{xoff_in}
 use Rattle.lq_table.proofs.shared.Shared.load_xoff.Answers.Kept.{loads_stop_sole}
@@ -34,9 +34,8 @@ load_word-requires g c = (
       )),
 )
 
-pub returns-clause-step : goal.returns-clause-step
-returns-clause-step g c = ap (λ m. solo m.0) c.load_word.ensures.2.told.0.0 ∙ loads_stop_solo c.args.cpu.now.known.seat.me.0.view c.load_word.result
-
-pub returns-clause-makes : goal.returns-clause-makes
-returns-clause-makes g c =
-    let e = c.load_word.ensures in makes_one _ _ _ (e.0, e.1) refl refl e.2.told.0.0 (e.2.noted ∙ (λ j. load ((c.stop_word-word.ensures.named ∙ ap (λ (k : Setup). xoff_word k c.args.queue) (sym c.requires.seat.2)) j) c.load_word.result ∷ steps c.args.cpu.now)) (e.2.told.0.1, e.2.told.0.2, loads_stop_solo c.args.cpu.now.known.seat.me.0.view c.load_word.result, e.2.told.1)
+pub returns : goal.returns
+returns g c = record {
+  makes =
+      let e = c.load_word.ensures in makes_one _ _ _ (e.0, e.1) refl refl e.2.told.0.0 (e.2.noted ∙ (λ j. load ((c.stop_word-word.ensures.named ∙ ap (λ (k : Setup). xoff_word k c.args.queue) (sym c.requires.seat.2)) j) c.load_word.result ∷ steps c.args.cpu.now)) (e.2.told.0.1, e.2.told.0.2, loads_stop_solo c.args.cpu.now.known.seat.me.0.view c.load_word.result, e.2.told.1);
+}

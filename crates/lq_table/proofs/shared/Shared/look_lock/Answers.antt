@@ -1,15 +1,12 @@
 mod Alone
 mod Kept
 mod Makes
-use Rattle.std.proofs.Common.{◌≡◌, ℕ, ◌∷◌, arith, false, not, eqb, refl, sym, ap, ◌∙◌}
+use Rattle.std.proofs.Common.{arith, refl, sym, ◌∙◌}
 use mathlib.Core.Option.{none}
 use Rattle.atomic_table.specs.Table.{step}
 use Rattle.lq_table.specs.Places.{lock_place}
 use Rattle.lq_log.specs.Made.{seen}
-use Rattle.lq_table.specs.Locks.{load_lock_log}
-use Rattle.lq_table.specs.Sees.{steps}
-use Rattle.lq_table.specs.Moves.{Sat}
-use Rattle.lq_table.proofs.shared.Shared.look_lock.Answers.Alone.{look_solo, look_marks, look_slots, is_free, is_held}
+use Rattle.lq_table.proofs.shared.Shared.look_lock.Answers.Alone.{look_marks}
 use Rattle.lq_table.proofs.shared.Shared.look_lock.Answers.Kept.{looks_lock}
 use Rattle.lq_table.proofs.shared.Shared.look_lock.Answers.Makes.{look_becomes, look_tells}
 use Rattle.lq_table.specs.Step.{standing}
@@ -28,11 +25,6 @@ invariant_of-cpu g c =
 pub returns : goal.returns
 returns g c =
     let old = c.args.cpu.now in let x = c.load_word in let e = x.ensures in let t = e.2.told in
-    let s = step c.args.self.now.table.kit.shared.table_id.slots lock_place 0 0 none in
-    let free = λ (no_ : not (eqb x.result 0) ≡ false). is_free x.result no_ in record {
-      same = ((e.0, e.1), refl, refl, look_slots s x.result (seen old.known.seat.me) (seen x.new.seat.me) t.0);
-      held = λ is. let n = is_held x.result is in (ap (λ (m : Sat). m.0) (t.0.1 n), (x.result, n, e.2.noted));
-      free = λ no_. (ap (λ (m : Sat). m.0) (t.0.0 (free no_)), e.2.noted ∙ ap (λ (n : ℕ). load_lock_log n ∷ steps old) (free no_));
-      sole = λ sole. look_solo s x.result (seen old.known.seat.me) (seen x.new.seat.me) c.requires.at t.0 (t.1 sole);
+    let s = step c.args.self.now.table.kit.shared.table_id.slots lock_place 0 0 none in record {
       makes = (x.result, refl, makes_one _ _ _ (e.0, e.1) refl refl (look_becomes s x.result (seen old.known.seat.me) (seen x.new.seat.me) t.0) e.2.noted (look_tells x.result (standing old) c.requires.at t.1));
     }

@@ -27,6 +27,8 @@ load_word-requires g c = (
       )),
 )
 
-pub returns-clause-makes : goal.returns-clause-makes
-returns-clause-makes g c =
-    let e = c.load_word.ensures in (c.load_word.result, refl, makes_one _ _ _ (e.0, e.1) refl refl e.2.told.0 (e.2.noted ∙ (λ j. load ((c.stop_word-word.ensures.named ∙ ap (λ (k : Setup). xoff_word k c.args.queue) (sym c.requires.seat.2)) j) c.load_word.result ∷ steps c.args.cpu.now)) e.2.told.1)
+pub returns : goal.returns
+returns g c = record {
+  makes =
+      let e = c.load_word.ensures in (c.load_word.result, refl, makes_one _ _ _ (e.0, e.1) refl refl e.2.told.0 (e.2.noted ∙ (λ j. load ((c.stop_word-word.ensures.named ∙ ap (λ (k : Setup). xoff_word k c.args.queue) (sym c.requires.seat.2)) j) c.load_word.result ∷ steps c.args.cpu.now)) e.2.told.1);
+}

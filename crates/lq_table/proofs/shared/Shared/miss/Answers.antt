@@ -1,6 +1,5 @@
 mod Kept
-use Rattle.std.proofs.Common.{arith, ap, ◌∙◌, refl}
-use Rattle.lq_table.specs.Sees.{solo}
+use Rattle.std.proofs.Common.{arith, refl}
 use Rattle.lq_table.proofs.shared.Shared.miss.Answers.Kept.{misses_sole}
 use Rattle.lq_table.proofs.MissSolo.{misses_solo}
 use Rattle.lq_table.proofs.StepFacts.{makes_one}
@@ -9,9 +8,8 @@ use Rattle.lq_table.proofs.shared.Shared.miss.Goals as goal
 pub fetch_or_word-requires : goal.fetch_or_word-requires
 fetch_or_word-requires g c = (c.type_bounds.send-D, ((c.requires.seat.0, (let wide = c.args.self.now.sized.0 in omega arith), misses_sole _ _ _ _ c.requires.at c.requires.seat.1)))
 
-pub returns-clause-step : goal.returns-clause-step
-returns-clause-step g c = ap (λ m. solo m.0) c.fetch_or_word.ensures.2.told.0 ∙ misses_solo _ c.args.cpu.now.known.seat.me.0.view c.requires.at
-
-pub returns-clause-makes : goal.returns-clause-makes
-returns-clause-makes g c =
-    let e = c.fetch_or_word.ensures in makes_one _ _ _ (e.0, e.1) refl refl e.2.told.0 e.2.noted (misses_solo _ c.args.cpu.now.known.seat.me.0.view c.requires.at, λ sole. (e.2.told.1 sole).missed)
+pub returns : goal.returns
+returns g c = record {
+  makes =
+      let e = c.fetch_or_word.ensures in makes_one _ _ _ (e.0, e.1) refl refl e.2.told.0 e.2.noted (misses_solo _ c.args.cpu.now.known.seat.me.0.view c.requires.at, λ sole. (e.2.told.1 sole).missed);
+}

@@ -43,9 +43,11 @@ load_word-requires g c = (
       )),
 )
 
-pub returns-clause-makes : goal.returns-clause-makes
-returns-clause-makes g c =
-    let e = c.load_word.ensures in let x = c.load_word in let old = c.args.cpu.now in let b = c.args.band in let v = view old in
-    let to = decided (eqb x.result 0) (seen x.new.seat.me) (with_lock_at b (with_room (at b v.locks)) v) (producer_slot_view_full (brought_packet v) (x.result - 1) v) old.known.seat.me.1 (λ y. e.2.told.0.0 (eqb-true x.result 0 y)) (λ n. e.2.told.0.1 (λ y. true≢false (sym (eq-eqb x.result 0 y) ∙ n))) in
-    let is = c.at-index.ensures ∙ sym c.requires.lock.0.1 in
-    makes_one _ _ _ (e.0, e.1) refl refl to (e.2.noted ∙ (λ j. load (slot_of_seat c.args.self.now c.args.cpu.now c.requires.seat c.args.band c.at-index.result (lock_at c.args.band c.args.cpu.now).index _ c.slot_word-word.ensures is j) x.result ∷ steps c.args.cpu.now)) (e.2.told.0.2, e.2.told.1)
+pub returns : goal.returns
+returns g c = record {
+  makes =
+      let e = c.load_word.ensures in let x = c.load_word in let old = c.args.cpu.now in let b = c.args.band in let v = view old in
+      let to = decided (eqb x.result 0) (seen x.new.seat.me) (with_lock_at b (with_room (at b v.locks)) v) (producer_slot_view_full (brought_packet v) (x.result - 1) v) old.known.seat.me.1 (λ y. e.2.told.0.0 (eqb-true x.result 0 y)) (λ n. e.2.told.0.1 (λ y. true≢false (sym (eq-eqb x.result 0 y) ∙ n))) in
+      let is = c.at-index.ensures ∙ sym c.requires.lock.0.1 in
+      makes_one _ _ _ (e.0, e.1) refl refl to (e.2.noted ∙ (λ j. load (slot_of_seat c.args.self.now c.args.cpu.now c.requires.seat c.args.band c.at-index.result (lock_at c.args.band c.args.cpu.now).index _ c.slot_word-word.ensures is j) x.result ∷ steps c.args.cpu.now)) (e.2.told.0.2, e.2.told.1);
+}

@@ -1,5 +1,5 @@
 mod Kept
-use Rattle.std.proofs.Common.{◌≡◌, ℕ, ◌<◌, ◌≤◌, ◌-◌, ◌∷◌, arith, sym, ap, ◌∙◌, subst, length, List, Option, Some, [], slice_get, refl, eqb, eq-eqb, eqb-true, true≢false}
+use Rattle.std.proofs.Common.{◌≡◌, ℕ, ◌<◌, ◌≤◌, ◌-◌, ◌∷◌, arith, sym, ap, ◌∙◌, subst, length, List, Option, refl, eqb, eq-eqb, eqb-true, true≢false}
 use mathlib.Core.Option.{none}
 use Rattle.lq_model.specs.declared.fate.Info.{Info}
 use Rattle.atomic_table.specs.Table.{step, Allows}
@@ -12,9 +12,7 @@ use Rattle.std.specs.Option.{unwrap_or}
 use Rattle.lq_model.specs.Machine.{Purge}
 use Rattle.lq_table.specs.Views.{Left, no_left}
 use Rattle.lq_table.specs.Purges.{first_purge, purge_slot_view_empty, purge_slot_view}
-use Rattle.lq_model.specs.Band.{held_of}
 use Rattle.lq_band_laws.specs.Three.{at}
-use Rattle.lq_table.specs.Moves.{Sat}
 use Rattle.lq_table.specs.Sees.{view, steps, ends_at}
 use Rattle.lq_table.proofs.shared.Shared.purge_slot.Invariants.{purge_slot_told}
 use Rattle.lq_table.proofs.CodeReads.{head_read}
@@ -40,19 +38,11 @@ load_word-requires g c = (
       )),
 )
 
-pub returns-clause-none : goal.returns-clause-none
-returns-clause-none g c = λ u l purge left zero_.
-    let old = c.args.cpu.now in let t = c.load_word.ensures.2.told.0 zero_ in
-    subst (λ (x : Purge × Left). (held_of (at c.args.band x.1.bands) ≡ []) × (c.load_word.new.seat.me.0.view ≡ purge_slot_view_empty x.0 (view old))) (λ j. (unwrap_or (purge j) first_purge, unwrap_or (left j) no_left)) (t.0, ap (λ (m : Sat). m.0) t.1)
-
-pub returns-clause-taken : goal.returns-clause-taken
-returns-clause-taken g c = λ l left some.
-    let old = c.args.cpu.now in let t = c.load_word.ensures.2.told.1 some in
-    let n = c.load_word.result - 1 in subst (λ (x : Left). (slice_get (held_of (at c.args.band x.bands)) 0 ≡ Some n) × (c.load_word.new.seat.me.0.view ≡ purge_slot_view c.args.band n x (view old))) (ap (λ (x : Option Left). unwrap_or x no_left) left) (t.0, ap (λ (m : Sat). m.0) t.1)
-
-pub returns-clause-makes : goal.returns-clause-makes
-returns-clause-makes g c =
-    let e = c.load_word.ensures in let x = c.load_word in let old = c.args.cpu.now in let b = c.args.band in let v = view old in
-    let to = decided (eqb x.result 0) (seen x.new.seat.me) (purge_slot_view_empty (purge_of v) v) (purge_slot_view b (x.result - 1) (purge_left v) v) old.known.seat.me.1 (λ y. (e.2.told.0 (eqb-true x.result 0 y)).1) (λ n. (e.2.told.1 (λ y. true≢false (sym (eq-eqb x.result 0 y) ∙ n))).1) in
-    let head = head_read old.station c.station.result.now b c.head-head.result (ends_at b old).head c.station.ensures c.head-head.ensures c.requires.station.1 in
-    makes_one _ _ _ (e.0, e.1) refl refl to (e.2.noted ∙ (λ j. load (slot_of_seat c.args.self.now c.args.cpu.now c.requires.seat c.args.band c.head-head.result (ends_at b old).head _ c.slot_word-word.ensures head j) x.result ∷ steps c.args.cpu.now)) (e.2.told.2, (λ is. (e.2.told.0 is).0), (λ some. (e.2.told.1 some).0))
+pub returns : goal.returns
+returns g c = record {
+  makes =
+      let e = c.load_word.ensures in let x = c.load_word in let old = c.args.cpu.now in let b = c.args.band in let v = view old in
+      let to = decided (eqb x.result 0) (seen x.new.seat.me) (purge_slot_view_empty (purge_of v) v) (purge_slot_view b (x.result - 1) (purge_left v) v) old.known.seat.me.1 (λ y. (e.2.told.0 (eqb-true x.result 0 y)).1) (λ n. (e.2.told.1 (λ y. true≢false (sym (eq-eqb x.result 0 y) ∙ n))).1) in
+      let head = head_read old.station c.station.result.now b c.head-head.result (ends_at b old).head c.station.ensures c.head-head.ensures c.requires.station.1 in
+      makes_one _ _ _ (e.0, e.1) refl refl to (e.2.noted ∙ (λ j. load (slot_of_seat c.args.self.now c.args.cpu.now c.requires.seat c.args.band c.head-head.result (ends_at b old).head _ c.slot_word-word.ensures head j) x.result ∷ steps c.args.cpu.now)) (e.2.told.2, (λ is. (e.2.told.0 is).0), (λ some. (e.2.told.1 some).0));
+}

@@ -24,10 +24,12 @@ load_word-requires g c = (
       )),
 )
 
-pub returns-clause-makes : goal.returns-clause-makes
-returns-clause-makes g c =
-    let e = c.load_word.ensures in let x = c.load_word in let old = c.args.cpu.now in let v = view old in
-    let n = c.args.n in
-    let to = decided (some_bit x.result) (seen x.new.seat.me) (load_state_view x.result v) (recheck_view_direct n x.result v) old.known.seat.me.1 (e.2.told.0.0) (e.2.told.0.1) in
-    let alone : solo x.new.seat.me.0.view ≡ recheck_alone n x.result (solo v) = search rules in
-    makes_one _ _ _ (e.0, e.1) refl refl to e.2.noted (sym (ap (λ (m : Sat). solo m.0) to) ∙ alone, e.2.told.1)
+pub returns : goal.returns
+returns g c = record {
+  makes =
+      let e = c.load_word.ensures in let x = c.load_word in let old = c.args.cpu.now in let v = view old in
+      let n = c.args.n in
+      let to = decided (some_bit x.result) (seen x.new.seat.me) (load_state_view x.result v) (recheck_view_direct n x.result v) old.known.seat.me.1 (e.2.told.0.0) (e.2.told.0.1) in
+      let alone : solo x.new.seat.me.0.view ≡ recheck_alone n x.result (solo v) = search rules in
+      makes_one _ _ _ (e.0, e.1) refl refl to e.2.noted (sym (ap (λ (m : Sat). solo m.0) to) ∙ alone, e.2.told.1);
+}

@@ -12,6 +12,8 @@ fetch_or_word-requires g c = (
       (c.requires.seat.0, (let wide = c.args.self.now.sized.0 in omega arith), requeues _ _ _ at.0 _ _ at.1 at.2 at.4 at.5 at.6 c.requires.seat.1)),
 )
 
-pub returns-clause-makes : goal.returns-clause-makes
-returns-clause-makes g c =
-    let e = c.fetch_or_word.ensures in (is_set 4 c.fetch_or_word.result, makes_one _ _ _ (e.0, e.1) refl refl e.2.told e.2.noted refl)
+pub returns : goal.returns
+returns g c = record {
+  makes =
+      let e = c.fetch_or_word.ensures in (is_set 4 c.fetch_or_word.result, makes_one _ _ _ (e.0, e.1) refl refl e.2.told e.2.noted refl);
+}

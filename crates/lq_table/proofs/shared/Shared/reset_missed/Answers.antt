@@ -7,6 +7,8 @@ use Rattle.lq_table.proofs.shared.Shared.reset_missed.Goals as goal
 pub fetch_and_word-requires : goal.fetch_and_word-requires
 fetch_and_word-requires g c = (c.type_bounds.send-D, ((c.requires.seat.0, (let wide = c.args.self.now.sized.0 in omega arith), resets_missed _ _ _ _ c.requires.purge.0 c.requires.purge.1 c.requires.at c.requires.purge.2 c.requires.purge.3 c.requires.purge.4 c.requires.purge.5 c.requires.seat.1)))
 
-pub returns-clause-makes : goal.returns-clause-makes
-returns-clause-makes g c =
-    let e = c.fetch_and_word.ensures in makes_one _ _ _ (e.0, e.1) refl refl e.2.told e.2.noted tt
+pub returns : goal.returns
+returns g c = record {
+  makes =
+      let e = c.fetch_and_word.ensures in makes_one _ _ _ (e.0, e.1) refl refl e.2.told e.2.noted tt;
+}

@@ -18,6 +18,8 @@ fetch_or_word-requires g c = (
       )),
 )
 
-pub returns-clause-makes : goal.returns-clause-makes
-returns-clause-makes g c =
-    let e = c.fetch_or_word.ensures in (is_set (2 + 256 * (c.args.event + 1)) c.fetch_or_word.result, makes_one _ _ _ (e.0, e.1) refl refl e.2.told e.2.noted tt)
+pub returns : goal.returns
+returns g c = record {
+  makes =
+      let e = c.fetch_or_word.ensures in (is_set (2 + 256 * (c.args.event + 1)) c.fetch_or_word.result, makes_one _ _ _ (e.0, e.1) refl refl e.2.told e.2.noted tt);
+}

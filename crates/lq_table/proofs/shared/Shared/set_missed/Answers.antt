@@ -1,7 +1,6 @@
 mod Alone
 mod Kept
-use Rattle.std.proofs.Common.{arith, ap, ◌∙◌, refl}
-use Rattle.lq_table.specs.Sees.{solo}
+use Rattle.std.proofs.Common.{arith, refl}
 use Rattle.lq_table.proofs.shared.Shared.set_missed.Answers.Kept.{sets_missed_all}
 use Rattle.lq_table.proofs.shared.Shared.set_missed.Answers.Alone.{sets_missed_solo}
 use Rattle.lq_table.proofs.StepFacts.{makes_one}
@@ -11,9 +10,8 @@ use Rattle.lq_table.proofs.shared.Shared.set_missed.Goals as goal
 pub fetch_or_word-requires : goal.fetch_or_word-requires
 fetch_or_word-requires g c = (c.type_bounds.send-D, ((c.requires.seat.0, (let wide = c.args.self.now.sized.0 in omega arith), sets_missed_all _ _ _ _ c.requires.at c.requires.seat.1)))
 
-pub returns-clause-step : goal.returns-clause-step
-returns-clause-step g c = ap (λ m. solo m.0) c.fetch_or_word.ensures.2.told ∙ sets_missed_solo c.args.cpu.now.known.seat.me.0.view c.requires.at
-
-pub returns-clause-makes : goal.returns-clause-makes
-returns-clause-makes g c =
-    let e = c.fetch_or_word.ensures in (is_set 4 c.fetch_or_word.result, makes_one _ _ _ (e.0, e.1) refl refl e.2.told e.2.noted (sets_missed_solo c.args.cpu.now.known.seat.me.0.view c.requires.at))
+pub returns : goal.returns
+returns g c = record {
+  makes =
+      let e = c.fetch_or_word.ensures in (is_set 4 c.fetch_or_word.result, makes_one _ _ _ (e.0, e.1) refl refl e.2.told e.2.noted (sets_missed_solo c.args.cpu.now.known.seat.me.0.view c.requires.at));
+}

@@ -1,6 +1,5 @@
 mod Kept
-use Rattle.std.proofs.Common.{not, refl, ap, ◌∙◌, arith, rules}
-use Rattle.lq_table.specs.Sees.{solo}
+use Rattle.std.proofs.Common.{refl, arith, rules}
 use Rattle.lq_table.proofs.shared.Shared.set_sched.Answers.Kept.{schedules_sole}
 use Rattle.lq_table.proofs.StepFacts.{makes_one}
 use Rattle.lq_table.proofs.shared.Shared.set_sched.Goals as goal
@@ -8,6 +7,8 @@ use Rattle.lq_table.proofs.shared.Shared.set_sched.Goals as goal
 pub fetch_or_word-requires : goal.fetch_or_word-requires
 fetch_or_word-requires g c = (c.type_bounds.send-D, ((c.requires.seat.0, (let wide = c.args.self.now.sized.0 in omega arith), schedules_sole _ _ _ _ c.requires.at c.requires.seat.1)))
 
-pub returns-clause-makes : goal.returns-clause-makes
-returns-clause-makes g c =
-    let e = c.fetch_or_word.ensures in makes_one _ _ _ (e.0, e.1) refl refl e.2.told.0 e.2.noted (search rules, λ sole. (e.2.told.1 sole).scheduled)
+pub returns : goal.returns
+returns g c = record {
+  makes =
+      let e = c.fetch_or_word.ensures in makes_one _ _ _ (e.0, e.1) refl refl e.2.told.0 e.2.noted (search rules, λ sole. (e.2.told.1 sole).scheduled);
+}

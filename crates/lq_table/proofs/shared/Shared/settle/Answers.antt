@@ -9,9 +9,8 @@ use Rattle.lq_model.specs.Plan.{band_in}
 use Rattle.atomic_table.specs.Table.{step, Allows}
 use Rattle.lq_table.specs.Rule.{Rule, fates_offset}
 use Rattle.lq_table.specs.Keyed.{keyed_setup}
-use Rattle.lq_table.specs.Moves.{Sat}
 use Rattle.lq_table.specs.Fates.{MaySettle, settle_view}
-use Rattle.lq_table.specs.Sees.{view, carried, solo, steps}
+use Rattle.lq_table.specs.Sees.{view, carried, steps}
 use Rattle.lq_table.proofs.shared.Shared.settle.Answers.Alone.{fates_solo}
 use Rattle.lq_table.proofs.shared.Shared.settle.Answers.Kept.{settles_fate}
 use Rattle.lq_log.specs.Made.{seen, becomes, store}
@@ -36,19 +35,12 @@ store_word-requires g c = λ _. (
       )),
 )
 
-pub returns-clause-settled : goal.returns-clause-settled
-returns-clause-settled g c =
-    let old = c.args.cpu.now in
-    ap (λ (m : Sat). m.0) c.store_word.ensures.2.told ∙ ap (λ (xs : List Info). settle_view (carried old) (band_in xs c.args.n) c.args.n c.args.fate (view old)) c.args.self.now.same.0
-
-pub returns-clause-step : goal.returns-clause-step
-returns-clause-step g c = let old = c.args.cpu.now in
-    ap solo (returns-clause-settled g c) ∙ fates_solo (view old) (carried old) (band_in c.args.self.now.infos.now c.args.n) c.args.n c.args.fate c.requires.may
-
-pub returns-clause-makes : goal.returns-clause-makes
-returns-clause-makes g c =
-    let e = c.store_word.ensures in let old = c.args.cpu.now in let t = c.args.self.now in let n = c.args.n in let f = c.args.fate in let st = carried old in let v = view old in
-    let infos = t.same.0 ∙ sym (ap (λ (k : Setup). k.infos) c.requires.seat.2) in
-    let to = e.2.told ∙ ap (λ (xs : List Info). (settle_view st (band_in xs n) n f v, old.known.seat.me.1)) infos in
-    let may = subst (λ (xs : List Info). MaySettle (band_in xs n) n f st v) (ap (λ (k : Setup). k.infos) (sym c.requires.seat.2)) c.requires.may in
-    makes_one _ _ _ (e.0, e.1) refl refl to (e.2.noted ∙ (λ j. store (fate_of_seat t old c.requires.seat n _ c.fate_word_of-word.ensures j) (c.fate_word.ensures.word j) ∷ steps old)) (fates_solo v st (band_in v.share.about.infos n) n f may)
+pub returns : goal.returns
+returns g c = record {
+  makes =
+      let e = c.store_word.ensures in let old = c.args.cpu.now in let t = c.args.self.now in let n = c.args.n in let f = c.args.fate in let st = carried old in let v = view old in
+      let infos = t.same.0 ∙ sym (ap (λ (k : Setup). k.infos) c.requires.seat.2) in
+      let to = e.2.told ∙ ap (λ (xs : List Info). (settle_view st (band_in xs n) n f v, old.known.seat.me.1)) infos in
+      let may = subst (λ (xs : List Info). MaySettle (band_in xs n) n f st v) (ap (λ (k : Setup). k.infos) (sym c.requires.seat.2)) c.requires.may in
+      makes_one _ _ _ (e.0, e.1) refl refl to (e.2.noted ∙ (λ j. store (fate_of_seat t old c.requires.seat n _ c.fate_word_of-word.ensures j) (c.fate_word.ensures.word j) ∷ steps old)) (fates_solo v st (band_in v.share.about.infos n) n f may);
+}

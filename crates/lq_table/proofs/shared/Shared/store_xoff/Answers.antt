@@ -30,9 +30,8 @@ store_word-requires g c = (
       )),
 )
 
-pub returns-clause-step : goal.returns-clause-step
-returns-clause-step g c = let at = c.requires.at in ap (λ m. solo m.0) c.store_word.ensures.2.told ∙ (stores_solo c.args.cpu.now.known.seat.me.0.view c.args.queue at.0 at.1 at.2 ∙ ap (λ (x : ℕ). heard (Stop c.args.queue x) (solo c.args.cpu.now.known.seat.me.0.view)) (sym at.3))
-
-pub returns-clause-makes : goal.returns-clause-makes
-returns-clause-makes g c =
-    let e = c.store_word.ensures in let at = c.requires.at in makes_one _ _ _ (e.0, e.1) refl refl e.2.told (e.2.noted ∙ (λ j. store ((c.stop_word-word.ensures.named ∙ ap (λ (k : Setup). xoff_word k c.args.queue) (sym c.requires.seat.2)) j) c.args.v ∷ steps c.args.cpu.now)) (stores_solo c.args.cpu.now.known.seat.me.0.view c.args.queue at.0 at.1 at.2 ∙ ap (λ (x : ℕ). heard (Stop c.args.queue x) (solo c.args.cpu.now.known.seat.me.0.view)) (sym at.3))
+pub returns : goal.returns
+returns g c = record {
+  makes =
+      let e = c.store_word.ensures in let at = c.requires.at in makes_one _ _ _ (e.0, e.1) refl refl e.2.told (e.2.noted ∙ (λ j. store ((c.stop_word-word.ensures.named ∙ ap (λ (k : Setup). xoff_word k c.args.queue) (sym c.requires.seat.2)) j) c.args.v ∷ steps c.args.cpu.now)) (stores_solo c.args.cpu.now.known.seat.me.0.view c.args.queue at.0 at.1 at.2 ∙ ap (λ (x : ℕ). heard (Stop c.args.queue x) (solo c.args.cpu.now.known.seat.me.0.view)) (sym at.3));
+}

@@ -11,6 +11,8 @@ store_word-requires g c = (
       (c.requires.seat.0, (let wide = t.sized.0 in omega arith), swaps _ _ _ _ _ (omega arith) c.requires.at.1 c.requires.at.0 p.0 p.1 c.requires.station.1 c.requires.seat.1)),
 )
 
-pub returns-clause-makes : goal.returns-clause-makes
-returns-clause-makes g c =
-    let e = c.store_word.ensures in makes_one _ _ _ (e.0, e.1) refl refl e.2.told.0 e.2.noted e.2.told.1
+pub returns : goal.returns
+returns g c = record {
+  makes =
+      let e = c.store_word.ensures in makes_one _ _ _ (e.0, e.1) refl refl e.2.told.0 e.2.noted e.2.told.1;
+}

@@ -1,5 +1,5 @@
 mod Kept
-use Rattle.std.proofs.Common.{◌≡◌, ℕ, ◌+◌, ◌*◌, ◌/◌, ◌%◌, ◌<◌, ◌∷◌, true≢false, arith, eq-eqb, ne_eqb, refl, sym, ap, ◌∙◌, subst}
+use Rattle.std.proofs.Common.{◌≡◌, ℕ, ◌+◌, ◌*◌, ◌/◌, ◌%◌, ◌<◌, ◌∷◌, arith, eq-eqb, ne_eqb, refl, sym, ap, ◌∙◌, subst}
 use mathlib.Core.Option.{none}
 use Rattle.atomic_table.specs.Table.{step, Allows}
 use Rattle.lq_table.specs.Places.{producer_place}
@@ -49,10 +49,6 @@ returns-then-found-seen g c =
     let x = c.compare_exchange_word-found in let e = x.ensures in let is = c.if-found-seen.true in
     let got = e.2.told.0.0 (is ∙ twice seen_ c.requires.even) in let longest = c.args.self.now.same.2 ∙ sym (ap (λ (k : Setup). k.max_len) c.requires.seat.2) in
     let made = e.2.noted ∙ (λ j. exchange (c.producer_word-word.ensures j) seen_ (seen_ + 1) (eq-eqb x.result seen_ is j) ∷ steps old) in record {
-      seat = ((e.0, e.1), refl, ap (λ (m : Sat). m.1) got.0);
-      got = λ _. (ap (λ (m : Sat). m.0) got.0, c.put.ensures, subst (λ (l : ℕ). seen_ / 2 < l) c.args.self.now.same.2 got.1);
-      missed = λ no_. absurd (true≢false no_);
-      sole = λ sole. sym (eq-eqb seen_ _ (sym is ∙ e.2.told.1 sole c.requires.idle));
       makes = makes_one _ _ _ (e.0, e.1) refl c.put.ensures got.0 made (λ _. subst (λ (l : ℕ). seen_ / 2 < l) longest got.1, λ sole. sym (eq-eqb seen_ _ (sym is ∙ e.2.told.1 sole c.requires.idle)));
     }
 
@@ -62,9 +58,5 @@ returns-else-found-seen g c =
     let x = c.compare_exchange_word-found in let e = x.ensures in let apart = c.if-found-seen.false in
     let same = e.2.told.0.1 (λ is. apart (is ∙ sym (twice seen_ c.requires.even))) in
     let made = e.2.noted ∙ (λ j. exchange (c.producer_word-word.ensures j) seen_ (seen_ + 1) (ne_eqb x.result seen_ apart j) ∷ steps old) in record {
-      seat = ((e.0, e.1), refl, ap (λ (m : Sat). m.1) same);
-      got = λ is. absurd (false≢true is);
-      missed = λ _. (ap (λ (m : Sat). m.0) same, refl);
-      sole = λ (sole : IsSole v). sym (ne_eqb seen_ _ (λ y. apart (e.2.told.1 sole c.requires.idle ∙ sym y)));
       makes = makes_one _ _ _ (e.0, e.1) refl refl same made (λ yes. absurd (false≢true yes), λ (sole : IsSole v). sym (ne_eqb seen_ _ (λ y. apart (e.2.told.1 sole c.requires.idle ∙ sym y))));
     }

@@ -9,7 +9,6 @@ use Rattle.lq_table.specs.Places.{turn_place}
 use Rattle.lq_table.specs.Rule.{Rule, times}
 use Rattle.lq_table.specs.Keyed.{keyed_setup}
 use Rattle.lq_table.specs.Turns.{take_turn_view}
-use Rattle.lq_table.specs.Moves.{Sat}
 use Rattle.lq_table.specs.Sees.{view, steps}
 use Rattle.lq_table.proofs.shared.Shared.take_turn.Invariants.{take_turn_told}
 use Rattle.lq_table.proofs.CodeReads.{no_info, owner_read, rank_read}
@@ -42,8 +41,6 @@ pub returns-then-found-free : goal.returns-then-found-free
 returns-then-found-free g c =
     let infos = c.args.self.now.infos.now in let n = c.args.n in let v = view c.args.cpu.now in let e = c.compare_exchange_word-found.ensures in let t = e.2.told in let is = c.if-found-free.true in
     let owner = owner_read infos n no_info c.requires.packet.0 in let rank = rank_read infos n no_info c.requires.packet.0 in let word = c.turn_word-word.ensures ∙ ap turn_place owner in record {
-      same = ((e.0, e.1), refl, refl, ap (λ (m : Sat). m.1) (t.1 is));
-      turn = (sym (t.0 ∙ ap (slice_index v.turns) owner) ∙ (is ∙ ap (λ (r : ℕ). 2 * r) rank), ap (λ (m : Sat). m.0) (t.1 is) ∙ (λ j. take_turn_view n (owner j) (rank j) v));
       makes =
           let old = c.args.cpu.now in let k = sym (ap (λ (x : Setup). x.infos) c.requires.seat.2) in let o = owner ∙ ap (λ (xs : List Info). owner_in xs n) k in let r = rank ∙ ap (λ (xs : List Info). rank_in xs n) k in let x = c.compare_exchange_word-found in
           let due = is ∙ ap (λ (y : ℕ). 2 * y) r in let found = eq-eqb x.result _ due in (
@@ -58,13 +55,11 @@ pub returns-else-found-free : goal.returns-else-found-free
 returns-else-found-free g c =
     let infos = c.args.self.now.infos.now in let n = c.args.n in let v = view c.args.cpu.now in let e = c.compare_exchange_word-found.ensures in let t = e.2.told in let apart = c.if-found-free.false in
     let owner = owner_read infos n no_info c.requires.packet.0 in let rank = rank_read infos n no_info c.requires.packet.0 in let word = c.turn_word-word.ensures ∙ ap turn_place owner in record {
-      same = ((e.0, e.1), refl, refl, ap (λ (m : Sat). m.1) (t.2 apart));
-      turn = (t.0 ∙ ap (slice_index v.turns) owner, λ is. apart (is ∙ ap (λ (r : ℕ). 2 * r) (sym rank)), ap (λ (m : Sat). m.0) (t.2 apart));
       makes =
           let old = c.args.cpu.now in let k = sym (ap (λ (x : Setup). x.infos) c.requires.seat.2) in let o = owner ∙ ap (λ (xs : List Info). owner_in xs n) k in let r = rank ∙ ap (λ (xs : List Info). rank_in xs n) k in let x = c.compare_exchange_word-found in
-          let found = ne_eqb x.result (due_word v n) (λ due. apart (due ∙ ap (λ (y : ℕ). 2 * y) (sym r))) in (
+          let other = λ (due : x.result ≡ due_word v n). apart (due ∙ ap (λ (y : ℕ). 2 * y) (sym r)) in let found = ne_eqb x.result (due_word v n) other in (
             x.result,
-            refl,
+            (refl, other),
             makes_one _ _ _ (e.0, e.1) refl refl (t.2 apart ∙ (λ j. (if sym found j then take_turn_view n (owner_in v.share.about.infos n) (rank_in v.share.about.infos n) v else v, old.known.seat.me.1)))
                 (e.2.noted ∙ (λ j. exchange ((c.turn_word-word.ensures ∙ ap turn_place o) j) (2 * r j) (2 * r j + 1) ((ne_eqb _ _ apart ∙ sym found) j) ∷ steps old)) (t.0 ∙ ap (slice_index v.turns) o),
           );

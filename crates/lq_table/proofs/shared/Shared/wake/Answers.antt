@@ -40,25 +40,10 @@ invariant_of-cpu g c =
     let to = dite (ℕ_discrete x.result 1) (λ is. ap marks (t.0 is)) (λ other. ap marks (t.1 other)) in
     record { told = c.args.cpu.now.known.told ∙ sym to }
 
-pub returns-clause-same : goal.returns-clause-same
-returns-clause-same g c =
-    let x = c.compare_exchange_word-found in let t = x.ensures.2.told.0 in
-    let to = dite (ℕ_discrete x.result 1) (λ is. ap (λ (m : Sat). m.1) (t.0 is)) (λ other. ap (λ (m : Sat). m.1) (t.1 other)) in
-    ((x.ensures.0, x.ensures.1), refl, refl, to)
-
-pub returns-clause-opened : goal.returns-clause-opened
-returns-clause-opened g c = λ is. ap (λ (m : Sat). m.0) (c.compare_exchange_word-found.ensures.2.told.0.0 (eqb-true c.compare_exchange_word-found.result 1 is))
-
-pub returns-clause-still : goal.returns-clause-still
-returns-clause-still g c = λ no_.
-    let x = c.compare_exchange_word-found in
-    ap (λ (m : Sat). m.0) (x.ensures.2.told.0.1 (λ is. true≢false (sym (eq-eqb x.result 1 is) ∙ no_)))
-
-pub returns-clause-sole : goal.returns-clause-sole
-returns-clause-sole g c = λ sole. ap (λ (n : ℕ). eqb n 1) (c.compare_exchange_word-found.ensures.2.told.1 sole)
-
-pub returns-clause-makes : goal.returns-clause-makes
-returns-clause-makes g c =
-    let e = c.compare_exchange_word-found.ensures in let x = c.compare_exchange_word-found in let old = c.args.cpu.now in let v = view old in
-    let to = decided (eqb x.result 1) (seen x.new.seat.me) (wake_view c.args.queue v) (v) old.known.seat.me.1 (λ y. e.2.told.0.0 (eqb-true x.result 1 y)) (λ n. e.2.told.0.1 (λ y. true≢false (sym (eq-eqb x.result 1 y) ∙ n))) in
-    makes_one _ _ _ (e.0, e.1) refl refl to (e.2.noted ∙ (λ j. exchange ((c.stop_word-word.ensures.named ∙ ap (λ (k : Setup). xoff_word k c.args.queue) (sym c.requires.seat.2)) j) 1 0 (eqb x.result 1) ∷ steps old)) (λ sole. ap (λ (n : ℕ). eqb n 1) (e.2.told.1 sole))
+pub returns : goal.returns
+returns g c = record {
+  makes =
+      let e = c.compare_exchange_word-found.ensures in let x = c.compare_exchange_word-found in let old = c.args.cpu.now in let v = view old in
+      let to = decided (eqb x.result 1) (seen x.new.seat.me) (wake_view c.args.queue v) (v) old.known.seat.me.1 (λ y. e.2.told.0.0 (eqb-true x.result 1 y)) (λ n. e.2.told.0.1 (λ y. true≢false (sym (eq-eqb x.result 1 y) ∙ n))) in
+      makes_one _ _ _ (e.0, e.1) refl refl to (e.2.noted ∙ (λ j. exchange ((c.stop_word-word.ensures.named ∙ ap (λ (k : Setup). xoff_word k c.args.queue) (sym c.requires.seat.2)) j) 1 0 (eqb x.result 1) ∷ steps old)) (λ sole. ap (λ (n : ℕ). eqb n 1) (e.2.told.1 sole));
+}

@@ -1,12 +1,11 @@
 -- What `try_lock` makes of what a seat knows that has the table alone.
-use Rattle.std.proofs.Common.{◌≡◌, ℕ, zero, suc, Bool, true, false, not, eqb, refl, ap, ◌∙◌, arith, Option}
+use Rattle.std.proofs.Common.{◌≡◌, ℕ, zero, suc, Bool, true, false, refl, ap, ◌∙◌, arith, Option}
 use Rattle.std.proofs.lemmas.Bool.{false≢true}
 use Rattle.std.specs.Prelude.{if◌then◌else◌}
 use Rattle.lq_device.specs.Station.{StationState}
 use Rattle.lq_model.specs.declared.machine.Position.{Position}
 use Rattle.lq_model.specs.declared.machine.Position.TheVariants as at
 use Rattle.lq_model.specs.Control.{is_control}
-use Rattle.lq_model.specs.Machine.{bit}
 use Rattle.lq_table.specs.Marks.{marks_of}
 use Rattle.lq_table.specs.Views.{View, HolderPart}
 use Rattle.lq_table.specs.Rule.{holders}
@@ -14,7 +13,7 @@ use Rattle.lq_table.specs.Moves.{Sat, seen_by}
 use Rattle.lq_table.specs.Locks.{seen_lock, try_lock_at, try_lock_view, try_lock_view_in_call, try_lock_view_in_control, locked_to}
 use Rattle.lq_table.specs.Sees.{IsAccounts, account_of, solo}
 use Rattle.atomic_table.specs.Table.{Step}
-use Rattle.lq_table.proofs.TriesSolo.{at_lock, finds_marks, finds_solo, is_locked, marks_at, solo_at}
+use Rattle.lq_table.proofs.TriesSolo.{at_lock, finds_marks, marks_at, solo_at}
 use Rattle.lq_table.proofs.shared.Shared.try_lock.Invariants.{try_lock_told}
 
 abbrev got_at : Position → HolderPart → View → View
@@ -39,16 +38,7 @@ gets_accounts d v e = by (is_control v.place.position)
     by true = e
     by false = e
 
-pub try_solo : (s : Step (Option StationState)) (found : ℕ) (m m' : Sat) → try_lock_at m.0.place.position ≡ true
-    → try_lock_told s m found m' → found ≡ bit m.0.whole.qdisc.locked → solo m'.0 ≡ locked_to true (solo m.0)
-try_solo s zero m m' h t e = let d = t.0 refl in ap (λ (z : Sat). solo z.0) d.1 ∙ gets_solo m.0.place.position h d.0 m.0
-try_solo s (suc n) m m' h t e = ap (λ (z : Sat). solo z.0) (t.1 (omega arith)) ∙ finds_solo m.0 h (is_locked m.0.whole.qdisc.locked n e)
-
 pub try_marks : (s : Step (Option StationState)) (found : ℕ) (m m' : Sat) → try_lock_at m.0.place.position ≡ true
     → try_lock_told s m found m' → marks_of m'.0 ≡ marks_of m.0
 try_marks s zero m m' h t = let d = t.0 refl in ap (λ (z : Sat). marks_of z.0) d.1 ∙ gets_marks m.0.place.position h d.0 m.0
 try_marks s (suc n) m m' h t = ap (λ (z : Sat). marks_of z.0) (t.1 (omega arith)) ∙ finds_marks m.0 h
-
-pub free_bit : (found : ℕ) (b : Bool) → found ≡ bit b → eqb found 0 ≡ not b
-free_bit found true e = ap (λ (n : ℕ). eqb n 0) e
-free_bit found false e = ap (λ (n : ℕ). eqb n 0) e
