@@ -33,3 +33,9 @@ pub mod Enters
 pub mod Controls
 pub mod Purges
 pub mod Resizes
+-- each kind of step: what is so of any, those of calls, of the rings and of control, and all of them
+pub mod AnyStep
+pub mod CallSteps
+pub mod RingSteps
+pub mod ControlSteps
+pub mod EachStep

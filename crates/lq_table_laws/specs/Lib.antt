@@ -6,3 +6,5 @@ pub mod Stepped
 pub mod Runs
 -- where a seat stands at a ring
 pub mod Rings
+-- the kinds of steps, and which moves each is
+pub mod StepMoves

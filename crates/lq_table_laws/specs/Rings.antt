@@ -11,26 +11,24 @@ use Rattle.lq_model.specs.Machine.{Purge}
 use Rattle.lq_model.specs.declared.machine.Phase.TheVariants.{Purged}
 use Rattle.lq_table.specs.Views.{HalfResize, Setup, View, machine_packet}
 
--- it puts the packet n into a band: it has the band's producer lock with the index i, has stored nothing under it, and no resize is half done
-pub record IsPuttingAt (k : Setup) (band i n : ℕ) (v : View) : Type 0 where
+-- it puts the packet n into a band: it has the band's producer lock, has stored nothing under it, and no resize is half done
+pub record IsPuttingAt (k : Setup) (band n : ℕ) (v : View) : Type 0 where
   pub band_within : band < 3
-  pub slot_within : i < k.max_len
+  pub slot_within : (at band v.locks).index < k.max_len
   pub holds : Bool
   pub position : v.place.position ≡ Put (machine_packet k.infos n) holds
   pub of_band : band_in k.infos n ≡ band
   pub locks : (at band v.locks).holds ≡ true
   pub stored : (at band v.locks).stored ≡ false
-  pub index : i ≡ (at band v.locks).index
   pub calm : v.holder.resizing ≡ None
 
--- it looks at a band, whose head is at the slot i: no slot is to be emptied, and no resize is half done
-pub record IsLookingAt (k : Setup) (band i : ℕ) (v : View) : Type 0 where
+-- it looks at a band's head: no slot is to be emptied, and no resize is half done
+pub record IsLookingAt (k : Setup) (band : ℕ) (v : View) : Type 0 where
   pub band_within : band < 3
-  pub slot_within : i < k.max_len
+  pub slot_within : (at band v.holder.ends).head < k.max_len
   pub second : Bool
   pub position : v.place.position ≡ Scan band second
   pub rests : is_emptying v.holder.size (at band v.holder.ends) ≡ false
-  pub head : i ≡ (at band v.holder.ends).head
   pub calm : v.holder.resizing ≡ None
 
 -- it empties the slot i of a band, of which a packet was taken
@@ -42,15 +40,14 @@ pub record IsEmptyingAt (k : Setup) (band i : ℕ) (v : View) : Type 0 where
   pub edge : i + 1 ≡ (at band v.holder.ends).edge
   pub calm : v.holder.resizing ≡ None
 
--- control in a purge that has come to a band, whose head is at the slot i: no slot is to be emptied, and no resize is half done
-pub record IsPurgingAt (k : Setup) (band i : ℕ) (u : Purge) (v : View) : Type 0 where
+-- control in a purge that has come to a band: no slot is to be emptied, and no resize is half done
+pub record IsPurgingAt (k : Setup) (band : ℕ) (u : Purge) (v : View) : Type 0 where
   pub band_within : band < 3
-  pub slot_within : i < k.max_len
+  pub slot_within : (at band v.holder.ends).head < k.max_len
   pub position : v.place.position ≡ Control true
   pub under_way : v.control.purge ≡ Some u
   pub band_is : u.band ≡ band
   pub rests : is_emptying v.holder.size (at band v.holder.ends) ≡ false
-  pub head : i ≡ (at band v.holder.ends).head
   pub calm : v.holder.resizing ≡ None
 
 -- control with the run lock, of a station that was purged, with no purge half done: so it may swap the device

@@ -9,7 +9,7 @@ use Rattle.lq_model.specs.declared.machine.Packet.{Packet}
 use Rattle.lq_model.specs.declared.machine.Position.{Position}
 use Rattle.lq_model.specs.declared.machine.Position.TheVariants.{Check, Late, Post, Recheck, Soft, Tail, Test, Try1, Try2}
 use Rattle.lq_run_core.specs.Measure.{ServesOpen, measure}
-use Rattle.lq_run_core.specs.Progress.{Course, Goes, IsAny, control_cost}
+use Rattle.lq_run_core.specs.Progress.{Course, Goes, IsAny}
 use Rattle.lq_table.specs.Rule.{is_live, shown, IsResting, Rule}
 use Rattle.lq_table.specs.Views.{HolderPart, Setup, View}
 use Rattle.lq_table_laws.specs.Stands.{Table, machine_by}
@@ -32,10 +32,6 @@ module _ {k : Setup} {place : ℕ} where
   -- what it found in the word
   abbrev pub found : Stepped k place → ℕ
   found t = slice_index t.old.words place
-
-  -- where the seat stood
-  abbrev pub stands_at : Stepped k place → Position
-  stands_at t = t.before.place.position
 
   -- the machines before and after
   abbrev pub machine_before : Stepped k place → Machine
@@ -114,22 +110,3 @@ module _ {k : Setup} {place : ℕ} where
   -- the step is so many moves of the machine, as `none_sent` says
   abbrev pub AreMoves : ℕ → ℕ → Stepped k place → Type 0
   AreMoves moves cost t = Leads (none_sent moves cost) (machine_before t) (machine_after t)
-
-  -- it is one such that costs nothing, or none
-  abbrev pub IsMove : Stepped k place → Type 0
-  IsMove t = AreMoves 1 0 t
-
-  -- by it the device accepts this packet
-  abbrev pub DeviceAccepts : Packet → Stepped k place → Type 0
-  DeviceAccepts p t = Leads (one_sent p) (machine_before t) (machine_after t)
-
-  -- one of its moves is control's
-  abbrev pub AreMovesOfControl : ℕ → ℕ → Stepped k place → Type 0
-  AreMovesOfControl moves cost t = Leads (of_control moves cost) (machine_before t) (machine_after t)
-
-  -- it is one of control
-  abbrev pub IsMoveOfControl : Stepped k place → Type 0
-  IsMoveOfControl t = AreMovesOfControl 1 control_cost t
-
-  abbrev pub IsNoMove : Stepped k place → Type 0
-  IsNoMove t = AreMoves 0 0 t
