@@ -4,12 +4,13 @@ ghost use Rattle.lq_run_core.specs.Comes.{ControlMoves, SomebodyMoves};
 ghost use Rattle.lq_model.specs.Account.{held};
 ghost use Rattle.lq_model.specs.Kept.{IsInductive};
 ghost use Rattle.lq_table.specs.Between.{StandsForMachine};
+ghost use Rattle.lq_table.specs.Places.{fates_offset, producer_place, turn_place};
 ghost use Rattle.lq_table.specs.Rule.{Rule, account, words_of};
 ghost use Rattle.lq_table.specs.Views.{Setup};
 ghost use Rattle.lq_run_core.specs.Progress.{Course};
 ghost use Rattle.lq_run_core.specs.Waits.{packets};
 ghost use Rattle.lq_run_core.specs.Measure.{ServesOpen, measure};
-ghost use Rattle.lq_table_laws.specs.Stepped.{AreMoves, Leads, Stepped, machine_after, machine_before};
+ghost use Rattle.lq_table_laws.specs.Stepped.{AreMoves, KeepsStation, KeepsWord, Leads, Remains, Stepped, machine_after, machine_before};
 ghost use Rattle.lq_table_laws.specs.Runs.{Runs};
 ghost use Rattle.lq_table.specs.Step.{Standing, Step};
 ghost use Rattle.lq_table_laws.specs.StepMoves.{IsMadeAs, terms};
@@ -36,6 +37,19 @@ pub fn somebody_comes_for_what_is_held()
 pub fn a_step_is_moves_of_the_machine()
     ensures { (k : Setup) (x : Step) (s : Standing) (place : ℕ) (t : Stepped k place) → IsMadeAs x s t
         → Leads (terms k x s).course (machine_before t) (machine_after t) }
+{}
+
+/// Of whatever kind a step is, the machine stays as it is by each look by which the seat stays where it is, and by each step at a producer
+/// word, a turn and a fate word by which it does.
+pub fn looks_are_no_moves()
+    ensures look { (k : Setup) (place : ℕ) (t : Stepped k place) → KeepsStation t → KeepsWord t → Remains t.before t.after
+        → AreMoves 0 0 t }
+    ensures producer { (k : Setup) (band : ℕ) (t : Stepped k (producer_place band)) → band < 3 → KeepsStation t
+        → Remains t.before t.after → AreMoves 0 0 t }
+    ensures turn { (k : Setup) (owner : ℕ) (t : Stepped k (turn_place owner)) → owner < k.senders → KeepsStation t
+        → Remains t.before t.after → AreMoves 0 0 t }
+    ensures fate { (k : Setup) (n : ℕ) (t : Stepped k (fates_offset k + n)) → n < length k.infos → KeepsStation t
+        → Remains t.before t.after → AreMoves 0 0 t }
 {}
 
 /// So each step that is one move or more makes the number of the machine less by one for each, but for what they cost, while a packet is
