@@ -112,10 +112,10 @@ pub fn measure_paths<R: Runtime + AllocGlobal + Wait + Threads + Sync>(
     let Ok(infos) = packets(rt.alloc(), count * OWNERS) else {
         return Err(io::ErrorKind::OutOfMemory.into());
     };
-    for path in Path::ALL {
+    for &path in &Path::ALL {
         measure_alone(rt, infos.as_slice(), path, count, shows)?;
     }
-    for path in Path::ALL {
+    for &path in &Path::ALL {
         measure_four(rt, infos.as_slice(), path, count, shows)?;
     }
     Ok(())

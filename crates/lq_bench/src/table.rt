@@ -114,7 +114,7 @@ fn measure_control<'a, R: Runtime, D: TxDevice>(
     requires ready { IsFirstReady shared.now cpu.old }
     ensures { OnOk result (IsFirstReady shared.now cpu.new) }
 {
-    for kind in [Holding::Lock, Holding::Station] {
+    for &kind in &[Holding::Lock, Holding::Station] {
         let time = timed_control(rt, kind, shared, cpu, count)?;
         let measured = Measured {
             threads: 1,
@@ -136,7 +136,7 @@ fn measure_alone<'a, R: Runtime, D: TxDevice>(
 ) -> io::Result<()>
     requires ready { IsReady shared.now cpu.old }
 {
-    for kind in [Kind::Load, Kind::Wake, Kind::Produce] {
+    for &kind in &[Kind::Load, Kind::Wake, Kind::Produce] {
         let time = timed_alone(rt, kind, shared, cpu, count)?;
         let measured = Measured {
             threads: 1,
@@ -158,7 +158,7 @@ fn measure_four<'a, R: Runtime + Threads + Sync, D: TxDevice>(
 ) -> io::Result<()>
     requires ready { All (λ c. IsReady shared.now c) cpus.old }
 {
-    for kind in [Kind::Load, Kind::Wake, Kind::Produce] {
+    for &kind in &[Kind::Load, Kind::Wake, Kind::Produce] {
         let time = timed(rt, kind, shared, cpus, count)?;
         let measured = Measured {
             threads: cpus.len(),

@@ -166,7 +166,7 @@ fn measure_each<R: Runtime + Threads + Sync>(
     requires at { All (λ s. IsStepperAt table.now s) steppers.old }
     ensures { OnOk result (All (λ s. IsStepperAt table.now s) steppers.new) }
 {
-    for operation in [
+    for &operation in &[
         Operation::Load,
         Operation::Store,
         Operation::Exchange,
