@@ -37,8 +37,8 @@ fn record(tos: u8, source: u8, to: u8) -> [u8; 50] {
 // Three packets, 174 bytes.
 fn three_packets(rt: &(impl Abort + AllocGlobal)) -> Vec<u8> {
     let mut bytes = Vec::from_slice(rt.alloc(), &HEADER).expect(rt, "memory");
-    for part in [record(0, 1, 0), record(0x10, 2, 0), record(8, 3, 0)] {
-        bytes.extend_from_slice(&part).expect(rt, "memory");
+    for part in &[record(0, 1, 0), record(0x10, 2, 0), record(8, 3, 0)] {
+        bytes.extend_from_slice(part).expect(rt, "memory");
     }
     bytes
 }
@@ -154,7 +154,7 @@ const PLACES: [usize; 5] = [24, u32::MAX as usize, u32::MAX as usize + 1, 30, us
 
 fn five_places(rt: &(impl Abort + AllocGlobal)) -> Places {
     let mut places = Places::new(rt.alloc());
-    for place in PLACES {
+    for &place in &PLACES {
         places.push(place).expect(rt, "memory");
     }
     places

@@ -33,7 +33,7 @@ const CLASSES_OF_SERVICE: [(u8, u8, u32); 6] = [
 
 #[test]
 fn type_of_service_gives_priority_and_band(rt: HostRuntime) {
-    for (tos, wanted, its_band) in CLASSES_OF_SERVICE {
+    for &(tos, wanted, its_band) in &CLASSES_OF_SERVICE {
         let found = priority(ETHERNET, &ethernet_frame(tos));
         assert_eq!(rt; (tos, found, band(found)), (tos, wanted, its_band));
     }

@@ -32,7 +32,7 @@ fn answers_by_its_parameters(rt: HostRuntime) {
             [Sent, SentStop, Sent, SentStop, Sent, SentStop, SentHang],
         ),
     ];
-    for ((burst, busy_every, busy_limit, hang_after), answers) in rows {
+    for &((burst, busy_every, busy_limit, hang_after), answers) in &rows {
         let params = Params {
             burst,
             busy_every,

@@ -114,7 +114,7 @@ fn ipv6(
 
 #[test]
 fn published_vectors_of_ipv4(rt: HostRuntime) {
-    for (source, destination, ports, addresses, all) in IPV4 {
+    for &(source, destination, ports, addresses, all) in &IPV4 {
         let with = flow(RAW_IP, &ipv4(&rt, TCP, &source, &destination, ports));
         let without = flow(RAW_IP, &ipv4(&rt, ICMP, &source, &destination, ports));
         assert_eq!(rt; (with, without), (Some(all), Some(addresses)));
@@ -123,7 +123,7 @@ fn published_vectors_of_ipv4(rt: HostRuntime) {
 
 #[test]
 fn published_vectors_of_ipv6(rt: HostRuntime) {
-    for (source, destination, ports, addresses, all) in IPV6 {
+    for &(source, destination, ports, addresses, all) in &IPV6 {
         let with = flow(RAW_IP, &ipv6(&rt, UDP, &source, &destination, ports));
         let without = flow(RAW_IP, &ipv6(&rt, ICMP, &source, &destination, ports));
         assert_eq!(rt; (with, without), (Some(all), Some(addresses)));

@@ -69,7 +69,7 @@ fn check_all_written<R: Files + Print + AllocGlobal + Drop>(
     rt: &(impl Abort + Files),
     host: &mut FileHost<R>,
 ) {
-    for bytes in TEXTS {
+    for &bytes in &TEXTS {
         check_written(rt, host, bytes);
     }
     assert!(rt; fs::remove_file(rt, NAME).is_ok());
@@ -314,7 +314,7 @@ fn write_out(host: &mut MemHost, bytes: &[u8]) -> Result<(), HostError>
 #[test]
 fn the_named_call_fails(rt: HostRuntime) {
     let mut host = MemHost::new(rt.alloc());
-    for k in [2, 4, 0] {
+    for &k in &[2, 4, 0] {
         assert_eq!(rt; host.fail_at(HostCall::Write, k), Ok(()));
     }
     let first = write_out(&mut host, b"a");

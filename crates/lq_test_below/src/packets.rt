@@ -43,7 +43,7 @@ fn record((first, tos, source, route): (u8, u8, u8, u8)) -> [u8; 36] {
 /// The last header is of version 6.
 fn five_packets(rt: &(impl Abort + AllocGlobal)) -> Capture {
     let mut bytes = Vec::from_slice(rt.alloc(), &HEADER).expect(rt, "memory");
-    for packet in [
+    for &packet in &[
         (0x45, 0x00, 1, 0),
         (0x45, 0x10, 1, 1),
         (0x45, 0x08, 2, 3),

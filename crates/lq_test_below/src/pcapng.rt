@@ -92,7 +92,7 @@ fn changed(place: usize, value: u8) -> [u8; 116] {
 
 #[test]
 fn each_byte_that_is_tested(rt: HostRuntime) {
-    for (place, value, reason, at) in CHANGES {
+    for &(place, value, reason, at) in &CHANGES {
         let found = answer(&rt, &changed(place, value));
         assert_eq!(rt; (place, found), (place, refused(reason, at)));
     }

@@ -116,7 +116,7 @@ fn expect_refused(rt: &(impl Abort + AllocGlobal), text: &[u8], reason: PlanReas
 
 #[test]
 fn least_reason_of_each_text(rt: HostRuntime) {
-    for (text, reason) in REFUSED {
+    for &(text, reason) in &REFUSED {
         expect_refused(&rt, text, reason);
     }
 }

@@ -192,7 +192,7 @@ const MISSED: Flaw = Flaw::Capture(0);
 fn refuses_each_wrong_line(rt: HostRuntime) -> Result<(), Fail> {
     let alloc = rt.alloc();
     assert_eq!(rt; flaw_with(&rt, alloc, &[])?, Some(MISSED));
-    for (n, line, flaw) in WRONG {
+    for &(n, line, flaw) in &WRONG {
         assert_eq!(rt;
             flaw_with(&rt, alloc, &[(n, line)])?,
             Some(flaw),
@@ -240,7 +240,7 @@ const CAPTURES: [(&str, &[usize]); 3] = [
 fn host_after(alloc: Global, capture: &[u8], counts: &str) -> Result<MemHost, Fail> {
     let mut host = host_of(alloc, ROOT, capture)?;
     host.put_file("o.fates", FATES)?;
-    for (name, packets) in CAPTURES {
+    for &(name, packets) in &CAPTURES {
         host.put_file(name, &records_of(alloc, capture, packets)?)?;
     }
     host.write(0, counts.as_bytes())?;
@@ -275,7 +275,7 @@ fn flaw_of<R: Threads + Sync>(
 fn refuses_each_wrong_file(rt: HostRuntime) -> Result<(), Fail> {
     let alloc = rt.alloc();
     assert_eq!(rt; flaw_of(&rt, alloc, COUNTS, None)?, None);
-    for (name, packets, flaw) in CHANGED {
+    for &(name, packets, flaw) in &CHANGED {
         let found = flaw_of(&rt, alloc, COUNTS, Some((name, packets)))?;
         assert_eq!(rt; found, Some(flaw), "{name}");
     }

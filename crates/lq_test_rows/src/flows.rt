@@ -144,7 +144,7 @@ fn spreads_flows_by_their_hashes(rt: HostRuntime) -> Result<(), Fail> {
     let alloc = rt.alloc();
     let on = unheld(&rt, alloc);
     let capture = capture_of_packets(alloc)?;
-    for (plan, fates) in ROWS {
+    for &(plan, fates) in &ROWS {
         run(&on, plan, &capture)?.has_file("o.fates", fates.as_bytes())?;
     }
     Ok(())

@@ -112,7 +112,7 @@ const MEETINGS: [(&str, u32); 3] = [
 #[test]
 fn all_senders_meet_before_their_first_packets(rt: HostRuntime) -> Result<(), Fail> {
     let alloc = rt.alloc();
-    for (plan, senders) in MEETINGS {
+    for &(plan, senders) in &MEETINGS {
         let orders = meeting(alloc, senders)?;
         all_are_sent(&rt, alloc, plan, senders as usize, &orders)?;
     }

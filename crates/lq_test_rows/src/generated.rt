@@ -57,7 +57,7 @@ fn check_counts<R: Threads + Wait + Sync>(
 #[test]
 fn counts_the_fates_of_a_generated_capture(rt: HostRuntime) -> Result<(), Fail> {
     let on = unheld(&rt, rt.alloc());
-    for row in COUNTS {
+    for &row in &COUNTS {
         check_counts(&on, row)?;
     }
     Ok(())
@@ -115,7 +115,7 @@ fn a_write_fails_between_its_pieces(rt: HostRuntime) -> Result<(), Fail> {
     let alloc = rt.alloc();
     let on = unheld(&rt, alloc);
     let capture = gen_capture(alloc, 1, 2000)?;
-    for (k, written) in [(1, 0), (2, 65_536), (3, 100_024)] {
+    for &(k, written) in &[(1, 0), (2, 65_536), (3, 100_024)] {
         let mut host = MemHost::new(alloc);
         host.fail_at(HostCall::Write, k)?;
         let status = call(&on, &["gen", "1", "2000", "g"], &mut host)?;

@@ -1,5 +1,7 @@
 //! Tests of the top call over a host in memory: the worked rows as tables, each with its files and its output, and the runs of several
-//! senders, whose files are checked. What a contract says is not tested again; these rows show that the contracts mean what they should.
+//! senders, whose files are checked; calls that don't come to their end: failing calls, and words, plans and captures that are refused;
+//! and of what no contract says: real files, and when the gate is passed. What a contract says is not tested again; these rows show that
+//! the contracts mean what they should.
 #![tactic(auto)]
 
 #[cfg(test)]
@@ -9,7 +11,13 @@ mod checks;
 #[cfg(test)]
 mod done;
 #[cfg(test)]
+mod faults;
+#[cfg(test)]
+mod files;
+#[cfg(test)]
 mod flows;
+#[cfg(test)]
+mod gate_passes;
 #[cfg(test)]
 mod gates;
 #[cfg(test)]
@@ -24,6 +32,8 @@ mod machine;
 mod overlap;
 #[cfg(test)]
 mod pcapng;
+#[cfg(test)]
+mod refusals;
 #[cfg(test)]
 mod rows;
 #[cfg(test)]

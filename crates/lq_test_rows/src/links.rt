@@ -23,7 +23,7 @@ type Packet = (u32, u32);
 fn capture_of(alloc: Global, packets: &[Packet]) -> Result<Vec<u8>, AllocError> {
     let mut bytes = HEADER.to_vec(alloc)?;
     for (time, length) in packets {
-        for number in [0, *time, CAPTURED, *length] {
+        for &number in &[0, *time, CAPTURED, *length] {
             bytes.extend_from_slice(&number.to_le_bytes())?;
         }
         bytes.extend_from_slice(&FRAME[FRAME_START..FRAME_END])?;

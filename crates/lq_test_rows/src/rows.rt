@@ -35,7 +35,7 @@ struct Row {
 const SWAPPED: &str =
     "unit 0 sent 1\nunit 1 sent 2\nstation 0 full 0 shrunk 0 purged 1 refused 0\ntotal 4 sent 3 full 0 shrunk 0 purged 1 refused 0\n";
 
-const ROWS: [Row; 19] = [
+const ROWS: [Row; 20] = [
     // every packet goes past the rings
     Row {
         plan: "[[station]]\n",
@@ -115,6 +115,15 @@ const ROWS: [Row; 19] = [
         captures: &[("o.0.pcap", &[0, 1, 2, 3, 4])],
         none: "o.1.pcap",
         output: "unit 0 sent 5\nstation 0 full 1 shrunk 2 purged 0 refused 0\ntotal 8 sent 5 full 1 shrunk 2 purged 0 refused 0\n",
+    },
+    // the ring has wrapped when it is shortened: of packets 6 to 8 it keeps the first two
+    Row {
+        plan: "irq_every = 2\n[[station]]\nlen = 4\nburst = 1\n[[event]]\nbefore = 10\nkind = \"resize\"\nstation = 0\nlen = 2\n",
+        frames: &[BAND_1; 14],
+        fates: "0 sent 0 0\n1 sent 0 1\n2 sent 0 2\n3 sent 0 3\n4 sent 0 4\n5 sent 0 5\n6 sent 0 6\n7 sent 0 7\n8 shrunk 0\n9 full 5\n10 full 6\n11 full 6\n12 sent 0 8\n13 full 7\n",
+        captures: &[("o.0.pcap", &[0, 1, 2, 3, 4, 5, 6, 7, 12])],
+        none: "o.1.pcap",
+        output: "unit 0 sent 9\nstation 0 full 4 shrunk 1 purged 0 refused 0\ntotal 14 sent 9 full 4 shrunk 1 purged 0 refused 0\n",
     },
     // while the station is deactivated packets are refused
     Row {

@@ -356,7 +356,7 @@ fn check_refused<R: Threads + Wait + Sync>(
 #[test]
 fn tells_the_first_line_that_fails(rt: HostRuntime) -> Result<(), Fail> {
     let on = unheld(&rt, rt.alloc());
-    for (schedule, reason, line, output) in REFUSED {
+    for &(schedule, reason, line, output) in &REFUSED {
         check_refused(&on, schedule.as_bytes(), (reason, line), output)?;
     }
     Ok(())
@@ -380,7 +380,7 @@ fn longest_schedule(rt: HostRuntime) -> Result<(), Fail> {
 fn writes_nothing_at_a_fault(rt: HostRuntime) -> Result<(), Fail> {
     let alloc = rt.alloc();
     let on = unheld(&rt, alloc);
-    for (kind, k) in [
+    for &(kind, k) in &[
         (HostCall::OpenRead, 1),
         (HostCall::Read, 2),
         (HostCall::Finish, 1),

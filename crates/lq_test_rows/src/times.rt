@@ -210,8 +210,8 @@ const ROWS: [Row; 8] = [
 fn opens_queues_by_times_of_classic_captures(rt: HostRuntime) -> Result<(), Fail> {
     let alloc = rt.alloc();
     let on = unheld(&rt, alloc);
-    for row in ROWS {
-        for order in ORDERS {
+    for row in &ROWS {
+        for &order in &ORDERS {
             let capture = classic(alloc, order, row.unit, row.times)?;
             check_fates(&on, row.irq_us, &capture, row.fates)?;
         }
@@ -482,8 +482,8 @@ const NG_ROWS: [NgRow; 10] = [
 fn opens_queues_by_times_of_pcapng(rt: HostRuntime) -> Result<(), Fail> {
     let alloc = rt.alloc();
     let on = unheld(&rt, alloc);
-    for row in NG_ROWS {
-        for order in ORDERS {
+    for row in &NG_ROWS {
+        for &order in &ORDERS {
             let capture = section(alloc, order, row.clocks, row.blocks)?;
             check_fates(&on, row.irq_us, &capture, row.fates)?;
         }

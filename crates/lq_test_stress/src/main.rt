@@ -71,7 +71,7 @@ fn round<R: Runtime + AllocGlobal + Wait + Threads + Sync>(
     packets: u32,
 ) -> Result<u64, Fail> {
     let mut sent = 0u64;
-    for plan in PLANS {
+    for &plan in &PLANS {
         sent = sent.saturating_add(run_once(rt, plan, number, packets)? as u64);
     }
     Ok(sent)
