@@ -15,6 +15,8 @@ GATE, BESIDE = "must-fail", "wrong-bodies"
 PARTS = ("src", "specs", "proofs")
 # errors of a proof file that names what an edit took away say nothing of the contract
 NAMES_ALONE = re.compile(r"(note: )?(\./)?proofs/.*(has no field|is not in scope|has no `|was not admitted)")
+# nor does an edit that names what its file no longer has
+UNREAD = re.compile(r"src/\S+: error: .* is not in scope")
 
 
 class Function(NamedTuple):
@@ -276,13 +278,18 @@ def tried(crate, edits):
 
 def by_itself(edit):
     """An edit tried with its whole crate."""
-    said = check(edit.crate, [edit], [], [])
+    return judged_whole(edit, check(edit.crate, [edit], [], []))
+
+
+def judged_whole(edit, said):
+    """What a check of the whole crate with an edit comes to."""
     notes = [line for line in said.splitlines() if re.match(r"(note: )?(\./)?\S+:\d+:\d+: ", line) and (": error" in line or line.startswith("note: "))]
+    unread = next((note for note in notes if UNREAD.match(note)), None)
     told = next((note for note in notes if not NAMES_ALONE.match(note)), None)
-    if "\nlogic=not-proved" in said and notes:
+    if "\nlogic=not-proved" in said and notes and not unread:
         return Tried(edit, True, f"refused: {(told or 'only names of a proof file: ' + notes[0])[:200]}")
     last = said.rstrip().splitlines()[-1:]
-    return Tried(edit, False, "NOT REFUSED" if last and last[0].startswith("logic=proved") else f"NOT TRIED: {' '.join(last)[:200]}")
+    return Tried(edit, False, "NOT REFUSED" if last and last[0].startswith("logic=proved") else f"NOT TRIED: {unread or ' '.join(last)}"[:211])
 
 
 def crates_with_edits():

@@ -54,5 +54,8 @@ def test_wrong_bodies_in_rounds():
         is_equal("refused by an answer", judged["put_nowhere"].said, "refused: proofs/ring/SlotsRing/put/Answers.antt:3:1: error: `returns`: the two types differ")
         is_equal("refused by a search", judged["another_law"].said.partition(": it is")[0], "refused: src/ring.rt:15:1")
         is_equal("still proved, or not tried", judged["no_place"], None)
+        unread = "src/ring.rt:15:9: error: `requires`: `room` is not in scope; did you mean `rooms`?"
+        said = [wrong.judged_whole(edits[0], f"{text}\nlogic=not-proved\n").said for text in (unread, SAID)]
+        is_equal("names what isn't there", [text.partition(": ")[0] for text in said], ["NOT TRIED", "refused"])
     finally:
         wrong.TOP = top
